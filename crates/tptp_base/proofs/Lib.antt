@@ -1,0 +1,3 @@
+mod Lines
+pub mod Reading
+pub mod Taken

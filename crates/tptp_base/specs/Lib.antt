@@ -1,0 +1,5 @@
+pub mod Count
+pub mod Place
+pub mod Read
+pub mod Sink
+pub mod Store
