@@ -1,0 +1,17 @@
+pub mod Count
+pub mod Induction
+pub mod Instance
+pub mod Laws
+pub mod Lift
+pub mod Occurs
+pub mod PlaceReach
+pub mod Reaches
+pub mod Scope
+pub mod Scoped
+pub mod SortLaws
+pub mod Sorts
+pub mod Trees
+pub mod Unused
+pub mod Variables
+pub mod Vocabulary
+pub mod Walks
