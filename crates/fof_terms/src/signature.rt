@@ -1,4 +1,4 @@
-ghost use Rattle.std.specs.Prelude.{◌≡◌, ◌↔◌, ◌<◌, ◌++◌, [], ◌∷◌, length, codes, slice_get, position, nat_eq, IfSome, IfOk, OnOk, OnErr, IsErrOf};
+ghost use Rattle.std.specs.Prelude.{◌≡◌, ◌↔◌, ◌<◌, ◌≤◌, ◌++◌, [], ◌∷◌, length, codes, slice_get, position, nat_eq, IfSome, IfOk, OnOk, OnErr, IsErrOf};
 ghost use Rattle.std.specs.Option.{option_copied};
 ghost use Rattle.std.specs.Cmp.Lexicographic.{pointwise};
 ghost use Rattle.tptp_base.specs.declared.limit.LimitName.{LimitName as limit_name};
@@ -176,16 +176,19 @@ impl Signature {
         }
     }
 
-    /// How many sorts there are.
+    /// How many sorts there are: at least sort 0, and at most 65,536.
     pub fn sort_count(&self) -> u32
-        ensures { result ≡ length self.now.sorts }
+        ensures value { result ≡ length self.now.sorts }
+        ensures some { 0 < length self.now.sorts }
+        ensures few { length self.now.sorts ≤ 65536 }
     {
         self.sorts.len() as u32
     }
 
-    /// How many symbols there are.
+    /// How many symbols there are: at most 16,777,216.
     pub fn symbol_count(&self) -> u32
-        ensures { result ≡ length self.now.symbols }
+        ensures value { result ≡ length self.now.symbols }
+        ensures few { length self.now.symbols ≤ 16777216 }
     {
         self.symbols.len() as u32
     }
