@@ -75,26 +75,26 @@ pub record SpellsProblem (clauses : List Clause) (text : List ℕ) : Type 0 wher
   pub different_names : AllPairs ◌≢◌ (names_of clauses)
   pub short : IsShort text
 
--- the parent is a clause of the problem, or a step before this place
+-- the parent is one of so many clauses of the problem, or a step before this place
 abbrev pub StandsBefore : ℕ → ℕ → Parent → Type 0
 StandsBefore given place (Given k) = k < given
 StandsBefore given place (Line k) = k < place
 
 -- the parent stands before the step at this place, and its name is not `unknown`
-pub record IsParent (problem : List Clause) (steps : List Step) (place : ℕ) (parent : Parent) : Type 0 where
-  pub before : StandsBefore (length problem) place parent
-  pub known : parent_name (names_of problem) (step_names_of steps) parent ≢ codes "unknown"
+pub record IsParent (given lines : List (List ℕ)) (place : ℕ) (parent : Parent) : Type 0 where
+  pub before : StandsBefore (length given) place parent
+  pub known : parent_name given lines parent ≢ codes "unknown"
 
--- the step at this place has a lower word for a rule, and two parents
-pub record IsStepAt (problem : List Clause) (steps : List Step) (place : ℕ) (s : Step) : Type 0 where
+-- The step at this place has lower words and two parents, given the names of the problem's clauses and of the steps.
+pub record IsStepAt (given lines : List (List ℕ)) (place : ℕ) (s : Step) : Type 0 where
   pub words : HasLowerWords s.clause
   pub rule : IsLowerWord s.rule
-  pub left : IsParent problem steps place s.left
-  pub right : IsParent problem steps place s.right
+  pub left : IsParent given lines place s.left
+  pub right : IsParent given lines place s.right
 
 -- The text spells this list of steps from the clauses of a problem.
 pub record SpellsDerivation (problem : List Clause) (steps : List Step) (text : List ℕ) : Type 0 where
   pub spelled : IsSpaced (derivation_tokens problem steps) text
-  pub each : (place : ℕ) (s : Step) → slice_get steps place ≡ Some s → IsStepAt problem steps place s
+  pub each : (place : ℕ) (s : Step) → slice_get steps place ≡ Some s → IsStepAt (names_of problem) (step_names_of steps) place s
   pub different_names : AllPairs ◌≢◌ (names_of problem ++ step_names_of steps)
   pub short : IsShort text

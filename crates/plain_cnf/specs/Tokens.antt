@@ -7,10 +7,16 @@ use Rattle.std.specs.List.{AllPass}
 abbrev pub is_blank : ℕ → Bool
 is_blank byte = byte == 32 || byte == 10
 
--- The text is these tokens in turn, blanks before each of them, and then the rest.
+-- the text is blanks, and then the rest
+pub record IsGap (text rest : List ℕ) : Type 0 where
+  pub blanks : List ℕ
+  pub blank : AllPass is_blank blanks
+  pub whole : text ≡ blanks ++ rest
+
+-- The text is these tokens in turn, with blanks before each of them, and then the rest.
 pub data Leads : List (List ℕ) → List ℕ → List ℕ → Type 0 where
   none : (rest : List ℕ) → Leads [] rest rest
-  next : (blanks token : List ℕ) {tokens : List (List ℕ)} {text behind rest : List ℕ} → AllPass is_blank blanks → text ≡ blanks ++ (token ++ behind) → Leads tokens behind rest → Leads (token ∷ tokens) text rest
+  next : (token : List ℕ) {tokens : List (List ℕ)} {text behind rest : List ℕ} → IsGap text (token ++ behind) → Leads tokens behind rest → Leads (token ∷ tokens) text rest
 
 -- the text is these tokens in turn, with blanks before, between and behind them
 pub record IsSpaced (tokens : List (List ℕ)) (text : List ℕ) : Type 0 where
