@@ -4,6 +4,7 @@
 
 mod clause;
 mod cursor;
+mod denotation;
 mod derivation;
 mod fault;
 mod names;
@@ -11,6 +12,7 @@ mod problem;
 mod source;
 mod syntax;
 
+pub use denotation::denote_clause;
 pub use derivation::parse_derivation;
 pub use fault::PlainFault;
 pub use problem::parse_problem;

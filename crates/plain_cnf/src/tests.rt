@@ -1,4 +1,5 @@
 use super::*;
+use fof_terms::{Form, Signature};
 use std::alloc::{AllocError, Global};
 use std::test::Fail;
 use tptp_base::List;
@@ -120,5 +121,43 @@ fn a_long_text_is_not_read(rt: HostRuntime) -> Result<(), Fail> {
     assert_eq!(rt; clauses(alloc, text.as_slice()), Ok(0));
     text.push(b' ')?;
     assert_eq!(rt; clauses(alloc, text.as_slice()), Err(PlainFault::NotYet));
+    Ok(())
+}
+
+// The number of an atom, if the formula is one.
+fn atom(form: &Form) -> Option<u32> {
+    match form {
+        Form::Atom(number, _) => Some(*number),
+        _ => None,
+    }
+}
+
+#[test]
+fn clauses_mean_formulas(rt: HostRuntime) -> Result<(), Fail> {
+    let alloc = rt.alloc();
+    let text = b"cnf(a,axiom,p|~q|p).cnf(b,axiom,q).cnf(c,axiom,~r).";
+    let clauses = parse_problem(alloc, text)?;
+    let mut signature = Signature::new(alloc)?;
+    let mut forms = List::new(alloc);
+    for clause in clauses.as_slice() {
+        let form = denote_clause(alloc, clause.literals.as_slice(), &mut signature)?;
+        forms.push(form)?;
+    }
+    assert_eq!(rt; signature.symbol_count(), 3);
+    let [Form::Or(members), second, Form::Not(third)] = forms.as_slice() else {
+        return Err(Fail::from("other formulas"));
+    };
+    let [first, Form::Not(negated), last] = members.as_slice() else {
+        return Err(Fail::from("other members"));
+    };
+    assert_eq!(rt;
+        (atom(first), atom(negated.get()), atom(last)),
+        (Some(0), Some(1), Some(0))
+    );
+    assert_eq!(rt; (atom(second), atom(third.get())), (Some(1), Some(2)));
+    let Form::Or(none) = denote_clause(alloc, &[], &mut signature)? else {
+        return Err(Fail::from("not falsehood"));
+    };
+    assert_eq!(rt; (none.len(), signature.symbol_count()), (0, 3));
     Ok(())
 }
