@@ -1,0 +1,8 @@
+/// How a text is read.
+#[derive(Clone, Copy, Debug, PartialEq, Eq)]
+pub enum Style {
+    /// A problem: a line comment begins with `%`.
+    Problem,
+    /// A derivation: a line comment begins with `%` or `#`.
+    Derivation,
+}
