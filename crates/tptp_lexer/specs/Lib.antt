@@ -1,0 +1,10 @@
+pub mod Answer
+pub mod Bytes
+pub mod Comments
+pub mod Marks
+pub mod Numbers
+pub mod Quotes
+pub mod Scan
+pub mod Spelled
+pub mod Step
+pub mod Tokenized

@@ -1,10 +1,21 @@
 //! Texts in the TPTP language cut into tokens: the one list of longest tokens, each with its place.
 #![tactic(auto)]
 
+mod advance;
+mod bytes;
 mod fault;
+mod law;
+mod lexer;
+mod make;
+mod marks;
+mod numbers;
+mod quotes;
+mod scan;
 mod style;
 mod token;
 
 pub use fault::LexFault;
+pub use law::{one_answer, one_token_list};
+pub use lexer::tokens;
 pub use style::Style;
 pub use token::{Mark, Token, Tokens};

@@ -1,0 +1,12 @@
+pub mod Runs
+pub mod QuoteEnds
+pub mod CommentEnds
+pub mod MarkFronts
+pub mod NumberFronts
+pub mod Fronts
+pub mod NumberFits
+pub mod Sound
+pub mod Cuts
+pub mod Answering
+pub mod Places
+pub mod Stepping
