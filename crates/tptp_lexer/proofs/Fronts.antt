@@ -239,7 +239,7 @@ reached {style} (distinct_object {chars = chars} {written = written} w) rest =
     let found : front_of style (spelling ++ rest) ≡ Found k.Distinct (length written + 2) =
     (ap (front_of style) (closed_flat 34 written rest) ∙ front-double style (written ++ 34 ∷ rest) ∙ ap (quoted k.Distinct 0) (written_closes 34 refl w rest) ∙ quoted_is k.Distinct 0 (length written) (omega arith)) in
     subst (Reached (t.Distinct chars) spelling) (sym found) (omega (arith, quote_length 34 written), λ e. ap (λ z. t.Distinct (unescaped z)) (inside_is 34 34 written) ∙ ap t.Distinct (written_unescaped 34 w))
-reached {style} (number {digits = digits} h) rest = number_reached style digits rest h (number_begins h)
+reached {style} (number {text = digits} h) rest = number_reached style digits rest h (number_begins h)
 reached {style} (comment_line {first = first} {line = line} h all) rest =
     subst (Reached (t.Comment (first ∷ line)) (first ∷ line)) (sym (front-line style first (line ++ rest) h))
     (run_reached k.Comment is_in_line (t.Comment (first ∷ line)) (first ∷ line) rest (and_from _ _ (in_line_first style first h) all) refl)

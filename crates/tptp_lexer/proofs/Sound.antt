@@ -168,7 +168,7 @@ number_some [] h = absurd h
 number_some (byte ∷ spelling) h = omega arith
 
 pub spelled_some : {style : Style} {token : Token} {spelling : Text} → Spelled style token spelling → 1 ≤ length spelling
-spelled_some (number {digits = digits} h) = number_some digits (number_begins h)
+spelled_some (number {text = digits} h) = number_some digits (number_begins h)
 spelled_some (mark sign) = mark_some sign
 spelled_some _ = omega arith
 

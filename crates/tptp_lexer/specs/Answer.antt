@@ -12,13 +12,13 @@ use Rattle.tptp_lexer.specs.declared.token.Token.{Token}
 use Rattle.tptp_lexer.specs.declared.token.Tokens.{Tokens}
 use Rattle.tptp_lexer.specs.Bytes.{Text, is_blank}
 use Rattle.tptp_lexer.specs.Comments.{IsOpenComment}
-use Rattle.tptp_lexer.specs.Quotes.{IsOpenQuote}
+use Rattle.tptp_lexer.specs.Quotes.{IsOpenQuote, single_quote, double_quote}
 use Rattle.tptp_lexer.specs.Spelled.{BeginsToken}
 use Rattle.tptp_lexer.specs.Tokenized.{Cut, placed, bare_items}
 
 -- A quote or block comment begins the text, and is open at its end.
 abbrev pub IsOpen : Text → Type 0
-IsOpen text = IsOpenQuote 39 text ⊎ (IsOpenQuote 34 text ⊎ IsOpenComment text)
+IsOpen text = IsOpenQuote single_quote text ⊎ (IsOpenQuote double_quote text ⊎ IsOpenComment text)
 
 -- A blank begins the text.
 abbrev pub BeginsBlank : Text → Type 0

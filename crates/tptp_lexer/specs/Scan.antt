@@ -1,4 +1,5 @@
--- What the scanner computes of the bytes at the front of a text.
+-- What the scanner computes of the bytes at the front of a text. It is no part of the definition of tokens: only the
+-- contracts of private functions cite it.
 use Rattle.std.specs.Prelude.{ℕ, suc, ◌+◌, ◌-◌, ◌<◌, Bool, true, false, ◌||◌, ◌&&◌, ◌==◌, if◌then◌else◌, nat_le, [], ◌∷◌, length, take, drop, slice_index, Option, None, Some, option_map}
 use Rattle.std.specs.List.{prefix_len}
 use Rattle.tptp_lexer.specs.declared.quotes.Quote.{Quote}

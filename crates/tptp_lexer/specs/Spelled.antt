@@ -1,5 +1,5 @@
 -- Which texts spell a token, by the lexical rules of the TPTP BNF.
-use Rattle.std.specs.Prelude.{◌≡◌, ◌≤◌, ℕ, IsTrue, [], ◌∷◌, ◌++◌, length}
+use Rattle.std.specs.Prelude.{◌≡◌, ◌≤◌, ℕ, IsTrue, codes, [], ◌∷◌, ◌++◌, length}
 use Rattle.std.specs.List.{list_all}
 use Rattle.tptp_lexer.specs.declared.style.Style.{Style}
 use Rattle.tptp_lexer.specs.declared.token.Mark.{Mark as Sign}
@@ -9,7 +9,7 @@ use Rattle.tptp_lexer.specs.Bytes.{Text, is_lower_alpha, is_upper_alpha, is_alph
 use Rattle.tptp_lexer.specs.Comments.{begins_comment, HasNoEnd}
 use Rattle.tptp_lexer.specs.Marks.{mark_text}
 use Rattle.tptp_lexer.specs.Numbers.{IsNumber}
-use Rattle.tptp_lexer.specs.Quotes.{IsWritten}
+use Rattle.tptp_lexer.specs.Quotes.{IsWritten, single_quote, double_quote}
 
 pub data Spelled (style : Style) : Token → Text → Type 0 where
   -- <lower_word>
@@ -17,19 +17,19 @@ pub data Spelled (style : Style) : Token → Text → Type 0 where
   -- <upper_word>
   upper_word : {first : ℕ} {word : Text} → IsTrue (is_upper_alpha first) → IsTrue (list_all is_alpha_numeric word) → Spelled style (Upper (first ∷ word)) (first ∷ word)
   -- <dollar_word>, of at least one byte behind `$`
-  dollar_word : {first : ℕ} {word : Text} → IsTrue (list_all is_alpha_numeric (first ∷ word)) → Spelled style (Dollar (36 ∷ first ∷ word)) (36 ∷ first ∷ word)
+  dollar_word : {first : ℕ} {word : Text} → IsTrue (list_all is_alpha_numeric (first ∷ word)) → Spelled style (Dollar (codes "$" ++ first ∷ word)) (codes "$" ++ first ∷ word)
   -- <dollar_dollar_word>, of at least one byte behind `$$`
-  dollar_dollar_word : {first : ℕ} {word : Text} → IsTrue (list_all is_alpha_numeric (first ∷ word)) → Spelled style (System (36 ∷ 36 ∷ first ∷ word)) (36 ∷ 36 ∷ first ∷ word)
+  dollar_dollar_word : {first : ℕ} {word : Text} → IsTrue (list_all is_alpha_numeric (first ∷ word)) → Spelled style (System (codes "$$" ++ first ∷ word)) (codes "$$" ++ first ∷ word)
   -- <single_quoted>
-  single_quoted : {char : ℕ} {chars written : Text} → IsWritten 39 (char ∷ chars) written → Spelled style (Quoted (char ∷ chars)) (39 ∷ (written ++ 39 ∷ []))
+  single_quoted : {char : ℕ} {chars written : Text} → IsWritten single_quote (char ∷ chars) written → Spelled style (Quoted (char ∷ chars)) (single_quote ∷ (written ++ single_quote ∷ []))
   -- <distinct_object>
-  distinct_object : {chars written : Text} → IsWritten 34 chars written → Spelled style (Distinct chars) (34 ∷ (written ++ 34 ∷ []))
+  distinct_object : {chars written : Text} → IsWritten double_quote chars written → Spelled style (Distinct chars) (double_quote ∷ (written ++ double_quote ∷ []))
   -- <number>
-  number : {digits : Text} → IsNumber digits → Spelled style (Number digits) digits
+  number : {text : Text} → IsNumber text → Spelled style (Number text) text
   -- <comment_line>
   comment_line : {first : ℕ} {line : Text} → IsTrue (begins_comment style first) → IsTrue (list_all is_in_line line) → Spelled style (Comment (first ∷ line)) (first ∷ line)
   -- <comment_block>: through the first `*/` behind `/*`
-  comment_block : (body : Text) → HasNoEnd (body ++ 42 ∷ []) → Spelled style (Comment (47 ∷ 42 ∷ (body ++ 42 ∷ 47 ∷ []))) (47 ∷ 42 ∷ (body ++ 42 ∷ 47 ∷ []))
+  comment_block : (body : Text) → HasNoEnd (body ++ codes "*") → Spelled style (Comment (codes "/*" ++ (body ++ codes "*/"))) (codes "/*" ++ (body ++ codes "*/"))
   -- the punctuation and the connectives
   mark : (sign : Sign) → Spelled style (Mark sign) (mark_text sign)
 

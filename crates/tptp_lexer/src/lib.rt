@@ -19,3 +19,6 @@ pub use law::{one_answer, one_token_list};
 pub use lexer::tokens;
 pub use style::Style;
 pub use token::{Mark, Token, Tokens};
+
+#[cfg(test)]
+mod tests;
