@@ -3,6 +3,7 @@ pub mod Induction
 pub mod Instance
 pub mod Laws
 pub mod Lift
+pub mod Moved
 pub mod Occurs
 pub mod PlaceReach
 pub mod Reaches
