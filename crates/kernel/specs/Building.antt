@@ -1,15 +1,15 @@
 -- What a node shows where its parts show theirs: the rules, used forth.
-use Rattle.std.specs.Prelude.{ℕ, ◌≡◌, ◌+◌, ◌≤◌, ◌<◌, List, [], ◌∷◌, ◌++◌, length, slice_get, Some, refl}
+use Rattle.std.specs.Prelude.{ℕ, ◌≡◌, ◌+◌, ◌<◌, List, [], ◌∷◌, length, slice_get, Some, refl}
 use Rattle.std.specs.List.{AllByRecursion}
-use Rattle.std.proofs.Common.{subst, sym, ◌∙◌, arith}
+use Rattle.std.proofs.Common.{sym, ◌∙◌, arith}
 use Rattle.fof_terms.specs.declared.term.Term.{Term, Var}
 use Rattle.fof_terms.specs.declared.form.Form.{Form, Eq, Not, And, Or, Imp, Iff, All, Ex}
 use Rattle.fof_terms.specs.Lift.{lifted}
 use Rattle.fof_terms.specs.Instance.{instance_at}
-use Rattle.fof_terms.specs.Sorts.{sort_of_term, sort_of_term-Var, is_sorted, binder_depth}
-use Rattle.fof_terms.specs.Scoped.{IsScope, SortedTo, Sorted, member_of, not_sorted, sorted_of_not, and_sorted, sorted_of_and, or_sorted, sorted_of_or, imp_sorted, sorted_of_imp, iff_sorted, sorted_of_iff, eq_sorted, sorted_of_eq, sorted_of_all, sorted_of_ex}
+use Rattle.fof_terms.specs.Sorts.{sort_of_term, sort_of_term-Var}
+use Rattle.fof_terms.specs.Scoped.{IsScope, Sorted, member_of, not_sorted, and_sorted, sorted_of_and, or_sorted, imp_sorted, sorted_of_imp, iff_sorted, sorted_of_iff, eq_sorted, sorted_of_eq, sorted_of_ex}
 use Rattle.fof_terms.specs.Moved.{instance_sorted, body_instance_sorted}
-use Rattle.fof_terms.specs.Walks.{instance_back, instance_fits, lifted_fits, same_depth, placing, lifting}
+use Rattle.fof_terms.specs.Walks.{instance_back, lifted_fits, same_depth, lifting}
 use Rattle.kernel.specs.Statements.{Statements}
 use Rattle.kernel.specs.Proves.{Proves, over, all_over}
 use Rattle.kernel.specs.Rules.{ProveAll, ProveEach, Proves-Line, Proves-Hyp, Proves-AndI, Proves-AndE, Proves-OrI, Proves-OrE, Proves-ImpI, Proves-ImpE, Proves-NotI, Proves-NotE, Proves-Raa, Proves-IffI, Proves-IffL, Proves-IffR, Proves-AllI, Proves-AllE, Proves-ExI, Proves-ExE, Proves-Refl, Proves-Subst, Proves-Inhabit}

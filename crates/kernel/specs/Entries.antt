@@ -1,5 +1,5 @@
 -- When a theory takes an entry, what it is then, and when entries refute a theory.
-use Rattle.std.specs.Prelude.{ℕ, ◌≡◌, ◌<◌, ◌+◌, false, List, [], ◌∷◌, ◌++◌, length, reverse, slice_get, Some}
+use Rattle.std.specs.Prelude.{ℕ, ◌≡◌, ◌<◌, false, List, [], ◌∷◌, ◌++◌, length, reverse, slice_get, Some}
 use Rattle.std.specs.List.{All}
 use Rattle.std.proofs.Common.{zero, suc}
 use Rattle.fof_terms.specs.Vocabulary.{IsDeclared}

@@ -1,6 +1,6 @@
 -- Lists of entries, taken one by one.
-use Rattle.std.specs.Prelude.{◌≡◌, List, [], ◌∷◌, ◌++◌, refl}
-use Rattle.std.proofs.Common.{subst, sym}
+use Rattle.std.specs.Prelude.{List, [], ◌∷◌, ◌++◌, refl}
+use Rattle.std.proofs.Common.{subst}
 use Rattle.kernel.specs.Statements.{Statements}
 use Rattle.kernel.specs.Entries.{Legal, After, Admits}
 use Rattle.kernel.specs.declared.entry.Entry.{Entry}

@@ -1,9 +1,9 @@
 -- What is shown stays shown where formulas are added behind: to the theory, or to the outermost hypotheses.
-use Rattle.std.specs.Prelude.{ℕ, ◌≡◌, List, [], ◌∷◌, map, slice_get, Some, Option, None, refl}
+use Rattle.std.specs.Prelude.{ℕ, ◌≡◌, List, [], ◌∷◌, slice_get, Some, Option, None, refl}
 use Rattle.std.specs.Option.{option_map}
 use Rattle.std.proofs.Common.{sym, ◌∙◌, ap, zero, suc}
 use Rattle.std.proofs.lemmas.Option.{slice_get-map}
-use Rattle.fof_terms.specs.declared.form.Form.{Form, Or, Not}
+use Rattle.fof_terms.specs.declared.form.Form.{Form, Not}
 use Rattle.fof_terms.specs.Lift.{lifted}
 use Rattle.kernel.specs.Statements.{Statements}
 use Rattle.kernel.specs.Proves.{Proves, ProvesAll, ProvesEach, all_over}

@@ -1,5 +1,5 @@
 use crate::proof::Proof;
-use fof_terms::{Form, SymId, Symbol};
+use fof_terms::{Form, SigFault, SymId, Symbol};
 use std::alloc::AllocError;
 use thiserror::Error;
 use tptp_base::{Memory, Text};
@@ -57,5 +57,19 @@ impl From<AllocError> for AdmitFault {
 
     fn from(_: AllocError) -> AdmitFault {
         AdmitFault::Memory
+    }
+}
+
+impl From<SigFault> for AdmitFault {
+    ghost use Rattle.std.specs.Prelude.{◌≡◌};
+    ghost use Rattle.kernel.specs.Faults.{admit_fault};
+
+    ghost from_gives = { λ fault e. e ≡ admit_fault fault };
+
+    fn from(fault: SigFault) -> AdmitFault {
+        match fault {
+            SigFault::Limit(_limit) => AdmitFault::Illegal,
+            SigFault::Memory => AdmitFault::Memory,
+        }
     }
 }
