@@ -3,6 +3,8 @@ pub mod Induction
 pub mod Instance
 pub mod Laws
 pub mod Lift
+pub mod MoreReaches
+pub mod Moved
 pub mod Occurs
 pub mod PlaceReach
 pub mod Reaches

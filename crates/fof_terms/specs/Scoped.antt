@@ -1,15 +1,24 @@
 -- What is well-sorted, taken together and apart by connectives.
-use Rattle.std.specs.Prelude.{ℕ, ◌≡◌, ◌+◌, ◌<◌, ◌≤◌, ◌&&◌, nat_lt, true, max, List, [], ◌∷◌, length, map, slice_get, Some, refl}
+use Rattle.std.specs.Prelude.{ℕ, ◌≡◌, ◌+◌, ◌<◌, ◌≤◌, ◌&&◌, nat_eq, nat_lt, Option, None, true, max, List, [], ◌∷◌, length, map, slice_get, Some, refl}
 use Rattle.std.specs.List.{AllByRecursion, list_all}
-use Rattle.std.proofs.Common.{arith, zero, suc}
+use Rattle.std.proofs.Common.{ap, arith, zero, suc}
 use Rattle.std.proofs.lemmas.Bool.Decides.{nat_tests}
 use Rattle.std.proofs.lemmas.Bool.{lt-ltb}
 use Rattle.fof_terms.specs.Vocabulary.{Vocabulary}
 use Rattle.fof_terms.specs.Lift.{greatest}
 pub use Rattle.fof_terms.specs.Sorts.{IsScope, SortedTo, Sorted}
-use Rattle.fof_terms.specs.Sorts.{is_sorted, binder_depth, is_sorted-Not, is_sorted-And, is_sorted-Or, is_sorted-Imp, is_sorted-Iff, is_sorted-All, is_sorted-Ex, binder_depth-Not, binder_depth-And, binder_depth-Or, binder_depth-Imp, binder_depth-Iff, binder_depth-All, binder_depth-Ex}
+use Rattle.fof_terms.specs.Sorts.{one_sort, sort_of_term, is_sorted, binder_depth, is_sorted-Eq, binder_depth-Eq, is_sorted-Not, is_sorted-And, is_sorted-Or, is_sorted-Imp, is_sorted-Iff, is_sorted-All, is_sorted-Ex, binder_depth-Not, binder_depth-And, binder_depth-Or, binder_depth-Imp, binder_depth-Iff, binder_depth-All, binder_depth-Ex}
 use Rattle.fof_terms.specs.Laws.{both, each_true}
-use Rattle.fof_terms.specs.declared.form.Form.{Form, Not, And, Or, Imp, Iff, All, Ex}
+use Rattle.fof_terms.specs.declared.term.Term.{Term}
+use Rattle.fof_terms.specs.declared.form.Form.{Form, Eq, Not, And, Or, Imp, Iff, All, Ex}
+
+nat_eq_same : (s : ℕ) → nat_eq s s ≡ true
+nat_eq_same s = grind (arith, nat_tests)
+
+one_sort_both : (l r : Option ℕ) → one_sort l r ≡ true → (s : ℕ) × (l ≡ Some s) × (r ≡ Some s)
+one_sort_both l None e = cc
+one_sort_both None (Some y) e = cc
+one_sort_both (Some x) (Some y) e = let same : x ≡ y = grind (arith, nat_tests) in (y, ap Some same, refl)
 
 less_true : (a b : ℕ) → nat_lt a b ≡ true → a < b
 less_true a b e = grind (arith, nat_tests)
@@ -128,3 +137,13 @@ module _ (v : Vocabulary) (scope : List ℕ) where
 
     pub sorted_of_ex : (m s : ℕ) (a : Form) → n ≤ m + 1 → length scope < 2147483647 → SortedTo n v scope (Ex s a) → SortedTo m v (s ∷ scope) a
     sorted_of_ex m s a le room r = body m s a r.scope_fits room (let few : binder_depth a + 1 ≤ n = rw binder_depth-Ex at r.few_binders in omega arith) (rw is_sorted-Ex at r.fits)
+
+    pub eq_sorted : IsScope v scope → (l r : Term) (s : ℕ) → sort_of_term v scope l ≡ Some s → sort_of_term v scope r ≡ Some s → SortedTo n v scope (Eq l r)
+    eq_sorted sc l r s el er = record {
+      scope_fits = sc;
+      few_binders = rw binder_depth-Eq (omega arith);
+      fits = rw (is_sorted-Eq, el, er) (nat_eq_same s);
+    }
+
+    pub sorted_of_eq : (l r : Term) → SortedTo n v scope (Eq l r) → (s : ℕ) × (sort_of_term v scope l ≡ Some s) × (sort_of_term v scope r ≡ Some s)
+    sorted_of_eq l r s = one_sort_both (sort_of_term v scope l) (sort_of_term v scope r) (rw is_sorted-Eq at s.fits)

@@ -19,6 +19,8 @@ pub use laws::{instance_of_instance, lift_of_closed, lift_of_instance};
 pub use lifting::{lift, lift_all, lift_term, lift_terms};
 pub use occurrence::{occurs, occurs_in_one, occurs_in_term};
 pub use signature::{Kind, MAX_SORTS, MAX_SYMBOLS, SigFault, Signature, Symbol};
-pub use sorting::{MAX_BINDERS, MAX_VARIABLES, Scope, have_sorts, sort_of, well_sorted};
+pub use sorting::{
+    MAX_BINDERS, MAX_VARIABLES, Scope, have_sorts, is_within, sort_of, well_sorted, well_sorted_in,
+};
 pub use term::{SymId, Term, copy_terms, weight};
 pub use variables::{has_in_one, has_in_term, has_in_terms, has_variable};

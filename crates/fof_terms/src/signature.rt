@@ -113,6 +113,7 @@ impl Signature {
     /// the signature is as it was.
     pub fn add_sort(&mut self, name: Text) -> Result<SortId, SigFault>
         ensures number { IfOk result (λ number. number ≡ length self.old.sorts) }
+        ensures room { OnOk result (length self.old.sorts < 65536) }
         ensures added { OnOk result (self.new ≡ record self.old { sorts = self.old.sorts ++ name ∷ [] }) }
         ensures limit { (limit : limit_name) → IsErrOf result (SigFault.Limit limit) ↔ ((limit ≡ Sorts) × (length self.old.sorts ≡ 65536)) }
         ensures err { OnErr result (self.new ≡ self.old) }
@@ -130,6 +131,7 @@ impl Signature {
     pub fn add(&mut self, symbol: Symbol) -> Result<SymId, SigFault>
         requires { IsDeclared (length self.old.sorts) symbol }
         ensures number { IfOk result (λ number. number ≡ length self.old.symbols) }
+        ensures room { OnOk result (length self.old.symbols < 16777216) }
         ensures added { OnOk result (self.new ≡ record self.old { symbols = self.old.symbols ++ symbol ∷ [] }) }
         ensures limit { (limit : limit_name) → IsErrOf result (SigFault.Limit limit) ↔ ((limit ≡ Symbols) × (length self.old.symbols ≡ 16777216)) }
         ensures err { OnErr result (self.new ≡ self.old) }

@@ -1,7 +1,7 @@
 ghost use Rattle.std.specs.Prelude.{◌≡◌, ◌↔◌, ◌+◌, ◌<◌, ◌≤◌, List, length, map, reverse, slice_get, IsTrue};
 ghost use Rattle.std.specs.List.{list_all, All as Each};
 ghost use Rattle.fof_terms.specs.Lift.{greatest};
-ghost use Rattle.fof_terms.specs.Sorts.{is_sort, are_sorts, sort_of_term, is_sorted, binder_depth, Sorted};
+ghost use Rattle.fof_terms.specs.Sorts.{is_sort, are_sorts, sort_of_term, is_sorted, binder_depth, IsScope, Sorted};
 ghost use Rattle.fof_terms.specs.Scope.{scope_sorts};
 
 use crate::form::{Form, SortId};
@@ -159,7 +159,7 @@ fn all_fit(forms: &[Form], signature: &Signature, scope: &Scope<'_>) -> bool
 /// Whether at most that many binders stand inside each other.
 #[tactic(auto, using(crate::specs::Sorts::binder_depth_equations))]
 #[cycle(is_within)]
-fn is_within(form: &Form, limit: u32) -> bool
+pub fn is_within(form: &Form, limit: u32) -> bool
     ensures { IsTrue result ↔ (binder_depth form.now ≤ limit) }
 {
     match form {
@@ -195,6 +195,14 @@ pub fn well_sorted(signature: &Signature, sorts: &[SortId], form: &Form) -> bool
         && is_within(form, MAX_BINDERS)
         && all_exist(sorts, signature)
         && fits(form, signature, &Scope::Outside(sorts))
+}
+
+/// The same over a scope, whose sorts are there and not too many.
+pub fn well_sorted_in(form: &Form, signature: &Signature, scope: &Scope<'_>) -> bool
+    requires { IsScope signature.now (scope_sorts scope.now) }
+    ensures { IsTrue result ↔ Sorted signature.now (scope_sorts scope.now) form.now }
+{
+    is_within(form, MAX_BINDERS) && fits(form, signature, scope)
 }
 
 fn all_exist(sorts: &[SortId], signature: &Signature) -> bool

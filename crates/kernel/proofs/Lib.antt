@@ -1,0 +1,5 @@
+pub mod Hyps
+pub mod Concluded
+pub mod ConcludedOver
+pub mod ConcludedLists
+pub mod Added

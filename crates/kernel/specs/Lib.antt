@@ -1,0 +1,10 @@
+pub mod Building
+pub mod Concludes
+pub mod Entries
+pub mod EntryLaws
+pub mod Faults
+pub mod Hypotheses
+pub mod Proves
+pub mod Rules
+pub mod Statements
+pub mod Weakening
