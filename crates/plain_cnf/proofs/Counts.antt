@@ -1,5 +1,5 @@
 -- A plain text has no more literals than bytes.
-use Rattle.std.proofs.Common.{◌≡◌, ℕ, ◌+◌, ◌≤◌, List, [], ◌∷◌, ◌++◌, length, map, codes, arith}
+use Rattle.std.proofs.Common.{◌≡◌, ℕ, ◌+◌, ◌≤◌, List, [], ◌∷◌, ◌++◌, length, map, codes, slice_get, Some, zero, suc, arith, ap}
 use Rattle.std.specs.List.{flat_map}
 use Rattle.plain_cnf.specs.declared.syntax.Literal.{Literal}
 use Rattle.plain_cnf.specs.declared.syntax.Clause.{Clause}
@@ -58,3 +58,8 @@ few_literals clauses text spells =
 pub few_step_literals : (problem : List Clause) (steps : List Step) (text : List ℕ) → SpellsDerivation problem steps text → literal_count (map (λ s. s.clause) steps) ≤ 1048576
 few_step_literals problem steps text spells =
     omega (arith, steps_bytes (names_of problem) (step_names_of steps) steps, spaced_bytes (derivation_tokens problem steps) text spells.spelled, spells.short)
+
+pub count_of_one : (cs : List Clause) (place : ℕ) (c : Clause) → slice_get cs place ≡ Some c → length c.literals ≤ literal_count cs
+count_of_one [] place c e = cc
+count_of_one (d ∷ cs) zero c e = let same : d ≡ c = cc in omega (arith, ap (λ (x : Clause). length x.literals) same)
+count_of_one (d ∷ cs) (suc place) c e = omega (arith, count_of_one cs place c e)

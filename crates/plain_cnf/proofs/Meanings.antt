@@ -1,9 +1,9 @@
 -- Laws of what clauses mean: the symbols that they add, how many those are, and that their formulas are well-sorted.
-use Rattle.std.proofs.Common.{◌≡◌, ℕ, zero, suc, ◌+◌, ◌≤◌, ◌==◌, ◌&&◌, Bool, true, false, List, [], ◌∷◌, ◌++◌, length, drop, slice_get, get_or, Option, Some, None, nat_eq, All, refl, sym, ◌∙◌, ap, subst, arith, length-append, position}
+use Rattle.std.proofs.Common.{◌≡◌, ℕ, zero, suc, ◌+◌, ◌≤◌, ◌==◌, ◌&&◌, Bool, true, false, List, [], ◌∷◌, ◌++◌, length, drop, slice_get, get_or, Option, Some, None, nat_eq, All, refl, sym, ◌∙◌, ap, subst, arith, length-append, position, map}
 use Rattle.std.specs.List.{AllByRecursion}
 use Rattle.std.specs.Cmp.Lexicographic.{pointwise}
 use Rattle.std.proofs.lemmas.Bool.{eqb-true}
-use Rattle.std.proofs.lemmas.List.{append-nil, drop_all}
+use Rattle.std.proofs.lemmas.List.{append-nil, drop_all, map-append}
 use Rattle.std.proofs.lemmas.List.Elements.{All-nil, All-append, All-tail}
 use Rattle.std.proofs.lemmas.List.Quantifiers.{position-Some}
 use Rattle.std.proofs.lemmas.Option.{slice_get-get_or}
@@ -14,13 +14,16 @@ use Rattle.fof_terms.specs.Scoped.{not_sorted, or_sorted}
 use Rattle.fof_terms.specs.declared.signature.Symbol.{Symbol}
 use Rattle.fof_terms.specs.declared.signature.Kind.{Kind}
 use Rattle.fof_terms.specs.declared.signature.Kind.TheVariants.{Function, Predicate}
-use Rattle.fof_terms.specs.declared.form.Form.{Form, Atom}
+use Rattle.fof_terms.specs.declared.form.Form.TheViews.{out-Form, outs-Atom, outs-Not, outs-Or}
+use Rattle.fof_terms.specs.Trees.{Or-injective}
+use Rattle.fof_terms.specs.declared.form.Form.{Form, Atom, Or}
 use Rattle.plain_cnf.specs.declared.syntax.Literal.{Literal}
 use Rattle.plain_cnf.specs.declared.syntax.Clause.{Clause}
+use Rattle.plain_cnf.specs.declared.syntax.Step.{Step}
 use Rattle.plain_cnf.specs.Words.{IsLowerWord}
 use Rattle.plain_cnf.specs.Spelling.{HasLowerWords}
 use Rattle.plain_cnf.specs.Extension.{Extends}
-use Rattle.plain_cnf.specs.Denotation.{atom_symbol, with_symbol, denoted_atom, signed, denoted_literal, denoted_literals, disjunction, denoted_clause, denoted_clauses}
+use Rattle.plain_cnf.specs.Denotation.{atom_symbol, with_symbol, denoted_atom, signed, denoted_literal, denoted_literals, disjunction, denoted_clause, denoted_clauses, denoted_steps}
 use Rattle.plain_cnf.proofs.Extending.{extends_none, extends_then, sorted_stays}
 use Rattle.plain_cnf.proofs.Counts.{literal_count}
 
@@ -206,3 +209,24 @@ pub clauses-push : (v : Vocabulary) (cs : List Clause) (c : Clause)
 clauses-push v [] c = refl
 clauses-push v (d ∷ cs) c =
     ap (λ (r : Vocabulary × List Form). (r.0, (denoted_clause v d.literals).1 ∷ r.1)) (clauses-push (denoted_clause v d.literals).0 cs c)
+
+pub steps-push : (v : Vocabulary) (steps : List Step) (s : Step)
+    → let before = denoted_steps v steps in let last = denoted_clause before.0 s.clause.literals in denoted_steps v (steps ++ s ∷ []) ≡ (last.0, before.1 ++ last.1 ∷ [])
+steps-push v steps s =
+    ap (denoted_clauses v) (map-append (λ (t : Step). t.clause) steps (s ∷ [])) ∙ clauses-push v (map (λ t. t.clause) steps) s.clause
+
+-- ---- a clause has the members that it has literals
+
+literals-length : (v : Vocabulary) (ls : List Literal) → length (denoted_literals v ls).1 ≡ length ls
+literals-length v [] = refl
+literals-length v (l ∷ ls) = ap suc (literals-length (denoted_literal v l).0 ls)
+
+literal_is_no_disjunction : (positive : Bool) (number : ℕ) (members : List Form) → signed positive (Atom number []) ≡ Or members → ⊥
+literal_is_no_disjunction true number members e = let layers = sym (outs-Atom number []) ∙ ap out-Form e ∙ outs-Or members in cc
+literal_is_no_disjunction false number members e = let layers = sym (outs-Not (Atom number [])) ∙ ap out-Form e ∙ outs-Or members in cc
+
+pub clause_members : (v : Vocabulary) (ls : List Literal) (members : List Form) → (denoted_clause v ls).1 ≡ Or members → length members ≡ length ls
+clause_members v [] members e = sym (ap length (Or-injective [] members e))
+clause_members v (l ∷ []) members e = absurd (literal_is_no_disjunction l.positive _ members e)
+clause_members v (l ∷ m ∷ ls) members e =
+    sym (ap length (Or-injective (denoted_literals v (l ∷ m ∷ ls)).1 members e)) ∙ literals-length v (l ∷ m ∷ ls)

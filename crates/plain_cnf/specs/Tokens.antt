@@ -1,5 +1,5 @@
--- A text as a list of tokens with blanks before, between and behind them. Where no two words stand next to each
--- other, as in the texts that are read here, this is the reading by longest tokens.
+-- A text as a list of tokens with blanks before, between and behind them. In the texts that are read here no two words
+-- stand next to each other, and no two marks that would make a longer one, so this is the reading by longest tokens.
 use Rattle.std.specs.Prelude.{◌≡◌, ℕ, Bool, ◌==◌, ◌||◌, List, [], ◌∷◌, ◌++◌}
 use Rattle.std.specs.List.{AllPass}
 

