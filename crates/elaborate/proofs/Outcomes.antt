@@ -1,0 +1,10 @@
+-- What is known of an outcome, carried over to what follows from it.
+use Rattle.std.proofs.Common.{Result, Ok, Err, Option, Some, None, IfOk, IfNone}
+
+pub ok_map : {X E : Type 0} {P Q : X → Type 0} (r : Result X E) → ((x : X) → P x → Q x) → IfOk r P → IfOk r Q
+ok_map (Ok x) f p = f x p
+ok_map (Err e) f p = p
+
+pub none_map : {X : Type 0} {P Q : Type 0} (r : Option X) → (P → Q) → IfNone r P → IfNone r Q
+none_map None f p = f p
+none_map (Some x) f p = p
