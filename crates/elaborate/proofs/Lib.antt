@@ -1,2 +1,10 @@
 pub mod Reading
+pub mod OfferLists
 pub mod Outcomes
+pub mod Tables
+pub mod LiteralLists
+pub mod PlaceLists
+pub mod PivotLists
+pub mod CutLists
+pub mod Contradictions
+pub mod Answering

@@ -1,6 +1,10 @@
 pub mod ByRule
+pub mod Cuts
 pub mod DerivationLaws
 pub mod Literals
+pub mod Offers
+pub mod Places
 pub mod PropositionalClause
 pub mod Resolution
 pub mod StepAnswer
+pub mod Table

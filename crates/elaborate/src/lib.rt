@@ -2,7 +2,19 @@
 #![tactic(auto)]
 
 mod answer;
+mod arms;
+mod conclusion;
+mod cut;
+mod derivation;
 mod literal;
+mod nodes;
+mod offers;
+mod pair;
+mod pivots;
+mod places;
+mod steps;
+mod table;
 
 pub use answer::{Reason, Rule, StepAnswer};
 pub use literal::{Literal, literal_of, literals_of};
+pub use steps::step;
