@@ -8,6 +8,7 @@ use Rattle.kernel.specs.declared.entry.Entry.TheVariants.{Lemma}
 use Rattle.kernel.specs.Statements.{Statements}
 use Rattle.kernel.specs.Entries.{Admits}
 use Rattle.kernel.specs.Proves.{Proves}
+use Rattle.elaborate.specs.declared.answer.Reason.TheVariants.{NotYet}
 use Rattle.elaborate.specs.declared.answer.StepAnswer.{StepAnswer}
 use Rattle.elaborate.specs.declared.answer.StepAnswer.TheVariants.{Accepted, Unverified}
 use Rattle.elaborate.specs.ByRule.{ByRule, ByNone, formulas_at}
@@ -16,7 +17,7 @@ use Rattle.elaborate.specs.ByRule.{ByRule, ByNone, formulas_at}
 abbrev pub AreLemmas : List Entry → Type 0
 AreLemmas entries = Each (λ entry. (p : Proof) × (entry ≡ Lemma p)) entries
 
--- the entries are legal in turn, and the last is a lemma that shows the line
+-- the entries before the last are legal in turn, and the last is a lemma that shows the line of what they make of the theory
 pub record IsDerivation (t : Statements) (entries : List Entry) (line : Form) : Type 0 where
   pub before : List Entry
   pub proof : Proof
@@ -25,7 +26,8 @@ pub record IsDerivation (t : Statements) (entries : List Entry) (line : Form) : 
   pub legal : Admits t before theory
   pub shows : Proves theory [] [] proof line
 
--- the answer to a line whose parents have these numbers in the theory
+-- the answer to a line whose parents have these numbers in the theory: accepted by the first rule that gives the line, with a derivation of it, or
+-- unverified because no rule gives it
 abbrev pub IsStepAnswer : Statements → List ℕ → Form → StepAnswer → Type 0
 IsStepAnswer t parents line (Accepted rule entries) = ByRule (formulas_at t.formulas parents) line rule × IsDerivation t entries line × AreLemmas entries
-IsStepAnswer t parents line (Unverified reason) = ByNone (formulas_at t.formulas parents) line
+IsStepAnswer t parents line (Unverified NotYet) = ByNone (formulas_at t.formulas parents) line

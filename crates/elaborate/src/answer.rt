@@ -4,14 +4,14 @@ use tptp_base::List;
 /// A rule that gives a line from its parents.
 #[derive(Clone, Copy, Debug, PartialEq, Eq)]
 pub enum Rule {
-    /// Resolution of two propositional clauses.
+    /// `resolution`: two propositional clauses are resolved, and the line has what else they have.
     Resolution,
 }
 
 /// Why a line isn't verified.
 #[derive(Clone, Copy, Debug, PartialEq, Eq)]
 pub enum Reason {
-    /// No rule that is built gives it.
+    /// `not-yet`: no rule that is built gives it.
     NotYet,
 }
 

@@ -18,3 +18,6 @@ mod table;
 pub use answer::{Reason, Rule, StepAnswer};
 pub use literal::{Literal, literal_of, literals_of};
 pub use steps::step;
+
+#[cfg(test)]
+mod tests;
