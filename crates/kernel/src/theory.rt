@@ -178,10 +178,10 @@ impl Theory {
     }
 
     // What naming the formula adds, if the predicate may name it.
-    fn named(&self, number: SymId, form: &Form) -> Result<Option<Form>, Memory>
-        ensures { IfOk result (λ answer. (a : Formula) → (answer ≡ Some a) ↔ ((symbol : Sign) × MayName self.now number symbol form.now × (a ≡ naming number symbol form.now))) }
+    fn named(&self, predicate: SymId, form: &Form) -> Result<Option<Form>, Memory>
+        ensures { IfOk result (λ answer. (a : Formula) → (answer ≡ Some a) ↔ ((symbol : Sign) × MayName self.now predicate symbol form.now × (a ≡ naming predicate symbol form.now))) }
     {
-        let Some(symbol) = self.signature.symbol(number) else {
+        let Some(symbol) = self.signature.symbol(predicate) else {
             return Ok(None);
         };
         if !is_kind(symbol, Kind::Predicate) {
@@ -190,13 +190,13 @@ impl Theory {
         if !well_sorted(&self.signature, symbol.args.as_slice(), form) {
             return Ok(None);
         }
-        if self.uses(number) {
+        if self.uses(predicate) {
             return Ok(None);
         }
-        if occurs(number, form) {
+        if occurs(predicate, form) {
             return Ok(None);
         }
-        let whole = naming_of(self.alloc, number, symbol, form)?;
+        let whole = naming_of(self.alloc, predicate, symbol, form)?;
         if !well_sorted(&self.signature, &[], whole.get()) {
             return Ok(None);
         }
@@ -204,10 +204,10 @@ impl Theory {
     }
 
     // What choosing for the formula adds, if the function may choose for it.
-    fn chosen(&self, number: SymId, form: &Form) -> Result<Option<Form>, Memory>
-        ensures { IfOk result (λ answer. (a : Formula) → (answer ≡ Some a) ↔ ((symbol : Sign) × MayChoose self.now number symbol form.now × (a ≡ choice number symbol form.now))) }
+    fn chosen(&self, function: SymId, form: &Form) -> Result<Option<Form>, Memory>
+        ensures { IfOk result (λ answer. (a : Formula) → (answer ≡ Some a) ↔ ((symbol : Sign) × MayChoose self.now function symbol form.now × (a ≡ choice function symbol form.now))) }
     {
-        let Some(symbol) = self.signature.symbol(number) else {
+        let Some(symbol) = self.signature.symbol(function) else {
             return Ok(None);
         };
         if !is_kind(symbol, Kind::Function) {
@@ -218,13 +218,13 @@ impl Theory {
         if !well_sorted(&self.signature, sorts.as_slice(), form) {
             return Ok(None);
         }
-        if self.uses(number) {
+        if self.uses(function) {
             return Ok(None);
         }
-        if occurs(number, form) {
+        if occurs(function, form) {
             return Ok(None);
         }
-        let whole = choice_of(self.alloc, number, symbol, form)?;
+        let whole = choice_of(self.alloc, function, symbol, form)?;
         if !well_sorted(&self.signature, &[], whole.get()) {
             return Ok(None);
         }
