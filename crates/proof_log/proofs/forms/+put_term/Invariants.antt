@@ -1,0 +1,7 @@
+use Rattle.std.proofs.Common.{◌≡◌, ◌++◌, take}
+use Rattle.std.specs.List.{flat_map}
+use Rattle.proof_log.specs.LogText.{term_text}
+use Rattle.proof_log.proofs.forms.+put_term.Given as goal
+
+abbrev pub invariant-put_terms-loop-term : goal.invariant-put_terms-loop-term
+invariant-put_terms-loop-term l = l.text.items ≡ (l.initial.text.items ++ flat_map term_text (take l.term-index l.terms))

@@ -1,0 +1,140 @@
+// The text of proofs.
+ghost use Rattle.std.specs.Prelude.{◌≡◌, ◌++◌, OnOk, map};
+ghost use Rattle.proof_log.specs.LogText.{list_text, proof_text};
+
+use crate::forms::{put_form, put_forms, put_term};
+use crate::line::{put_number, put_word};
+use kernel::Proof;
+use std::alloc::AllocError;
+
+// Appends the text of a proof: a row for each node.
+#[cycle(put_proof)]
+pub fn put_proof(proof: &Proof, text: &mut Vec<u8>) -> Result<(), AllocError>
+    ensures { OnOk result (text.new.items ≡ text.old.items ++ proof_text proof.now) }
+{
+    match proof {
+        Proof::Line(line) => {
+            put_word(text, b"line")?;
+            put_number(text, *line)
+        }
+        Proof::Hyp(hypothesis) => {
+            put_word(text, b"hyp")?;
+            put_number(text, u64::from(*hypothesis))
+        }
+        Proof::AndI(parts) => {
+            put_word(text, b"andi")?;
+            put_proofs(parts.as_slice(), text)
+        }
+        Proof::AndE(member, part) => {
+            put_word(text, b"ande")?;
+            put_number(text, u64::from(*member))?;
+            put_proof(part.get(), text)
+        }
+        Proof::OrI(members, member, part) => {
+            put_word(text, b"ori")?;
+            put_forms(members.as_slice(), text)?;
+            put_number(text, u64::from(*member))?;
+            put_proof(part.get(), text)
+        }
+        Proof::OrE(goal, part, cases) => {
+            put_word(text, b"ore")?;
+            put_form(goal, text)?;
+            put_proof(part.get(), text)?;
+            put_proofs(cases.as_slice(), text)
+        }
+        Proof::ImpI(form, part) => {
+            put_word(text, b"impi")?;
+            put_form(form, text)?;
+            put_proof(part.get(), text)
+        }
+        Proof::ImpE(left, right) => {
+            put_word(text, b"impe")?;
+            put_proof(left.get(), text)?;
+            put_proof(right.get(), text)
+        }
+        Proof::NotI(form, part) => {
+            put_word(text, b"noti")?;
+            put_form(form, text)?;
+            put_proof(part.get(), text)
+        }
+        Proof::NotE(left, right) => {
+            put_word(text, b"note")?;
+            put_proof(left.get(), text)?;
+            put_proof(right.get(), text)
+        }
+        Proof::Raa(form, part) => {
+            put_word(text, b"raa")?;
+            put_form(form, text)?;
+            put_proof(part.get(), text)
+        }
+        Proof::IffI(left, right, forth, back) => {
+            put_word(text, b"iffi")?;
+            put_form(left, text)?;
+            put_form(right, text)?;
+            put_proof(forth.get(), text)?;
+            put_proof(back.get(), text)
+        }
+        Proof::IffL(left, right) => {
+            put_word(text, b"iffl")?;
+            put_proof(left.get(), text)?;
+            put_proof(right.get(), text)
+        }
+        Proof::IffR(left, right) => {
+            put_word(text, b"iffr")?;
+            put_proof(left.get(), text)?;
+            put_proof(right.get(), text)
+        }
+        Proof::AllI(sort, part) => {
+            put_word(text, b"alli")?;
+            put_number(text, u64::from(*sort))?;
+            put_proof(part.get(), text)
+        }
+        Proof::AllE(term, part) => {
+            put_word(text, b"alle")?;
+            put_term(term, text)?;
+            put_proof(part.get(), text)
+        }
+        Proof::ExI(sort, form, term, part) => {
+            put_word(text, b"exi")?;
+            put_number(text, u64::from(*sort))?;
+            put_form(form, text)?;
+            put_term(term, text)?;
+            put_proof(part.get(), text)
+        }
+        Proof::ExE(goal, left, right) => {
+            put_word(text, b"exe")?;
+            put_form(goal, text)?;
+            put_proof(left.get(), text)?;
+            put_proof(right.get(), text)
+        }
+        Proof::Refl(term) => {
+            put_word(text, b"refl")?;
+            put_term(term, text)
+        }
+        Proof::Subst(sort, form, left, right) => {
+            put_word(text, b"subst")?;
+            put_number(text, u64::from(*sort))?;
+            put_form(form, text)?;
+            put_proof(left.get(), text)?;
+            put_proof(right.get(), text)
+        }
+        Proof::Inhabit(sort, goal, part) => {
+            put_word(text, b"inhabit")?;
+            put_number(text, u64::from(*sort))?;
+            put_form(goal, text)?;
+            put_proof(part.get(), text)
+        }
+    }
+}
+
+// Appends how many proofs there are, and then their texts.
+#[cycle(put_proof)]
+fn put_proofs(proofs: &[Proof], text: &mut Vec<u8>) -> Result<(), AllocError>
+    ensures { OnOk result (text.new.items ≡ text.old.items ++ list_text (map proof_text proofs.now)) }
+{
+    put_number(text, proofs.len() as u64)?;
+    for proof in proofs {
+        put_proof(proof, text)?;
+    }
+    Ok(())
+}

@@ -1,0 +1,1 @@
+cnf(c,plain,$false,inference(res,[status(thm)],[a,b])).

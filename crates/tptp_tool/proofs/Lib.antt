@@ -1,0 +1,13 @@
+pub mod Adding
+pub mod Admitted
+pub mod Beginning
+pub mod Declaring
+pub mod Denoting
+pub mod Endings
+pub mod Headline
+pub mod LineChecks
+pub mod Logs
+pub mod OneConclusion
+pub mod Reports
+pub mod Stages
+pub mod Texts

@@ -1,0 +1,7 @@
+use Rattle.tptp_tool.specs.Words.{texts}
+use Rattle.tptp_tool.proofs.Headline.{success_refutes}
+use Rattle.tptp_tool.proofs.run.run_tptp.Goals as goal
+
+pub returns-in-Ok-put_all-clause-sound : goal.returns-in-Ok-put_all-clause-sound
+returns-in-Ok-put_all-clause-sound g c =
+    success_refutes (g.S.Store.files c.args.store.now) (texts c.args.words.now) c.in-Ok.answer (g.L.Sink.taken c.args.log.now) (g.L.Sink.taken c.answer_words.new.log) c.in-Ok.ensures.ends

@@ -1,0 +1,14 @@
+pub mod Answer
+pub mod Checked
+pub mod Claim
+pub mod Closing
+pub mod Ending
+pub mod Good
+pub mod Line
+pub mod Outcome
+pub mod ProblemTheory
+pub mod Reading
+pub mod Report
+pub mod Run
+pub mod Stop
+pub mod Words

@@ -1,0 +1,65 @@
+//! The program `tptp`.
+#![tactic(auto)]
+
+mod checking;
+mod closing;
+mod declarations;
+mod denotation;
+mod derivation;
+mod refusals;
+mod report;
+mod run;
+mod stop;
+#[cfg(test)]
+mod tests;
+mod verify;
+mod words;
+
+use run::run_tptp;
+use std::process::ExitCode;
+use std::rt::{Env, Files};
+use std::{env, fs, io};
+use tptp_base::{NullSink, RealSink, RealStore};
+use words::{Job, read_words};
+
+fn main(rt: HostRuntime) -> ExitCode {
+    ExitCode::from(status_of(&rt))
+}
+
+// Runs the command over the files and the standard output of the runtime.
+fn status_of<R: Env + Files + Print + AllocGlobal>(rt: &R) -> u8 {
+    let Ok(words) = words_of(rt) else {
+        return 6;
+    };
+    let mut store = RealStore::new(rt);
+    let mut out = RealSink::new(Some(io::writer(rt)));
+    match log_name(&words) {
+        Some(name) => {
+            let mut log = RealSink::new(fs::create(rt, name).ok());
+            run_tptp(rt.alloc(), &words, &mut store, &mut out, &mut log)
+        }
+        None => run_tptp(
+            rt.alloc(),
+            &words,
+            &mut store,
+            &mut out,
+            &mut NullSink::new(),
+        ),
+    }
+}
+
+// The words behind the program's name.
+fn words_of<R: Env + AllocGlobal>(rt: &R) -> io::Result<Vec<String>> {
+    let mut words = Vec::new(rt.alloc());
+    for word in env::args(rt)?.skip(1) {
+        words.push(word)?;
+    }
+    Ok(words)
+}
+
+// The name of the log, if there is one.
+fn log_name(words: &[String]) -> Option<&str> {
+    match read_words(words)? {
+        Job::Verify(_, _, log) => log,
+    }
+}

@@ -1,0 +1,113 @@
+// What is read before a derivation is checked, and what is said where that is refused.
+ghost use Rattle.std.specs.Prelude.{⊤, ◌≡◌, ◌⊎◌, ◌≤◌, IfOk, IfSome, length};
+ghost use Rattle.tptp_base.specs.Count.{Rose};
+ghost use Rattle.tptp_base.specs.Store.{HasFile};
+ghost use Rattle.plain_cnf.specs.Spelling.{SpellsProblem, SpellsDerivation};
+ghost use Rattle.tptp_tool.specs.Answer.{ending_of};
+ghost use Rattle.tptp_tool.specs.Ending;
+ghost use Rattle.tptp_tool.specs.Ending.{IsReadRefusal};
+ghost use Rattle.tptp_tool.specs.Stop.{HasCause, IfRefused, IfStopped};
+
+use crate::stop::{Answer, Halt, Stop};
+use plain_cnf::{Clause, PlainFault, Step, parse_derivation, parse_problem};
+use std::alloc::{AllocError, Global};
+use tptp_base::{FILE_SIZE, LimitName, List, ReadFault, Store, Text, read_whole};
+
+/// The bytes of a file. A file that is missing or over a limit is refused.
+pub fn read_text<S: Store>(
+    alloc: Global,
+    store: &mut S,
+    name: &str,
+    budget: u64,
+) -> Result<Text, Halt>
+    ensures whole { IfOk result (λ text. HasFile (S.files store.old) name.now (λ file. file ≡ text)) }
+    ensures in_budget { IfOk result (λ text. length text ≤ budget) }
+    ensures in_limit { IfOk result (λ text. length text ≤ FILE_SIZE) }
+    ensures refused { IfRefused result (λ answer. IfSome (S.files store.old) (λ files. IsReadRefusal files name.now budget (ending_of answer))) }
+    ensures status { IfRefused result (λ answer. (answer.status ≡ 3) ⊎ (answer.status ≡ 7)) }
+    ensures missing { IfRefused result (λ answer. answer.status ≡ 3 → Rose (S.absents store.old) (S.absents store.new)) }
+    ensures cause { IfStopped result (λ stop. HasCause stop (Rose (S.faults store.old) (S.faults store.new)) ⊥) }
+    ensures same_files { S.files store.new ≡ S.files store.old }
+    ensures more_absents { S.absents store.old ≤ S.absents store.new }
+    ensures more_faults { S.faults store.old ≤ S.faults store.new }
+{
+    match read_whole(alloc, store, name, budget) {
+        Ok(text) => Ok(text),
+        Err(ReadFault::Absent) => Err(Halt::Refused(no_such_file(alloc, name)?)),
+        Err(ReadFault::Limit(limit)) => Err(Halt::Refused(over_limit(alloc, name, limit)?)),
+        Err(ReadFault::Failed) => Err(Halt::Stopped(Stop::Store)),
+        Err(ReadFault::Memory) => Err(Halt::Stopped(Stop::Memory)),
+    }
+}
+
+/// The clauses that the text of a problem spells. A text that is not plain is refused.
+pub fn read_problem(alloc: Global, name: &str, text: &[u8]) -> Result<List<Clause>, Halt>
+    ensures spelled { IfOk result (λ clauses. SpellsProblem clauses text.now) }
+    ensures refused { IfRefused result (λ answer. ending_of answer ≡ Ending.not_built name.now) }
+    ensures cause { IfStopped result (λ stop. HasCause stop ⊥ ⊥) }
+{
+    match parse_problem(alloc, text) {
+        Ok(clauses) => Ok(clauses),
+        Err(PlainFault::NotYet) => Err(Halt::Refused(not_built(alloc, name)?)),
+        Err(PlainFault::Memory) => Err(Halt::Stopped(Stop::Memory)),
+    }
+}
+
+/// The steps that the text of a derivation spells. A text that is not plain is refused.
+pub fn read_derivation(
+    alloc: Global,
+    name: &str,
+    text: &[u8],
+    problem: &[Clause],
+) -> Result<List<Step>, Halt>
+    ensures spelled { IfOk result (λ steps. SpellsDerivation problem.now steps text.now) }
+    ensures refused { IfRefused result (λ answer. ending_of answer ≡ Ending.not_built name.now) }
+    ensures cause { IfStopped result (λ stop. HasCause stop ⊥ ⊥) }
+{
+    match parse_derivation(alloc, text, problem) {
+        Ok(steps) => Ok(steps),
+        Err(PlainFault::NotYet) => Err(Halt::Refused(not_built(alloc, name)?)),
+        Err(PlainFault::Memory) => Err(Halt::Stopped(Stop::Memory)),
+    }
+}
+
+// The name of a limit, as it is printed.
+fn limit_text(limit: LimitName) -> &'static str
+    ensures { result.now ≡ Ending.limit_text limit }
+{
+    match limit {
+        LimitName::FileSize => "file size",
+        LimitName::TotalSize => "total size",
+        LimitName::IncludeDepth => "include depth",
+        LimitName::Nesting => "nesting",
+        LimitName::Variables => "variables",
+        LimitName::Lines => "lines",
+        LimitName::Symbols => "symbols",
+        LimitName::Sorts => "sorts",
+    }
+}
+
+// A file that is missing.
+fn no_such_file(alloc: Global, name: &str) -> Result<Answer, AllocError>
+    ensures { IfOk result (λ answer. ending_of answer ≡ Ending.no_such_file name.now) }
+{
+    let text = format!(in alloc; "{name}: no such file\n")?;
+    Ok(Answer::new(3, text))
+}
+
+// A file that is over a limit.
+fn over_limit(alloc: Global, name: &str, limit: LimitName) -> Result<Answer, AllocError>
+    ensures { IfOk result (λ answer. ending_of answer ≡ Ending.over_limit name.now limit) }
+{
+    let reason = limit_text(limit);
+    let text = format!(in alloc; "{name}: limit {reason}\n")?;
+    Ok(Answer::new(7, text))
+}
+
+// A text that is not read yet.
+fn not_built(alloc: Global, name: &str) -> Result<Answer, AllocError>
+    ensures { IfOk result (λ answer. ending_of answer ≡ Ending.not_built name.now) }
+{
+    let text = format!(in alloc; "{name}: not built yet\n")?;
+    Ok(Answer::new(8, text))
+}

@@ -1,0 +1,116 @@
+// The whole of a run: words, files and sinks in, a status out.
+ghost use Rattle.std.specs.Prelude.{⊤, ◌≡◌, ◌⊎◌, ◌≤◌, ℕ, List, IfOk, IfErr, IfSome};
+ghost use Rattle.std.specs.declared.option.Option.{Option};
+ghost use Rattle.tptp_base.specs.Count.{Rose};
+ghost use Rattle.tptp_tool.specs.Answer.{ending_of, IsAnswerWithLog};
+ghost use Rattle.tptp_tool.specs.Ending;
+ghost use Rattle.tptp_tool.specs.Ending.{Ends};
+ghost use Rattle.tptp_tool.specs.Outcome.{IsAnswer, IsOutcome, IsRefutation, TakesSomeOfRunLog};
+ghost use Rattle.tptp_tool.specs.Stop.{HasCause, IfAnswer, IfStopped};
+ghost use Rattle.tptp_tool.specs.Words.{texts, Verify, IsForm};
+
+use crate::stop::{Answer, Halt, Stop};
+use crate::verify::verify;
+use crate::words::{Job, read_words};
+use std::alloc::Global;
+use tptp_base::{Sink, SinkFault, Store, Text, put_all};
+
+/// The greatest number of bytes that a run reads.
+pub const TOTAL_SIZE: u64 = 268_435_456;
+
+/// What is printed where the words have no form of a command.
+pub const USAGE: &str =
+    "usage: tptp [--root D] [--limit N] COMMAND\n  parse FILE\n  format FILE\n  verify PROBLEM DERIVATION [LOG]\n  check PROBLEM LOG\n  make N\n";
+
+/// Runs the command that the words ask for, and answers its status: 0 where it succeeded, 1 where the derivation is
+/// not verified, 2 where the words ask for nothing, 3 where a file is missing, 4 where the store failed, 5 where a sink
+/// failed, 6 where memory is wanting, 7 where a limit is passed, 8 where a text is not read yet. All that it reads
+/// comes from the store, and all that it writes goes to the two sinks.
+pub fn run_tptp<S: Store, O: Sink, L: Sink>(
+    alloc: Global,
+    words: &[String],
+    store: &mut S,
+    out: &mut O,
+    log: &mut L,
+) -> u8
+    // What the status says and the sinks have taken, where the store tells its files.
+    ensures outcome { IfSome (S.files store.old) (λ files. IsOutcome files (texts words.now) result
+        (O.taken out.old) (O.taken out.new) (L.taken log.old) (L.taken log.new)) }
+
+    // The log of a success is a list of legal entries that leads from the problem to falsehood.
+    ensures sound { result ≡ 0 → IfSome (S.files store.old) (λ files. (problem derivation : List ℕ) (named : Option (List ℕ))
+        → IsForm (texts words.now) (Verify problem derivation named) → IsRefutation files problem (L.taken log.old) (L.taken log.new)) }
+
+    // Over any store: an answer, or a fault of the outside in this call, or want of memory.
+    ensures status { IsAnswer result ⊎ ((4 ≤ result) × (result ≤ 6)) }
+    ensures missing { result ≡ 3 → Rose (S.absents store.old) (S.absents store.new) }
+    ensures store_fault { result ≡ 4 → Rose (S.faults store.old) (S.faults store.new) }
+    ensures sink_fault { result ≡ 5 → Rose (O.faults out.old) (O.faults out.new) ⊎ Rose (L.faults log.old) (L.faults log.new) }
+{
+    match answer_words(alloc, words, store, log) {
+        Ok(answer) => match put_all(out, answer.text.as_slice()) {
+            Ok(()) => answer.status,
+            Err(SinkFault::Failed) => 5,
+            Err(SinkFault::Memory) => 6,
+        },
+        Err(Stop::Store) => 4,
+        Err(Stop::Sink) => 5,
+        Err(Stop::Memory) => 6,
+    }
+}
+
+// The answer to the words, before it is written to out. A refusal is an answer too.
+fn answer_words<S: Store, L: Sink>(
+    alloc: Global,
+    words: &[String],
+    store: &mut S,
+    log: &mut L,
+) -> Result<Answer, Stop>
+    ensures ends { IfOk result (λ answer. IfSome (S.files store.old) (λ files.
+        IsAnswerWithLog (Ends files (texts words.now)) answer (L.taken log.old) (L.taken log.new))) }
+    ensures status { IfOk result (λ answer. IsAnswer answer.status) }
+    ensures missing { IfOk result (λ answer. answer.status ≡ 3 → Rose (S.absents store.old) (S.absents store.new)) }
+    ensures cause { IfErr result (λ stop. HasCause stop
+        ((L.taken log.new ≡ L.taken log.old) × Rose (S.faults store.old) (S.faults store.new))
+        (Rose (L.faults log.old) (L.faults log.new))) }
+    ensures log { IfSome (S.files store.old) (λ files. TakesSomeOfRunLog files (texts words.now) (L.taken log.old) (L.taken log.new)) }
+{
+    match run_words(alloc, words, store, log) {
+        Ok(answer) => Ok(answer),
+        Err(Halt::Refused(answer)) => Ok(answer),
+        Err(Halt::Stopped(stop)) => Err(stop),
+    }
+}
+
+// Does what the words ask for.
+fn run_words<S: Store, L: Sink>(
+    alloc: Global,
+    words: &[String],
+    store: &mut S,
+    log: &mut L,
+) -> Result<Answer, Halt>
+    ensures ends { IfAnswer result (λ answer. IfSome (S.files store.old) (λ files.
+        IsAnswerWithLog (Ends files (texts words.now)) answer (L.taken log.old) (L.taken log.new))) }
+    ensures status { IfAnswer result (λ answer. IsAnswer answer.status) }
+    ensures missing { IfAnswer result (λ answer. answer.status ≡ 3 → Rose (S.absents store.old) (S.absents store.new)) }
+    ensures cause { IfStopped result (λ stop. HasCause stop
+        ((L.taken log.new ≡ L.taken log.old) × Rose (S.faults store.old) (S.faults store.new))
+        (Rose (L.faults log.old) (L.faults log.new))) }
+    ensures log { IfSome (S.files store.old) (λ files. TakesSomeOfRunLog files (texts words.now) (L.taken log.old) (L.taken log.new)) }
+{
+    match read_words(words) {
+        Some(Job::Verify(problem, derivation, _)) => verify(alloc, store, log, problem, derivation),
+        None => usage(alloc),
+    }
+}
+
+// The usage text.
+fn usage(alloc: Global) -> Result<Answer, Halt>
+    ensures answer { IfAnswer result (λ answer. ending_of answer ≡ Ending.says 2 USAGE.now) }
+    ensures cause { IfStopped result (λ stop. HasCause stop ⊥ ⊥) }
+{
+    Ok(Answer {
+        status: 2,
+        text: Text::from_slice(alloc, USAGE.as_bytes())?,
+    })
+}
