@@ -57,8 +57,14 @@ fn texts_of_each_kind_are_read(rt: HostRuntime) -> Result<(), Fail> {
         ("tff(f,type,f: (s * $i) > $o).", "items 1"),
         ("tff(a,axiom,! [X: s,Y: $i,Z] : p(X,Y,Z)).", "items 1"),
         ("include('A.ax'). include('A.ax',[a,'b c',7]).", "items 2"),
-        ("fof(c,plain,p,inference(r,[status(thm)],[a,b:[c]])).", "items 1"),
-        ("fof(c,plain,p,file('P.p',a),[\"x\",1.5,X,$fof(p & q),$fot(f(X))]).", "items 1"),
+        (
+            "fof(c,plain,p,inference(r,[status(thm)],[a,b:[c]])).",
+            "items 1",
+        ),
+        (
+            "fof(c,plain,p,file('P.p',a),[\"x\",1.5,X,$fof(p & q),$fot(f(X))]).",
+            "items 1",
+        ),
         ("fof(a,axiom,p /* b */ ,unknown,[]).", "items 1"),
     ];
     for (text, want) in rows {
@@ -106,9 +112,17 @@ fn nesting_is_read_through_250(rt: HostRuntime) -> Result<(), Fail> {
     let alloc = rt.alloc();
     for (open, close) in [("~", ""), ("(", ")")] {
         let most = nested(alloc, open, close, 250)?;
-        assert_eq!(rt; answer(alloc, most.as_str())?.as_str(), "items 1", "at {open}");
+        assert_eq!(rt;
+            answer(alloc, most.as_str())?.as_str(),
+            "items 1",
+            "at {open}"
+        );
         let more = nested(alloc, open, close, 251)?;
-        assert_eq!(rt; answer(alloc, more.as_str())?.as_str(), "deep 263", "at {open}");
+        assert_eq!(rt;
+            answer(alloc, more.as_str())?.as_str(),
+            "deep 263",
+            "at {open}"
+        );
     }
     Ok(())
 }
