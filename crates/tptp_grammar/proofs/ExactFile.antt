@@ -1,5 +1,5 @@
 -- What the reader of all tokens answers: the items that are spelled, or the first fault.
-use Rattle.std.proofs.Common.{◌≡◌, true, false, if◌then◌else◌, ℕ, zero, suc, ◌+◌, ◌-◌, List, [], ◌∷◌, ◌++◌, length, Ok, Err, ◌⊎◌, inl, inr, refl, sym, ◌∙◌, ap, subst, length-append, arith}
+use Rattle.std.proofs.Common.{◌≡◌, true, false, if◌then◌else◌, ℕ, zero, suc, ◌-◌, List, [], ◌∷◌, ◌++◌, length, Ok, Err, ◌⊎◌, inl, inr, refl, sym, ◌∙◌, ap, subst, length-append, arith}
 use Rattle.first_fault.specs.Nesting.{plain, Within, WithinTo, done, before, FirstOver}
 use Rattle.first_fault.specs.Reading.{Cause, TooDeep}
 use Rattle.first_fault.proofs.Exact.{plain-append}

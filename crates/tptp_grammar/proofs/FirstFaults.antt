@@ -1,5 +1,5 @@
 -- What the reader of all tokens answers comes with a derivation, or with a way to go on from before the fault.
-use Rattle.std.proofs.Common.{◌≡◌, Bool, true, false, if◌then◌else◌, ℕ, zero, suc, ◌+◌, ◌-◌, ◌≤◌, ◌<◌, List, [], ◌∷◌, ◌++◌, length, Ok, Err, refl, sym, ◌∙◌, ap, subst, append_assoc, append-nil, length-append, arith}
+use Rattle.std.proofs.Common.{◌≡◌, Bool, true, false, if◌then◌else◌, ℕ, zero, suc, ◌≤◌, ◌<◌, List, [], ◌∷◌, ◌++◌, length, Ok, Err, refl, sym, ◌∙◌, ap, subst, append_assoc, append-nil, length-append, arith}
 use Rattle.first_fault.specs.Nesting.{Nested, plain, Within}
 use Rattle.first_fault.specs.Reading.{Cause, Unexpected, TooDeep, Outcome, next}
 use Rattle.first_fault.proofs.Exact.{Exact, Over, within-append, plain-append, by_next}
