@@ -1,0 +1,5 @@
+pub mod Exact
+pub mod Found
+pub mod Good
+pub mod Separated
+pub mod Loops

@@ -1,0 +1,451 @@
+-- What the reader of all tokens answers comes with a derivation, or with a way to go on from before the fault.
+use Rattle.std.proofs.Common.{◌≡◌, Bool, true, false, if◌then◌else◌, ℕ, zero, suc, ◌≤◌, ◌<◌, List, [], ◌∷◌, ◌++◌, length, Ok, Err, refl, sym, ◌∙◌, ap, subst, append_assoc, append-nil, length-append, arith}
+use Rattle.first_fault.specs.Nesting.{Nested, plain, Within}
+use Rattle.first_fault.specs.Reading.{Cause, Unexpected, TooDeep, Outcome, next}
+use Rattle.first_fault.proofs.Exact.{Exact, Over, within-append, plain-append, by_next}
+use Rattle.tptp_lexer.specs.declared.token.Token.{Token}
+use Rattle.tptp_lexer.specs.declared.token.Token.TheVariants.{Comment}
+use Rattle.tptp_base.specs.declared.place.Place.{Place}
+use Rattle.tptp_base.specs.declared.item.Item.{Item}
+use Rattle.tptp_base.specs.declared.item.Item.TheVariants as it
+use Rattle.tptp_grammar.specs.Tokens.{Text, Tokens}
+use Rattle.tptp_grammar.specs.Items as g
+use Rattle.tptp_grammar.specs.Items.{IsItem}
+use Rattle.tptp_grammar.specs.Solid.{Placed, is_comment, is_remark, solid, BeginsSolid}
+use Rattle.tptp_grammar.specs.Files.{Through, last_token, token, IsFile, end_of_file, comment, input, SpellsWithin}
+use Rattle.tptp_grammar.specs.ReadItems.{item}
+use Rattle.tptp_grammar.specs.ReadFile.{FileOutcome, with_item, file}
+use Rattle.tptp_grammar.proofs.SolidItems.{SolidTo, none, one, of_item}
+use Rattle.tptp_grammar.proofs.ExactItems.{good_item}
+use Rattle.tptp_grammar.proofs.ExactFile.{Ends, ends_here, ends_drop, ends_keep, comment_text, solid_kept, solid_dropped, solid_ends, through_drop, through_of, item_read, item_fails, started_comment}
+
+-- ---- tokens between comments
+
+-- a list whose tokens but comments are these
+data Holds : List Placed → Tokens → Type 0 where
+  holds_none : Holds [] []
+  holds_drop : {t : Token} {place : Place} {fr : List Placed} {us : Tokens} → is_comment t ≡ true → Holds fr us → Holds ((t, place) ∷ fr) us
+  holds_keep : {t : Token} {place : Place} {n : ℕ} {fr : List Placed} {us : Tokens} → is_comment t ≡ false → Holds fr us → Holds ((t, place) ∷ fr) ((t, n) ∷ us)
+
+holds_both : {fr x : List Placed} {us vs : Tokens} → Holds fr us → Holds x vs → Holds (fr ++ x) (us ++ vs)
+holds_both holds_none k = k
+holds_both (holds_drop e h) k = holds_drop e (holds_both h k)
+holds_both (holds_keep e h) k = holds_keep e (holds_both h k)
+
+solid_holds : {fr : List Placed} {us : Tokens} → Holds fr us → (x : List Placed) → solid (fr ++ x) ≡ plain us ++ solid x
+solid_holds holds_none x = refl
+solid_holds (holds_drop {t = t} {place = place} {fr = fr} e h) x = solid_dropped t place (fr ++ x) e ∙ solid_holds h x
+solid_holds (holds_keep {t = t} {place = place} {fr = fr} e h) x = solid_kept t place (fr ++ x) e ∙ ap (λ l. t ∷ l) (solid_holds h x)
+
+-- the tokens, all at one place
+placed : Place → Tokens → List Placed
+placed place [] = []
+placed place (u ∷ us) = (u.0, place) ∷ placed place us
+
+holds_placed : {ts rest : Tokens} → (place : Place) → SolidTo ts rest → rest ≡ [] → Holds (placed place ts) ts
+unfolding placed
+holds_placed {ts = ts} place none e = subst (λ l. Holds (placed place l) l) (sym e) holds_none
+holds_placed place (one e h) k = holds_keep e (holds_placed place h k)
+
+-- comments are a file
+data Remarks : List Placed → Type 0 where
+  no_remark : Remarks []
+  remark : {t : Token} {place : Place} {rest : List Placed} → is_comment t ≡ true → Remarks rest → Remarks ((t, place) ∷ rest)
+
+record Rest (raw : List Placed) : Type 0 where
+  items : List Item
+  spells : IsFile items raw []
+
+remark_file : (t : Token) (place : Place) (rest : List Placed) (items : List Item) → is_comment t ≡ true → IsFile items rest [] → Rest ((t, place) ∷ rest)
+remark_file t place rest items e h =
+    let c = comment_text t e in
+    let here : Rest ((Comment c.0, place) ∷ rest) = record { items = it.Comment c.0 ∷ items; spells = comment h } in subst (λ u. Rest ((u, place) ∷ rest)) (sym c.1) here
+
+rest_of : {raw : List Placed} → Remarks raw → Rest raw
+rest_of no_remark = record { items = []; spells = end_of_file }
+rest_of (remark {t = t} {place = place} {rest = rest} e h) = let r = rest_of h in remark_file t place rest r.items e r.spells
+
+-- the list through its last token
+record Last (raw : List Placed) (us : Tokens) : Type 0 where
+  rest : List Placed
+  through : Through raw rest us []
+  others : Remarks rest
+
+remarks_of : {fr : List Placed} {us : Tokens} → Holds fr us → us ≡ [] → Remarks fr
+remarks_of holds_none e = no_remark
+remarks_of (holds_drop e h) k = remark e (remarks_of h k)
+remarks_of (holds_keep e h) k = cc
+
+last_of_keep : {fr : List Placed} (t : Token) (place : Place) (n : ℕ) (us : Tokens) → is_comment t ≡ false → Holds fr us → ((u : Nested Token) (more : Tokens) → us ≡ u ∷ more → Last fr us) → (vs : Tokens) → us ≡ vs → Last ((t, place) ∷ fr) ((t, n) ∷ us)
+last_of_keep {fr = fr} t place n us e h again [] k = subst (λ l. Last ((t, place) ∷ fr) ((t, n) ∷ l)) (sym k) (record { rest = fr; through = last_token e; others = remarks_of h k })
+last_of_keep t place n us e h again (u ∷ more) k = let l = again u more k in record { rest = l.rest; through = token e l.through; others = l.others }
+
+last_of : {fr : List Placed} {us : Tokens} → Holds fr us → (u : Nested Token) (more : Tokens) → us ≡ u ∷ more → Last fr us
+last_of holds_none u more k = cc
+last_of (holds_drop {t = t} {place = place} {fr = fr} {us = us} e h) u more k = let l = last_of h u more k in record { rest = l.rest; through = through_drop t place fr l.rest us [] e l.through; others = l.others }
+last_of (holds_keep {t = t} {place = place} {n = n} {fr = fr} {us = us} e h) u more k = last_of_keep t place n us e h (last_of h) us refl
+
+-- an item has a second token
+record Second (us : Tokens) : Type 0 where
+  head : Nested Token
+  more : Tokens
+  is : us ≡ head ∷ more
+
+tail_of : Tokens → Tokens
+tail_of [] = []
+tail_of (t ∷ ts) = ts
+
+second_of : {place : Place} {i : Item} {ts rest : Tokens} → IsItem place i ts rest → (t : Nested Token) (us : Tokens) → ts ≡ t ∷ us → Second us
+unfolding tail_of
+second_of (g.annotated {ts = ts} e h j k x) t us is = record { head = _; more = ts; is = sym (ap tail_of is) }
+second_of (g.include {f = f} {ts = ts} e h) t us is = record { head = _; more = _; is = sym (ap tail_of is) }
+
+-- the item, and the comments behind it
+record Whole (raw : List Placed) (us : Tokens) : Type 0 where
+  items : List Item
+  spells : IsFile items raw us
+
+whole_of : (place : Place) (i : Item) (t : Token) (n : ℕ) (raw : List Placed) (us : Tokens) → IsItem place i ((t, n) ∷ us) [] → Holds raw us → Whole ((t, place) ∷ raw) ((t, n) ∷ us)
+whole_of place i t n raw us h k =
+    let s = second_of h (t, n) us refl in
+    let l = last_of k s.head s.more s.is in
+    let r = rest_of l.others in
+    record { items = i ∷ r.items; spells = input h l.through r.spells }
+
+-- ---- what was read, found among the comments
+
+-- the tokens before the rest, through the last of them
+record Taken (raw : List Placed) (us : Tokens) (left : List Token) : Type 0 where
+  fr : List Placed
+  rest : List Placed
+  text : raw ≡ fr ++ rest
+  ends : Ends fr us
+  left_is : solid rest ≡ left
+
+-- the tokens before the rest, and the comments behind them
+record Passed (raw : List Placed) (us : Tokens) (left : List Token) : Type 0 where
+  fr : List Placed
+  rest : List Placed
+  text : raw ≡ fr ++ rest
+  holds : Holds fr us
+  begins : BeginsSolid rest
+  left_is : solid rest ≡ left
+
+module _ (left : List Token) where
+  -- at a token that is no comment
+  taken_keep : (t : Token) (place : Place) (raw : List Placed) (n : ℕ) (us : Tokens) → is_comment t ≡ false → solid raw ≡ plain us ++ left → ((u : Nested Token) (more : Tokens) → us ≡ u ∷ more → Taken raw us left) → (vs : Tokens) → us ≡ vs → Taken ((t, place) ∷ raw) ((t, n) ∷ us) left
+  taken_keep t place raw n us e k again [] is =
+      subst (λ l. Taken ((t, place) ∷ raw) ((t, n) ∷ l) left) (sym is) (record { fr = (t, place) ∷ []; rest = raw; text = refl; ends = ends_here e; left_is = subst (λ l. solid raw ≡ plain l ++ left) is k })
+  taken_keep t place raw n us e k again (u ∷ more) is = let r = again u more is in record { fr = (t, place) ∷ r.fr; rest = r.rest; text = ap (λ l. (t, place) ∷ l) r.text; ends = ends_keep e r.ends; left_is = r.left_is }
+
+  taken_at : (b : Bool) (t : Token) (place : Place) (raw : List Placed) (u : Nested Token) (us : Tokens) → is_comment t ≡ b → solid ((t, place) ∷ raw) ≡ u.0 ∷ (plain us ++ left)
+      → ((v : Nested Token) (vs : Tokens) → solid raw ≡ v.0 ∷ (plain vs ++ left) → Taken raw (v ∷ vs) left) → Taken ((t, place) ∷ raw) (u ∷ us) left
+  taken_at true t place raw u us e k again =
+      let r = again u us (sym (solid_dropped t place raw e) ∙ k) in record { fr = (t, place) ∷ r.fr; rest = r.rest; text = ap (λ l. (t, place) ∷ l) r.text; ends = ends_drop e r.ends; left_is = r.left_is }
+  taken_at false t place raw u us e k again =
+      let both : t ∷ solid raw ≡ u.0 ∷ (plain us ++ left) = sym (solid_kept t place raw e) ∙ k in
+      let same : t ≡ u.0 = cc in
+      let others : solid raw ≡ plain us ++ left = cc in
+      subst (λ v. Taken ((t, place) ∷ raw) ((v, u.1) ∷ us) left) same (taken_keep t place raw u.1 us e others (λ v vs is. subst (λ l. Taken raw l left) (sym is) (again v vs (others ∙ ap (λ l. plain l ++ left) is))) us refl)
+
+  taken : (raw : List Placed) (u : Nested Token) (us : Tokens) → solid raw ≡ u.0 ∷ (plain us ++ left) → Taken raw (u ∷ us) left
+  taken [] u us e = cc
+  taken (entry ∷ raw) u us e = taken_at (is_comment entry.0) entry.0 entry.1 raw u us refl e (λ v vs k. taken raw v vs k)
+
+  passed_drop : (t : Token) (place : Place) (raw : List Placed) (us : Tokens) → is_comment t ≡ true → Passed raw us left → Passed ((t, place) ∷ raw) us left
+  passed_drop t place raw us e r = record { fr = (t, place) ∷ r.fr; rest = r.rest; text = ap (λ l. (t, place) ∷ l) r.text; holds = holds_drop e r.holds; begins = r.begins; left_is = r.left_is }
+
+  passed_at : (b : Bool) (t : Token) (place : Place) (raw : List Placed) (us : Tokens) → is_comment t ≡ b → solid ((t, place) ∷ raw) ≡ plain us ++ left → ((vs : Tokens) → solid raw ≡ plain vs ++ left → Passed raw vs left) → Passed ((t, place) ∷ raw) us left
+  passed_at true t place raw us e k again = passed_drop t place raw us e (again us (sym (solid_dropped t place raw e) ∙ k))
+  passed_at false t place raw [] e k again = record { fr = []; rest = (t, place) ∷ raw; text = refl; holds = holds_none; begins = e; left_is = k }
+  passed_at false t place raw (u ∷ us) e k again =
+      let both : t ∷ solid raw ≡ u.0 ∷ (plain us ++ left) = sym (solid_kept t place raw e) ∙ k in
+      let same : t ≡ u.0 = cc in
+      let others : solid raw ≡ plain us ++ left = cc in
+      let r = again us others in
+      let here : Passed ((t, place) ∷ raw) ((t, u.1) ∷ us) left = record { fr = (t, place) ∷ r.fr; rest = r.rest; text = ap (λ l. (t, place) ∷ l) r.text; holds = holds_keep e r.holds; begins = r.begins; left_is = r.left_is } in
+      subst (λ v. Passed ((t, place) ∷ raw) ((v, u.1) ∷ us) left) same here
+
+  passed_end : (us : Tokens) → [] ≡ plain us ++ left → Passed [] us left
+  passed_end [] k = record { fr = []; rest = []; text = refl; holds = holds_none; begins = tt; left_is = k }
+  passed_end (u ∷ us) k = cc
+
+  passed : (raw : List Placed) (us : Tokens) → solid raw ≡ plain us ++ left → Passed raw us left
+  passed [] us e = passed_end us e
+  passed (entry ∷ raw) us e = passed_at (is_comment entry.0) entry.0 entry.1 raw us refl e (λ vs k. passed raw vs k)
+
+-- ---- what an outcome says
+
+-- the fault's token is over the limit in the text that goes on from there
+pub record DeepHere (room : ℕ) (rest more : List Placed) (later : Tokens) : Type 0 where
+  pub token : Token
+  pub place : Place
+  pub level : ℕ
+  pub others : List Placed
+  pub others_more : List Placed
+  pub others_later : Tokens
+  pub rest_is : rest ≡ (token, place) ∷ others
+  pub more_is : more ≡ (token, place) ∷ others_more
+  pub later_is : later ≡ (token, level) ∷ others_later
+  pub deep : room < level
+
+abbrev pub FileOver : Cause → ℕ → List Placed → List Placed → Tokens → Type 0
+FileOver Unexpected room rest more later = Unit {0}
+FileOver TooDeep room rest more later = DeepHere room rest more later
+
+pub record FileFault (room : ℕ) (raw : List Placed) (cause : Cause) (left : List Token) : Type 0 where
+  pub front : List Placed
+  pub rest : List Placed
+  pub text : raw ≡ front ++ rest
+  pub begins : BeginsSolid rest
+  pub left_is : solid rest ≡ left
+  pub seen : Tokens
+  pub same : plain seen ≡ solid front
+  pub within : Within room seen
+  pub items : List Item
+  pub more : List Placed
+  pub later : Tokens
+  pub spells : IsFile items (front ++ more) (seen ++ later)
+  pub over : FileOver cause room rest more later
+  pub again : (other : List Placed) → next other ≡ next rest → file room (front ++ other) ≡ Err (cause, solid other)
+
+abbrev pub FileSays : ℕ → List Placed → FileOutcome → Type 0
+FileSays room raw (Ok items) = SpellsWithin room items raw
+FileSays room raw (Err f) = FileFault room raw f.0 f.1
+
+next_at : (b : Bool) (c : Placed) (us vs : List Token) → next us ≡ next vs → next (if b then us else c.0 ∷ us) ≡ next (if b then vs else c.0 ∷ vs)
+next_at true c us vs e = e
+next_at false c us vs e = refl
+
+next_solid : (front other rest : List Placed) → BeginsSolid rest → next other ≡ next rest → next (solid (front ++ other)) ≡ next (solid (front ++ rest))
+next_solid [] [] [] h e = refl
+next_solid [] (a ∷ other) [] h e = cc
+next_solid [] [] (b ∷ rest) h e = cc
+next_solid [] (a ∷ other) (b ∷ rest) h e =
+    let same : a ≡ b = cc in
+    let first : solid (b ∷ other) ≡ b.0 ∷ solid other = ap (λ k. if k then solid other else b.0 ∷ solid other) h in
+    let second : solid (b ∷ rest) ≡ b.0 ∷ solid rest = ap (λ k. if k then solid rest else b.0 ∷ solid rest) h in
+    ap (λ c. next (solid (c ∷ other))) same ∙ ap next first ∙ sym (ap next second)
+next_solid (c ∷ front) other rest h e = next_at (is_remark c) c (solid (front ++ other)) (solid (front ++ rest)) (next_solid front other rest h e)
+
+-- ---- a comment, and what follows it
+
+module _ (room : ℕ) (text : Text) (place : Place) (rest : List Placed) where
+  after_comment : (o : FileOutcome) → FileSays room rest o → FileSays room ((Comment text, place) ∷ rest) (with_item (it.Comment text) o)
+  after_comment (Ok items) h = (h.0, comment h.1, h.2)
+  after_comment (Err f) h = record {
+    front = (Comment text, place) ∷ h.front;
+    rest = h.rest;
+    text = ap (λ l. (Comment text, place) ∷ l) h.text;
+    begins = h.begins;
+    left_is = h.left_is;
+    seen = h.seen;
+    same = h.same;
+    within = h.within;
+    items = it.Comment text ∷ h.items;
+    more = h.more;
+    later = h.later;
+    spells = comment h.spells;
+    over = h.over;
+    again = λ other e. started_comment room text place (h.front ++ other) ∙ ap (with_item (it.Comment text)) (h.again other e);
+  }
+
+-- ---- an item, and what follows it
+
+pub some_item : {place : Place} {i : Item} {ts rest : Tokens} → IsItem place i ts rest → ts ≡ [] → ⊥
+some_item (g.annotated e h j k x) is = cc
+some_item (g.include e h) is = cc
+
+module _ (room : ℕ) (t : Token) (place : Place) (kept : is_comment t ≡ false) (n : ℕ) (us : Tokens) (i : Item) (fits : Within room ((t, n) ∷ us)) (spells : (after : Tokens) → IsItem place i ((t, n) ∷ (us ++ after)) after) (left : List Token)
+    (again : (other : List Token) → next other ≡ next left → item room place (t ∷ (plain us ++ other)) ≡ Ok (i, other)) where
+  module _ (fr rest : List Placed) (ends : Ends fr us) (left_is : solid rest ≡ left) where
+    read_step : (x : List Placed) → next (solid x) ≡ next left → file room ((t, place) ∷ (fr ++ x)) ≡ with_item i (file room x)
+    read_step x e = item_read room t place fr x us i kept ends (ap (λ l. item room place (t ∷ l)) (solid_ends ends x) ∙ again (solid x) e)
+
+    add_item : (o : FileOutcome) → FileSays room rest o → FileSays room ((t, place) ∷ (fr ++ rest)) (with_item i o)
+    add_item (Ok items) h = ((t, n) ∷ (us ++ h.0), input (spells h.0) (through_of ends rest h.0) h.1, (fits.0, within-append room us h.0 fits.1 h.2))
+    add_item (Err f) h = record {
+      front = (t, place) ∷ (fr ++ h.front);
+      rest = h.rest;
+      text = ap (λ l. (t, place) ∷ l) (ap (λ l. fr ++ l) h.text ∙ sym (append_assoc fr h.front h.rest));
+      begins = h.begins;
+      left_is = h.left_is;
+      seen = (t, n) ∷ (us ++ h.seen);
+      same = ap (λ l. t ∷ l) (plain-append us h.seen ∙ ap (λ l. plain us ++ l) h.same ∙ sym (solid_ends ends h.front)) ∙ sym (solid_kept t place (fr ++ h.front) kept);
+      within = (fits.0, within-append room us h.seen fits.1 h.within);
+      items = i ∷ h.items;
+      more = h.more;
+      later = h.later;
+      spells = subst (λ l. IsFile (i ∷ h.items) ((t, place) ∷ l) ((t, n) ∷ ((us ++ h.seen) ++ h.later))) (sym (append_assoc fr h.front h.more))
+          (subst (λ l. IsFile (i ∷ h.items) ((t, place) ∷ (fr ++ (h.front ++ h.more))) ((t, n) ∷ l)) (sym (append_assoc us h.seen h.later)) (input (spells (h.seen ++ h.later)) (through_of ends (h.front ++ h.more) (h.seen ++ h.later)) h.spells));
+      over = h.over;
+      again = λ other e.
+          ap (λ l. file room ((t, place) ∷ l)) (append_assoc fr h.front other)
+          ∙ read_step (h.front ++ other) (next_solid h.front other h.rest h.begins e ∙ ap (λ l. next (solid l)) (sym h.text) ∙ ap next left_is)
+          ∙ ap (with_item i) (h.again other e);
+    }
+
+  nonempty : Second us
+  nonempty = let s = second_of (spells []) (t, n) (us ++ []) refl in record { head = s.head; more = s.more; is = sym (append-nil us) ∙ s.is }
+
+  taken_us : (raw : List Placed) → solid raw ≡ plain us ++ left → Taken raw us left
+  taken_us raw e = let s = nonempty in subst (λ l. Taken raw l left) (sym s.is) (taken left raw s.head s.more (e ∙ ap (λ l. plain l ++ left) s.is))
+
+  after_item : (raw : List Placed) → solid raw ≡ plain us ++ left → ((x : List Placed) → length x ≤ length raw → FileSays room x (file room x)) → FileSays room ((t, place) ∷ raw) (file room ((t, place) ∷ raw))
+  after_item raw e ih =
+      let k = taken_us raw e in
+      let shorter : length k.rest ≤ length raw = omega (arith, ap length k.text, length-append k.fr k.rest) in
+      let whole : FileSays room ((t, place) ∷ (k.fr ++ k.rest)) (file room ((t, place) ∷ (k.fr ++ k.rest))) =
+      subst (FileSays room ((t, place) ∷ (k.fr ++ k.rest))) (sym (read_step k.fr k.rest k.ends k.left_is k.rest (ap next k.left_is))) (add_item k.fr k.rest k.ends k.left_is (file room k.rest) (ih k.rest shorter)) in
+      subst (λ l. FileSays room ((t, place) ∷ l) (file room ((t, place) ∷ l))) (sym k.text) whole
+
+-- ---- a fault in an item
+
+place_or : Place → List Placed → Place
+place_or place [] = place
+place_or place (entry ∷ rest) = entry.1
+
+rest_head : (place : Place) (rest : List Placed) (u : Token) (others : List Token) → BeginsSolid rest → solid rest ≡ u ∷ others → (more : List Placed) × (rest ≡ (u, place_or place rest) ∷ more)
+unfolding place_or
+rest_head place [] u others h e = cc
+rest_head place (entry ∷ rest) u others h e =
+    let both : entry.0 ∷ solid rest ≡ u ∷ others = sym (solid_kept entry.0 entry.1 rest h) ∙ e in
+    let same : entry.0 ≡ u = cc in
+    (rest, ap (λ v. (v, entry.1) ∷ rest) same)
+
+solid_tail : {ts rest : Tokens} → SolidTo ts rest → (u : Nested Token) (us : Tokens) → ts ≡ u ∷ us → rest ≡ [] → SolidTo us []
+solid_tail none u us e k = let no_token : u ∷ us ≡ [] = sym e ∙ k in cc
+solid_tail (one {ts = ts} {rest = rest} i h) u us e k = let same : ts ≡ us = cc in subst (λ l. SolidTo us l) k (subst (λ l. SolidTo l rest) same h)
+
+solid_behind : (us vs : Tokens) → SolidTo (us ++ vs) [] → SolidTo vs []
+solid_behind [] vs h = h
+solid_behind (u ∷ us) vs h = solid_behind us vs (solid_tail h u (us ++ vs) refl refl)
+
+whole_placed : (place : Place) (i : Item) (vs : Tokens) → IsItem place i vs [] → Whole (placed place vs) vs
+unfolding placed
+whole_placed place i [] h = absurd (some_item h refl)
+whole_placed place i (v ∷ vs) h = whole_of place i v.0 v.1 (placed place vs) vs h (holds_placed place (solid_tail (of_item h) v vs refl refl) refl)
+
+module _ (room : ℕ) (t : Token) (place : Place) (kept : is_comment t ≡ false) (raw : List Placed) (cause : Cause) (left : List Token) (value : Item) (on : Tokens → Tokens) where
+  over_here : (left ≡ t ∷ solid raw) → (c : Cause) → Over c room left on → FileOver c room ((t, place) ∷ raw) (placed place (on [])) (on [])
+  unfolding placed
+  over_here is Unexpected h = tt
+  over_here is TooDeep h =
+      let both : t ∷ solid raw ≡ h.token ∷ h.others = sym is ∙ h.is in
+      let same : t ≡ h.token = cc in record {
+        token = h.token;
+        place = place;
+        level = h.level;
+        others = raw;
+        others_more = placed place (h.later []);
+        others_later = h.later [];
+        rest_is = ap (λ u. (u, place) ∷ raw) same;
+        more_is = ap (placed place) (h.begins []);
+        later_is = h.begins [];
+        deep = h.deep;
+      }
+
+  fault_here : left ≡ t ∷ solid raw → ((after : Tokens) → IsItem place value (on after) after) → Over cause room left on → ((other : List Token) → next other ≡ next left → item room place other ≡ Err (cause, other)) → FileFault room ((t, place) ∷ raw) cause left
+  fault_here is spells over again =
+      let w = whole_placed place value (on []) (spells []) in record {
+        front = [];
+        rest = (t, place) ∷ raw;
+        text = refl;
+        begins = kept;
+        left_is = solid_kept t place raw kept ∙ sym is;
+        seen = [];
+        same = refl;
+        within = tt;
+        items = w.items;
+        more = placed place (on []);
+        later = on [];
+        spells = w.spells;
+        over = over_here is cause over;
+        again = λ other e. by_next (t, place) (λ o. file room o ≡ Err (cause, solid o)) (λ o.
+            item_fails room t place o (cause, t ∷ solid o) kept (again (t ∷ solid o) (ap next (sym is))) ∙ ap (λ l. Err (cause, l)) (sym (solid_kept t place o kept))) other e;
+      }
+
+  module _ (n : ℕ) (us : Tokens) (fits : Within room ((t, n) ∷ us)) (others : solid raw ≡ plain us ++ left) where
+    over_behind : (p : Passed raw us left) (c : Cause) → Over c room left on → FileOver c room p.rest (placed (place_or place p.rest) (on [])) (on [])
+    unfolding placed
+    over_behind p Unexpected h = tt
+    over_behind p TooDeep h =
+        let r = rest_head place p.rest h.token h.others p.begins (p.left_is ∙ h.is) in record {
+          token = h.token;
+          place = place_or place p.rest;
+          level = h.level;
+          others = r.0;
+          others_more = placed (place_or place p.rest) (h.later []);
+          others_later = h.later [];
+          rest_is = r.1;
+          more_is = ap (placed (place_or place p.rest)) (h.begins []);
+          later_is = h.begins [];
+          deep = h.deep;
+        }
+
+    fault_behind : ((after : Tokens) → IsItem place value ((t, n) ∷ (us ++ on after)) after) → Over cause room left on → ((other : List Token) → next other ≡ next left → item room place (t ∷ (plain us ++ other)) ≡ Err (cause, other))
+        → FileFault room ((t, place) ∷ raw) cause left
+    fault_behind spells over again =
+        let p = passed left raw us others in
+        let q = place_or place p.rest in
+        let solid_on : SolidTo (on []) [] = solid_behind us (on []) (solid_tail (of_item (spells [])) (t, n) (us ++ on []) refl refl) in
+        let w = whole_of place value t n (p.fr ++ placed q (on [])) (us ++ on []) (spells []) (holds_both p.holds (holds_placed q solid_on refl)) in record {
+          front = (t, place) ∷ p.fr;
+          rest = p.rest;
+          text = ap (λ l. (t, place) ∷ l) p.text;
+          begins = p.begins;
+          left_is = p.left_is;
+          seen = (t, n) ∷ us;
+          same = ap (λ l. t ∷ l) (sym (append-nil (plain us)) ∙ sym (solid_holds p.holds []) ∙ ap solid (append-nil p.fr)) ∙ sym (solid_kept t place p.fr kept);
+          within = fits;
+          items = w.items;
+          more = placed q (on []);
+          later = on [];
+          spells = w.spells;
+          over = over_behind p cause over;
+          again = λ other e.
+              item_fails room t place (p.fr ++ other) (cause, solid other) kept
+              (ap (λ l. item room place (t ∷ l)) (solid_holds p.holds other) ∙ again (solid other) (next_solid [] other p.rest p.begins e ∙ ap next p.left_is));
+        }
+
+-- ---- the whole
+
+module _ (room : ℕ) (t : Token) (place : Place) (kept : is_comment t ≡ false) (raw : List Placed) where
+  read_front : (i : Item) (left : List Token) (front : Tokens) → Within room front → t ∷ solid raw ≡ plain front ++ left → ((after : Tokens) → IsItem place i (front ++ after) after)
+      → ((other : List Token) → next other ≡ next left → item room place (plain front ++ other) ≡ Ok (i, other)) → ((x : List Placed) → length x ≤ length raw → FileSays room x (file room x)) → FileSays room ((t, place) ∷ raw) (file room ((t, place) ∷ raw))
+  read_front i left [] fits text spells again ih = absurd (some_item (spells []) refl)
+  read_front i left (u ∷ us) fits text spells again ih =
+      let same : u.0 ≡ t = cc in
+      let others : solid raw ≡ plain us ++ left = cc in
+      after_item room t place kept u.1 us i fits (λ after. subst (λ v. IsItem place i ((v, u.1) ∷ (us ++ after)) after) same (spells after)) left (λ other e. subst (λ v. item room place (v ∷ (plain us ++ other)) ≡ Ok (i, other)) same (again other e)) raw others ih
+
+  fault_front : (cause : Cause) (left : List Token) (value : Item) (on : Tokens → Tokens) (front : Tokens) → Within room front → t ∷ solid raw ≡ plain front ++ left → ((after : Tokens) → IsItem place value (front ++ on after) after) → Over cause room left on
+      → ((other : List Token) → next other ≡ next left → item room place (plain front ++ other) ≡ Err (cause, other)) → FileFault room ((t, place) ∷ raw) cause left
+  fault_front cause left value on [] fits text spells over again = fault_here room t place kept raw cause left value on (sym text) spells over again
+  fault_front cause left value on (u ∷ us) fits text spells over again =
+      let same : u.0 ≡ t = cc in
+      let others : solid raw ≡ plain us ++ left = cc in
+      fault_behind room t place kept raw cause left value on u.1 us fits others (λ after. subst (λ v. IsItem place value ((v, u.1) ∷ (us ++ on after)) after) same (spells after)) over
+      (λ other e. subst (λ v. item room place (v ∷ (plain us ++ other)) ≡ Err (cause, other)) same (again other e))
+
+  by_item : (o : Outcome Token Item) → item room place (t ∷ solid raw) ≡ o → Exact (item room place) (IsItem place) room (t ∷ solid raw) o → ((x : List Placed) → length x ≤ length raw → FileSays room x (file room x)) → FileSays room ((t, place) ∷ raw) (file room ((t, place) ∷ raw))
+  by_item (Ok r) e h ih = read_front r.0 r.1 h.front h.within h.text h.spells h.again ih
+  by_item (Err f) e h ih = subst (FileSays room ((t, place) ∷ raw)) (sym (item_fails room t place raw f kept e)) (fault_front f.0 f.1 h.value h.on h.front h.within h.text h.spells h.over h.again)
+
+module _ (room : ℕ) where
+  by_kind : (b : Bool) (t : Token) (place : Place) (raw : List Placed) → is_comment t ≡ b → ((x : List Placed) → length x ≤ length raw → FileSays room x (file room x)) → FileSays room ((t, place) ∷ raw) (file room ((t, place) ∷ raw))
+  by_kind true t place raw e ih =
+      let c = comment_text t e in
+      let here : FileSays room ((Comment c.0, place) ∷ raw) (file room ((Comment c.0, place) ∷ raw)) =
+      subst (FileSays room ((Comment c.0, place) ∷ raw)) (sym (started_comment room c.0 place raw)) (after_comment room c.0 place raw (file room raw) (ih raw (omega arith))) in
+      subst (λ u. FileSays room ((u, place) ∷ raw) (file room ((u, place) ∷ raw))) (sym c.1) here
+  by_kind false t place raw e ih = by_item room t place e raw (item room place (t ∷ solid raw)) refl ((good_item room room (omega arith) place).exact (t ∷ solid raw)) ih
+
+  by_length : (n : ℕ) (raw : List Placed) → length raw < n → FileSays room raw (file room raw)
+  unfolding file
+  by_length zero raw lt = absurd (omega arith)
+  by_length (suc n) [] lt = ([], end_of_file, tt)
+  by_length (suc n) (entry ∷ raw) lt = by_kind (is_comment entry.0) entry.0 entry.1 raw refl (λ x le. by_length n x (omega arith))
+
+  pub file_says : (raw : List Placed) → FileSays room raw (file room raw)
+  file_says raw = by_length (suc (length raw)) raw (omega arith)

@@ -1,0 +1,17 @@
+pub mod Marks
+pub mod ExactTerms
+pub mod ExactAtoms
+pub mod ExactSorts
+pub mod ExactFormulas
+pub mod ExactClauses
+pub mod ExactGeneral
+pub mod Solids
+pub mod Loops
+pub mod ExactItems
+pub mod SolidItems
+pub mod ExactFile
+pub mod FirstFaults
+pub mod Nests
+pub mod Whole
+pub mod Digits
+pub mod Refusals

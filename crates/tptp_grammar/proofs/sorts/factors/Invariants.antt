@@ -1,0 +1,13 @@
+use Rattle.std.proofs.Common.{◌≡◌, length}
+use Rattle.first_fault.specs.Reading.{separated}
+use Rattle.first_fault.proofs.Loops.{members}
+use Rattle.tptp_lexer.specs.declared.token.Mark.TheVariants as m
+use Rattle.tptp_grammar.specs.ReadTerms.{is_mark}
+use Rattle.tptp_grammar.specs.ReadTypes as spec
+use Rattle.tptp_grammar.proofs.sorts.factors.Given as goal
+
+abbrev pub invariant-members : goal.invariant-members
+invariant-members l = separated (is_mark m.Star) spec.argument_sort l.fn.tokens ≡ members (is_mark m.Star) spec.argument_sort l.found l.tokens
+
+abbrev pub decreases-members : goal.decreases-members
+decreases-members l = length l.tokens

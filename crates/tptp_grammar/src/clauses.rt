@@ -1,0 +1,136 @@
+// The productions of clauses, one function for each. `room` is the nesting that is left.
+ghost use Rattle.std.specs.Prelude.{◌∷◌};
+ghost use Rattle.first_fault.specs.Reading.{separated, closed, mapped, tail};
+ghost use Rattle.tptp_base.specs.declared.surface.Surface.TheVariants as fm;
+ghost use Rattle.tptp_grammar.specs.ReadTerms.{is_mark};
+ghost use Rattle.tptp_grammar.specs.ReadClauses as spec;
+ghost use Rattle.tptp_grammar.specs.Outcomes.{Reads};
+
+use crate::cursor::Cursor;
+use crate::lists::in_front;
+use crate::stop::Stop;
+use crate::terms::{atom, basic};
+use std::alloc::Global;
+use tptp_base::{Boxed, List, Surface};
+use tptp_lexer::{Mark, Token};
+
+// An atom in parentheses.
+#[tactic(auto, unfolding(crate::specs::ReadClauses::atom_open))]
+fn atom_open(alloc: Global, tokens: &mut Cursor<'_>, room: usize) -> Result<Surface, Stop>
+    ensures { Reads (spec.atom_open room tokens.old) result tokens.new }
+{
+    if room == 0 {
+        return Err(Stop::TooDeep);
+    }
+    tokens.skip();
+    let found = Boxed::new(alloc, atom(alloc, tokens, room - 1)?)?;
+    tokens.expect(Mark::Close)?;
+    Ok(found.into_inner())
+}
+
+// What follows the sign of a negative literal.
+#[tactic(auto, unfolding(crate::specs::ReadClauses::negated))]
+fn negated(alloc: Global, tokens: &mut Cursor<'_>, room: usize) -> Result<Surface, Stop>
+    ensures { Reads (spec.negated room tokens.old) result tokens.new }
+{
+    match tokens.peek() {
+        Some(Token::Mark(Mark::Open)) => atom_open(alloc, tokens, room),
+        _ => atom(alloc, tokens, room),
+    }
+}
+
+// A negative literal.
+#[tactic(auto, unfolding(crate::specs::ReadClauses::negative))]
+fn negative(alloc: Global, tokens: &mut Cursor<'_>, room: usize) -> Result<Surface, Stop>
+    ensures { Reads (spec.negative room tokens.old) result tokens.new }
+{
+    if room == 0 {
+        return Err(Stop::TooDeep);
+    }
+    tokens.skip();
+    let found = Boxed::new(alloc, negated(alloc, tokens, room - 1)?)?;
+    Ok(Surface::Not(found))
+}
+
+// A literal.
+#[tactic(auto, unfolding(crate::specs::ReadClauses::literal))]
+fn literal(alloc: Global, tokens: &mut Cursor<'_>, room: usize) -> Result<Surface, Stop>
+    ensures { Reads (spec.literal room tokens.old) result tokens.new }
+{
+    match tokens.peek() {
+        Some(Token::Mark(Mark::Tilde)) => negative(alloc, tokens, room),
+        _ => basic(alloc, tokens, room),
+    }
+}
+
+// One or more literals with bars between them.
+fn literal_list(alloc: Global, tokens: &mut Cursor<'_>, room: usize) -> Result<List<Surface>, Stop>
+    ensures { Reads (separated (is_mark Mark.Bar) (spec.literal room) tokens.old) result tokens.new }
+{
+    let mut found = List::new(alloc);
+    found.push(literal(alloc, tokens, room)?)?;
+    'members: while tokens.eat(Mark::Bar) {
+        found.push(literal(alloc, tokens, room)?)?;
+    }
+    Ok(found)
+}
+
+// The further literals of a clause with bars.
+fn disjunction(
+    alloc: Global,
+    tokens: &mut Cursor<'_>,
+    room: usize,
+    first: Boxed<Surface>,
+) -> Result<Surface, Stop>
+    ensures { Reads (mapped (λ fs. fm.Or (first ∷ fs)) (separated (is_mark Mark.Bar) (spec.literal room) (tail tokens.old))) result tokens.new }
+{
+    tokens.skip();
+    let others = literal_list(alloc, tokens, room)?;
+    Ok(Surface::Or(in_front(alloc, first.into_inner(), others)?))
+}
+
+// What follows the first literal.
+#[tactic(auto, unfolding(crate::specs::ReadClauses::literals))]
+fn literals(
+    alloc: Global,
+    tokens: &mut Cursor<'_>,
+    room: usize,
+    first: Boxed<Surface>,
+) -> Result<Surface, Stop>
+    ensures { Reads (spec.literals room first tokens.old) result tokens.new }
+{
+    match tokens.peek() {
+        Some(Token::Mark(Mark::Bar)) => disjunction(alloc, tokens, room, first),
+        _ => Ok(first.into_inner()),
+    }
+}
+
+/// A clause.
+#[cycle(clause)]
+#[tactic(auto, unfolding(crate::specs::ReadClauses::clause, crate::specs::ReadClauses::clause_by))]
+pub fn clause(alloc: Global, tokens: &mut Cursor<'_>, room: usize) -> Result<Surface, Stop>
+    ensures { Reads (spec.clause room tokens.old) result tokens.new }
+{
+    match tokens.peek() {
+        Some(Token::Mark(Mark::Open)) => clause_open(alloc, tokens, room),
+        _ => {
+            let first = Boxed::new(alloc, literal(alloc, tokens, room)?)?;
+            literals(alloc, tokens, room, first)
+        }
+    }
+}
+
+// A clause in parentheses.
+#[cycle(clause)]
+#[tactic(auto, unfolding(crate::specs::ReadClauses::clause_open, crate::specs::ReadClauses::clause))]
+fn clause_open(alloc: Global, tokens: &mut Cursor<'_>, room: usize) -> Result<Surface, Stop>
+    ensures { Reads (spec.clause_open room tokens.old) result tokens.new }
+{
+    if room == 0 {
+        return Err(Stop::TooDeep);
+    }
+    tokens.skip();
+    let found = Boxed::new(alloc, clause(alloc, tokens, room - 1)?)?;
+    tokens.expect(Mark::Close)?;
+    Ok(found.into_inner())
+}

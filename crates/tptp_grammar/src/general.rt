@@ -1,0 +1,319 @@
+// The productions of general terms, one function for each. `room` is the nesting that is left.
+ghost use Rattle.std.specs.Prelude.{◌≡◌};
+ghost use Rattle.first_fault.specs.Reading.{separated, closed, mapped};
+ghost use Rattle.tptp_base.specs.declared.item.GTerm.TheVariants as gt;
+ghost use Rattle.tptp_grammar.specs.ReadTerms.{is_mark};
+ghost use Rattle.tptp_grammar.specs.ReadGeneral as spec;
+ghost use Rattle.tptp_grammar.specs.Outcomes.{Reads};
+
+use crate::clauses::clause;
+use crate::cursor::Cursor;
+use crate::formulas::formula;
+use crate::stop::Stop;
+use crate::terms::term;
+use std::alloc::Global;
+use tptp_base::{Boxed, GTerm, Lang, List, STerm, Surface, Text};
+use tptp_lexer::{Mark, Token};
+
+// A formula of the language.
+fn formula_of(
+    alloc: Global,
+    tokens: &mut Cursor<'_>,
+    lang: Lang,
+    room: usize,
+) -> Result<Surface, Stop>
+    ensures { Reads (spec.formula_of lang room tokens.old) result tokens.new }
+{
+    match lang {
+        Lang::Cnf => clause(alloc, tokens, room),
+        Lang::Fof => formula(alloc, tokens, false, room),
+        Lang::Tff => formula(alloc, tokens, true, room),
+    }
+}
+
+// The same in parentheses.
+#[tactic(auto, unfolding(crate::specs::ReadGeneral::formula_open))]
+fn formula_open(
+    alloc: Global,
+    tokens: &mut Cursor<'_>,
+    lang: Lang,
+    room: usize,
+) -> Result<Surface, Stop>
+    ensures { Reads (spec.formula_open lang room tokens.old) result tokens.new }
+{
+    if room == 0 {
+        return Err(Stop::TooDeep);
+    }
+    tokens.skip();
+    let found = Boxed::new(alloc, formula_of(alloc, tokens, lang, room - 1)?)?;
+    tokens.expect(Mark::Close)?;
+    Ok(found.into_inner())
+}
+
+#[tactic(auto, unfolding(crate::specs::ReadGeneral::formula_in))]
+fn formula_in(
+    alloc: Global,
+    tokens: &mut Cursor<'_>,
+    lang: Lang,
+    room: usize,
+) -> Result<Surface, Stop>
+    ensures { Reads (spec.formula_in lang room tokens.old) result tokens.new }
+{
+    match tokens.peek() {
+        Some(Token::Mark(Mark::Open)) => formula_open(alloc, tokens, lang, room),
+        _ => Err(Stop::Unexpected),
+    }
+}
+
+// A term in parentheses.
+#[tactic(auto, unfolding(crate::specs::ReadGeneral::term_open))]
+fn term_open(alloc: Global, tokens: &mut Cursor<'_>, room: usize) -> Result<STerm, Stop>
+    ensures { Reads (spec.term_open room tokens.old) result tokens.new }
+{
+    if room == 0 {
+        return Err(Stop::TooDeep);
+    }
+    tokens.skip();
+    let found = term(alloc, tokens, room - 1)?;
+    tokens.expect(Mark::Close)?;
+    Ok(found)
+}
+
+#[tactic(auto, unfolding(crate::specs::ReadGeneral::term_in))]
+fn term_in(alloc: Global, tokens: &mut Cursor<'_>, room: usize) -> Result<STerm, Stop>
+    ensures { Reads (spec.term_in room tokens.old) result tokens.new }
+{
+    match tokens.peek() {
+        Some(Token::Mark(Mark::Open)) => term_open(alloc, tokens, room),
+        _ => Err(Stop::Unexpected),
+    }
+}
+
+// The language of the formulas that the word embeds.
+#[tactic(auto, unfolding(crate::specs::ReadGeneral::embedded))]
+fn embedded(word: &[u8]) -> Option<Lang>
+    ensures { result ≡ spec.embedded word.now }
+{
+    if word == b"$cnf".as_slice() {
+        Some(Lang::Cnf)
+    } else if word == b"$fof".as_slice() {
+        Some(Lang::Fof)
+    } else if word == b"$tff".as_slice() {
+        Some(Lang::Tff)
+    } else {
+        None
+    }
+}
+
+// A term that the word embeds.
+fn term_data(
+    alloc: Global,
+    tokens: &mut Cursor<'_>,
+    room: usize,
+    word: &[u8],
+) -> Result<GTerm, Stop>
+    ensures { Reads (spec.term_data room word.now tokens.old) result tokens.new }
+{
+    if word == b"$fot".as_slice() {
+        tokens.skip();
+        Ok(GTerm::Term(term_in(alloc, tokens, room)?))
+    } else {
+        Err(Stop::Unexpected)
+    }
+}
+
+// A formula or a term that the word embeds.
+#[tactic(auto, unfolding(crate::specs::ReadGeneral::formula_data))]
+fn formula_data(
+    alloc: Global,
+    tokens: &mut Cursor<'_>,
+    room: usize,
+    word: &[u8],
+) -> Result<GTerm, Stop>
+    ensures { Reads (spec.formula_data room word.now tokens.old) result tokens.new }
+{
+    match embedded(word) {
+        Some(lang) => {
+            tokens.skip();
+            let found = Boxed::new(alloc, formula_in(alloc, tokens, lang, room)?)?;
+            Ok(GTerm::Formula(lang, found))
+        }
+        None => term_data(alloc, tokens, room, word),
+    }
+}
+
+// The arguments in their parentheses.
+#[cycle(general)]
+fn arguments(alloc: Global, tokens: &mut Cursor<'_>, room: usize) -> Result<List<GTerm>, Stop>
+    ensures { Reads (spec.general_arguments room tokens.old) result tokens.new }
+{
+    if room == 0 {
+        return Err(Stop::TooDeep);
+    }
+    tokens.skip();
+    closed_list(alloc, tokens, room - 1)
+}
+
+// General terms up to their closing parenthesis.
+#[cycle(general)]
+fn closed_list(alloc: Global, tokens: &mut Cursor<'_>, room: usize) -> Result<List<GTerm>, Stop>
+    ensures { Reads (closed (is_mark Mark.Close) (separated (is_mark Mark.Comma) (spec.general room)) tokens.old) result tokens.new }
+{
+    let found = general_list(alloc, tokens, room)?;
+    tokens.expect(Mark::Close)?;
+    Ok(found)
+}
+
+// One or more general terms with commas between them.
+#[cycle(general)]
+fn general_list(alloc: Global, tokens: &mut Cursor<'_>, room: usize) -> Result<List<GTerm>, Stop>
+    ensures { Reads (separated (is_mark Mark.Comma) (spec.general room) tokens.old) result tokens.new }
+{
+    let mut found = List::new(alloc);
+    found.push(general(alloc, tokens, room)?)?;
+    'members: while tokens.eat(Mark::Comma) {
+        found.push(general(alloc, tokens, room)?)?;
+    }
+    Ok(found)
+}
+
+// What follows an opening bracket.
+#[cycle(general)]
+#[tactic(auto, unfolding(crate::specs::ReadGeneral::listed))]
+fn listed(alloc: Global, tokens: &mut Cursor<'_>, room: usize) -> Result<List<GTerm>, Stop>
+    ensures { Reads (spec.listed (spec.general room) tokens.old) result tokens.new }
+{
+    match tokens.peek() {
+        Some(Token::Mark(Mark::CloseList)) => {
+            tokens.skip();
+            Ok(List::new(alloc))
+        }
+        _ => {
+            let found = general_list(alloc, tokens, room)?;
+            tokens.expect(Mark::CloseList)?;
+            Ok(found)
+        }
+    }
+}
+
+/// A list from its bracket on.
+#[cycle(general)]
+pub fn bracketed(alloc: Global, tokens: &mut Cursor<'_>, room: usize) -> Result<List<GTerm>, Stop>
+    ensures { Reads (spec.general_bracketed room tokens.old) result tokens.new }
+{
+    if room == 0 {
+        return Err(Stop::TooDeep);
+    }
+    tokens.skip();
+    listed(alloc, tokens, room - 1)
+}
+
+// The right side of a pair from its colon on.
+#[cycle(general)]
+fn pair(
+    alloc: Global,
+    tokens: &mut Cursor<'_>,
+    room: usize,
+    left: Boxed<GTerm>,
+) -> Result<GTerm, Stop>
+    ensures { Reads (spec.general_pair room left tokens.old) result tokens.new }
+{
+    if room == 0 {
+        return Err(Stop::TooDeep);
+    }
+    tokens.skip();
+    right_side(alloc, tokens, room - 1, left)
+}
+
+// A pair from its right side on.
+#[cycle(general)]
+fn right_side(
+    alloc: Global,
+    tokens: &mut Cursor<'_>,
+    room: usize,
+    left: Boxed<GTerm>,
+) -> Result<GTerm, Stop>
+    ensures { Reads (mapped (gt.Pair left) (spec.general room tokens.old)) result tokens.new }
+{
+    let right = Boxed::new(alloc, general(alloc, tokens, room)?)?;
+    Ok(GTerm::Pair(left, right))
+}
+
+// What follows a word.
+#[cycle(general)]
+#[tactic(auto, unfolding(crate::specs::ReadGeneral::general_applied))]
+fn applied(alloc: Global, tokens: &mut Cursor<'_>, room: usize, name: &Text) -> Result<GTerm, Stop>
+    ensures { Reads (spec.general_applied (spec.nesting room) name.now tokens.old) result tokens.new }
+{
+    let function = Text::from_slice(alloc, name.as_slice())?;
+    match tokens.peek() {
+        Some(Token::Mark(Mark::Open)) => {
+            Ok(GTerm::Func(function, arguments(alloc, tokens, room)?))
+        }
+        _ => Ok(GTerm::Word(function)),
+    }
+}
+
+// A general term that may be the left side of a pair.
+#[cycle(general)]
+#[tactic(auto, unfolding(crate::specs::ReadGeneral::general_data_by))]
+fn data_term(alloc: Global, tokens: &mut Cursor<'_>, room: usize) -> Result<GTerm, Stop>
+    ensures { Reads (spec.general_data_by room (spec.nesting room) tokens.old) result tokens.new }
+{
+    match tokens.peek() {
+        Some(Token::Lower(name)) => {
+            tokens.skip();
+            applied(alloc, tokens, room, name)
+        }
+        Some(Token::Quoted(name)) => {
+            tokens.skip();
+            applied(alloc, tokens, room, name)
+        }
+        Some(Token::Upper(name)) => {
+            tokens.skip();
+            Ok(GTerm::Var(Text::from_slice(alloc, name.as_slice())?))
+        }
+        Some(Token::Number(number)) => {
+            tokens.skip();
+            Ok(GTerm::Number(Text::from_slice(alloc, number.as_slice())?))
+        }
+        Some(Token::Distinct(text)) => {
+            tokens.skip();
+            Ok(GTerm::Distinct(Text::from_slice(alloc, text.as_slice())?))
+        }
+        Some(Token::Dollar(word)) => formula_data(alloc, tokens, room, word.as_slice()),
+        _ => Err(Stop::Unexpected),
+    }
+}
+
+// What follows a general term that may be the left side of a pair.
+#[cycle(general)]
+#[tactic(auto, unfolding(crate::specs::ReadGeneral::paired))]
+fn paired(
+    alloc: Global,
+    tokens: &mut Cursor<'_>,
+    room: usize,
+    left: Boxed<GTerm>,
+) -> Result<GTerm, Stop>
+    ensures { Reads (spec.paired (spec.nesting room) left tokens.old) result tokens.new }
+{
+    match tokens.peek() {
+        Some(Token::Mark(Mark::Colon)) => pair(alloc, tokens, room, left),
+        _ => Ok(left.into_inner()),
+    }
+}
+
+/// A general term.
+#[cycle(general)]
+#[tactic(auto, unfolding(crate::specs::ReadGeneral::general, crate::specs::ReadGeneral::general_by))]
+pub fn general(alloc: Global, tokens: &mut Cursor<'_>, room: usize) -> Result<GTerm, Stop>
+    ensures { Reads (spec.general room tokens.old) result tokens.new }
+{
+    match tokens.peek() {
+        Some(Token::Mark(Mark::OpenList)) => Ok(GTerm::List(bracketed(alloc, tokens, room)?)),
+        _ => {
+            let left = Boxed::new(alloc, data_term(alloc, tokens, room)?)?;
+            paired(alloc, tokens, room, left)
+        }
+    }
+}

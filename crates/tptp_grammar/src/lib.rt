@@ -1,0 +1,22 @@
+//! The grammar of the TPTP language: the items that a list of tokens spells, and the first token at which no text
+//! goes on.
+#![tactic(auto)]
+
+mod clauses;
+mod cursor;
+mod fault;
+mod formulas;
+mod general;
+mod items;
+mod lists;
+mod reading;
+mod sorts;
+mod stop;
+mod terms;
+mod words;
+
+pub use fault::GrammarFault;
+pub use reading::parse;
+
+#[cfg(test)]
+mod tests;

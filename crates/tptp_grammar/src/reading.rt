@@ -1,0 +1,220 @@
+// All tokens of a text.
+ghost use Rattle.std.specs.Prelude.{◌≡◌, ◌+◌, suc, List, length, IfOk, IfErr};
+ghost use Rattle.std.specs.Option.{option_copied};
+ghost use Rattle.first_fault.specs.Nesting.{FirstOver};
+ghost use Rattle.tptp_base.specs.declared.item.Item.{Item};
+ghost use Rattle.tptp_grammar.specs.Tokens.{Tokens as NestedTokens};
+ghost use Rattle.tptp_grammar.specs.Files.{IsFile, Spells, SpellsWithin};
+ghost use Rattle.tptp_grammar.specs.Faults as faults;
+ghost use Rattle.tptp_grammar.specs.Outcomes.{Fails};
+ghost use Rattle.tptp_grammar.specs.ReadItems as items;
+ghost use Rattle.tptp_grammar.specs.ReadFile as spec;
+ghost use Rattle.tptp_grammar.specs.Answers as answers;
+
+use crate::cursor::{Cursor, count_solid, is_comment};
+use crate::fault::GrammarFault;
+use crate::items::item;
+use crate::stop::Stop;
+use std::alloc::{AllocError, Global};
+use tptp_base::{Item, List, Place, Text};
+use tptp_lexer::{Token, Tokens};
+
+// How deep a text may nest.
+const MAX_NESTING: usize = 250;
+
+/// Why a list of tokens is not read, and how many tokens are left there, comments left out.
+#[derive(Clone, Copy, Debug, PartialEq, Eq)]
+struct Refusal {
+    stop: Stop,
+    left: usize,
+}
+
+/// What stands between items, and how many of its tokens are left behind the first one.
+#[derive(Debug, Drop)]
+struct Turn {
+    item: Item,
+    left: usize,
+}
+
+impl From<AllocError> for Refusal {
+    ghost use Rattle.std.specs.Prelude.{◌≡◌};
+    ghost use Rattle.tptp_grammar.specs.declared.stop.Stop.TheVariants.{Memory};
+
+    ghost from_gives = { λ _ e. e.stop ≡ Memory };
+
+    fn from(_: AllocError) -> Refusal {
+        Refusal {
+            stop: Stop::Memory,
+            left: 0,
+        }
+    }
+}
+
+// A comment.
+fn comment(alloc: Global, text: &Text) -> Result<Turn, Refusal>
+    ensures ok { IfOk result (λ s. (s.item ≡ Item.Comment text.now) × (s.left ≡ 0)) }
+    ensures err { IfErr result (λ r. r.stop ≡ Stop.Memory) }
+{
+    let text = Text::from_slice(alloc, text.as_slice())?;
+    Ok(Turn {
+        item: Item::Comment(text),
+        left: 0,
+    })
+}
+
+// An annotated formula or an include.
+#[tactic(auto, using(crate::proofs::Whole::item_moves))]
+fn input(alloc: Global, tokens: &mut Cursor<'_>, place: Place) -> Result<Turn, Refusal>
+    ensures ok { IfOk result (λ s. (items.item faults.max_nesting place tokens.old ≡ Ok (s.item, tokens.new)) × (suc (s.left + length tokens.new) ≡ length tokens.old)) }
+    ensures err { IfErr result (λ r. Fails (items.item faults.max_nesting place tokens.old) r.stop tokens.new × (r.left ≡ length tokens.new)) }
+{
+    let before = tokens.left();
+    match item(alloc, tokens, MAX_NESTING, place) {
+        Ok(item) => Ok(Turn {
+            item,
+            left: before - tokens.left() - 1,
+        }),
+        Err(stop) => Err(Refusal {
+            stop,
+            left: tokens.left(),
+        }),
+    }
+}
+
+// A comment or an item, from its first token on.
+fn take_turn(
+    alloc: Global,
+    tokens: &mut Cursor<'_>,
+    first: &Token,
+    place: Place,
+) -> Result<Turn, Refusal>
+    ensures ok { IfOk result (λ s. answers.Starts faults.max_nesting first.now place tokens.old s.item s.left tokens.new) }
+    ensures err { IfErr result (λ r. answers.StartFails faults.max_nesting first.now place tokens.old r.stop r.left tokens.new) }
+{
+    match first {
+        Token::Comment(text) => comment(alloc, text),
+        _ => input(alloc, tokens, place),
+    }
+}
+
+// The items, and the comments between them.
+fn read_items(alloc: Global, tokens: &[(Token, Place)]) -> Result<List<Item>, Refusal>
+    ensures ok { IfOk result (λ found. spec.file faults.max_nesting tokens.now ≡ Ok found) }
+    ensures err { IfErr result (λ r. answers.Stopped (spec.file faults.max_nesting tokens.now) r.stop r.left) }
+{
+    let mut found = List::new(alloc);
+    let mut cursor = Cursor::new(tokens);
+    let mut left = 0;
+    'tokens: for (token, place) in tokens {
+        if left == 0 {
+            let next = take_turn(alloc, &mut cursor, token, *place)?;
+            left = next.left;
+            found.push(next.item)?;
+        } else if !is_comment(token) {
+            left -= 1;
+        }
+    }
+    Ok(found)
+}
+
+// The first token with as many from it on, comments left out.
+fn entry_at(tokens: &[(Token, Place)], left: usize) -> Option<&(Token, Place)>
+    ensures { option_copied result ≡ answers.entry_at left tokens.now }
+{
+    let mut now = count_solid(tokens);
+    'tokens: for entry in tokens {
+        if !is_comment(&entry.0) {
+            if now == left {
+                return Some(entry);
+            }
+            now -= 1;
+        }
+    }
+    None
+}
+
+fn is_defined_word(word: &[u8]) -> bool
+    ensures { result ≡ faults.is_defined_word word.now }
+{
+    word == b"$true".as_slice()
+        || word == b"$false".as_slice()
+        || word == b"$i".as_slice()
+        || word == b"$o".as_slice()
+        || word == b"$tType".as_slice()
+}
+
+fn is_other_language(word: &[u8]) -> bool
+    ensures { result ≡ faults.is_other_language word.now }
+{
+    word == b"thf".as_slice() || word == b"tcf".as_slice() || word == b"tpi".as_slice()
+}
+
+// Whether the token is of a part of TPTP that is left out.
+fn is_outside(token: &Token) -> bool
+    ensures { result ≡ faults.is_outside token.now }
+{
+    match token {
+        Token::Number(_) => true,
+        Token::Distinct(_) => true,
+        Token::System(_) => true,
+        Token::Dollar(word) => !is_defined_word(word.as_slice()),
+        Token::Lower(word) => is_other_language(word.as_slice()),
+        _ => false,
+    }
+}
+
+fn refusal_at(entry: Option<&(Token, Place)>, end: Place) -> GrammarFault
+    ensures { result ≡ answers.refusal_at (option_copied entry.entry) end }
+{
+    match entry {
+        Some((token, place)) => {
+            if is_outside(token) {
+                GrammarFault::Profile(*place)
+            } else {
+                GrammarFault::Token(*place)
+            }
+        }
+        None => GrammarFault::End(end),
+    }
+}
+
+fn depth_at(entry: Option<&(Token, Place)>, end: Place) -> GrammarFault
+    ensures { result ≡ answers.depth_at (option_copied entry.entry) end }
+{
+    match entry {
+        Some((_, place)) => GrammarFault::Deep(*place),
+        None => GrammarFault::Deep(end),
+    }
+}
+
+fn fault_of(stop: Stop, entry: Option<&(Token, Place)>, end: Place) -> GrammarFault
+    ensures { result ≡ answers.fault_of stop (option_copied entry.entry) end }
+{
+    match stop {
+        Stop::Memory => GrammarFault::Memory,
+        Stop::Unexpected => refusal_at(entry, end),
+        Stop::TooDeep => depth_at(entry, end),
+    }
+}
+
+/// The one list of items that the tokens spell.
+///
+/// # Errors
+///
+/// The first fault, as `GrammarFault` tells them.
+pub fn parse(alloc: Global, tokens: &Tokens) -> Result<List<Item>, GrammarFault>
+    // What is read is spelled so, nested no deeper than the limit. Each fault is the first one.
+    ensures answers { answers.Answers tokens.now.items tokens.now.end result }
+    // What is spelled within the limit is read, unless memory runs out.
+    ensures only { (items : List Item) → SpellsWithin faults.max_nesting items tokens.now.items → answers.IsRead items result }
+    // What is spelled with tokens that are nested deeper is refused for that, unless memory runs out.
+    ensures deep { (items : List Item) (us over : NestedTokens) → IsFile items tokens.now.items us → FirstOver faults.max_nesting us over → answers.IsRefusedAsDeep result }
+    // The tokens spell at most one list of items.
+    ensures one { (first second : List Item) → Spells first tokens.now.items → Spells second tokens.now.items → first ≡ second }
+{
+    let all = tokens.items.as_slice();
+    match read_items(alloc, all) {
+        Ok(found) => Ok(found),
+        Err(refusal) => Err(fault_of(refusal.stop, entry_at(all, refusal.left), tokens.end)),
+    }
+}
