@@ -1,0 +1,11 @@
+pub mod Adding
+pub mod Heads
+pub mod Making
+pub mod Orders
+pub mod Pairs
+pub mod Remaining
+pub mod Searches
+pub mod Step
+pub mod Turn
+pub mod Unifier
+pub mod Valuations

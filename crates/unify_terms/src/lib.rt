@@ -1,0 +1,22 @@
+//! Most general unifiers of terms with sorts, and and-or goals over pairs of terms.
+#![tactic(auto)]
+
+mod chosen;
+mod classes;
+mod goal;
+mod images;
+mod node;
+mod order;
+mod pair;
+mod pending;
+mod scope;
+mod solving;
+mod substitution;
+mod unification;
+
+pub use goal::Goal;
+pub use pair::Pair;
+pub use scope::Scope;
+pub use solving::{Solution, solve};
+pub use substitution::{Subst, apply};
+pub use unification::unify;
