@@ -1,6 +1,6 @@
 -- Steps of the search.
 use Rattle.std.proofs.Common.{ℕ, ◌+◌, ◌≡◌, ◌≢◌, ◌<◌, ◌≤◌, ◌++◌, List, [], ◌∷◌, length, map, sum, reverse, drop, add-one, refl, sym, ap, subst, ◌∙◌, arith, zero, suc, append_assoc, append-nil, true, false, Bool, Option, Some, None, ◌⊎◌, inl, inr}
-use Rattle.std.specs.Prelude.{slice_get, ◌&&◌, Result, Ok, Err, IfOk}
+use Rattle.std.specs.Prelude.{slice_get, ◌&&◌, ◌↔◌, IsTrue, Result, Ok, Err, IfOk}
 use Rattle.std.proofs.lemmas.List.Sums.{sum-map, sum_by-cons}
 use Rattle.std.specs.List.{list_all}
 use Rattle.std.proofs.lemmas.List.{reverse-append}
@@ -130,12 +130,24 @@ pub searched_nowhere : (v : Vocabulary) (scope : Scope) (given : List Pair) (goa
 searched_nowhere v scope given goals next none target other sub [] m = let all = m.all in cc
 searched_nowhere v scope given goals next none target other sub (k ∷ c) m = none_at v scope given goals next none target other sub k c (slice_get goals k) refl (slice_asked goals k) m
 
-sorted_pairs : (v : Vocabulary) (sorts : List ℕ) (ps : List Pair) → list_all (pair_sorted v sorts) ps ≡ true → AreSorted v sorts ps
+pub sorted_pairs : (v : Vocabulary) (sorts : List ℕ) (ps : List Pair) → list_all (pair_sorted v sorts) ps ≡ true → AreSorted v sorts ps
 sorted_pairs v sorts [] e = tt
 sorted_pairs v sorts (p ∷ ps) e =
     let both = split_tests (pair_sorted v sorts p) (list_all (pair_sorted v sorts) ps) e in
     let sides = split_tests (has_sort (sort_of_term v sorts p.left)) (has_sort (sort_of_term v sorts p.right)) both.0 in
     ((some_sort (sort_of_term v sorts p.left) sides.0, some_sort (sort_of_term v sorts p.right) sides.1), sorted_pairs v sorts ps both.1)
+
+has_some : (o : Option ℕ) → o ≢ None → has_sort o ≡ true
+has_some None ne = absurd (ne refl)
+has_some (Some s) ne = refl
+
+pairs_sorted : (v : Vocabulary) (sorts : List ℕ) (ps : List Pair) → AreSorted v sorts ps → list_all (pair_sorted v sorts) ps ≡ true
+pairs_sorted v sorts [] a = refl
+pairs_sorted v sorts (p ∷ ps) a = rw (has_some (sort_of_term v sorts p.left) a.0.0, has_some (sort_of_term v sorts p.right) a.0.1) (pairs_sorted v sorts ps a.1)
+
+-- the test of pairs
+pub pairs_tested : (v : Vocabulary) (sorts : List ℕ) (ps : List Pair) (b : Bool) → b ≡ list_all (pair_sorted v sorts) ps → IsTrue b ↔ AreSorted v sorts ps
+pairs_tested v sorts ps b e = (λ yes. sorted_pairs v sorts ps (sym e ∙ yes), λ a. e ∙ pairs_sorted v sorts ps a)
 
 pub sorted_both : (v : Vocabulary) (sorts : List ℕ) (given ps : List Pair) → AreSorted v sorts given → list_all (pair_sorted v sorts) ps ≡ true → AreSorted v sorts (given ++ ps)
 sorted_both v sorts [] ps a e = sorted_pairs v sorts ps e

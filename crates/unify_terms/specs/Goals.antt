@@ -111,3 +111,5 @@ goal_sorted-Any v sorts gs = fold-Any Bool (sorted_step v sorts) gs ∙ list_all
 pub goal_sorted-Same : (v : Vocabulary) (sorts : List ℕ) (ps : List Pair) → goal_sorted v sorts (Same ps) ≡ list_all (pair_sorted v sorts) ps
 unfolding goal_sorted
 goal_sorted-Same v sorts ps = fold-Same Bool (sorted_step v sorts) ps
+
+pub ruleset goal_sorted_equations = (goal_sorted-All, goal_sorted-Any, goal_sorted-Same)

@@ -9,8 +9,10 @@ mod node;
 mod order;
 mod pair;
 mod pending;
+mod reversal;
 mod scope;
 mod solving;
+mod sorting;
 mod substitution;
 mod unification;
 
@@ -18,5 +20,9 @@ pub use goal::Goal;
 pub use pair::Pair;
 pub use scope::Scope;
 pub use solving::{Solution, solve};
+pub use sorting::{are_sorted, is_sorted_goal};
 pub use substitution::{Subst, apply};
 pub use unification::unify;
+
+#[cfg(test)]
+mod tests;

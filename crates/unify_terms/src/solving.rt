@@ -1,4 +1,4 @@
-ghost use Rattle.std.specs.Prelude.{◌≡◌, ◌≤◌, ◌^◌, ◌++◌, [], ◌∷◌, length, map, reverse, IfOk, true};
+ghost use Rattle.std.specs.Prelude.{◌≡◌, ◌≤◌, ◌^◌, ◌++◌, [], ◌∷◌, length, map, IfOk, true};
 ghost use Rattle.std.specs.List.{list_all};
 ghost use Rattle.unify_terms.specs.declared.pending.Pending.{Done};
 ghost use Rattle.unify_terms.specs.Unifiers.{AreSorted};
@@ -10,6 +10,7 @@ ghost use Rattle.unify_terms.specs.Searched.{Searched};
 use crate::chosen::Chosen;
 use crate::goal::Goal;
 use crate::pending::Pending;
+use crate::reversal::reversed;
 use crate::scope::Scope;
 use crate::substitution::Subst;
 use crate::unification::{is_hopeless, unify_chosen};
@@ -53,17 +54,6 @@ pub fn solve(
         }
         None => Ok(None),
     }
-}
-
-fn reversed(alloc: Global, items: List<u32>) -> Result<List<u32>, Memory>
-    ensures { IfOk result (λ list. list ≡ reverse items) }
-{
-    let mut list = List::new(alloc);
-    let mut left = items;
-    while let Some(last) = left.pop() {
-        list.push(last)?;
-    }
-    Ok(list)
 }
 
 // A substitution that meets what is pending and the pairs chosen; the choices are answered last one first.

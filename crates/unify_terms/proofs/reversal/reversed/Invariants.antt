@@ -1,5 +1,5 @@
 use Rattle.std.proofs.Common.{◌≡◌, ◌++◌, reverse, length}
-use Rattle.unify_terms.proofs.solving.reversed.Given as goal
+use Rattle.unify_terms.proofs.reversal.reversed.Given as goal
 
 abbrev pub invariant-loop-last : goal.invariant-loop-last
 invariant-loop-last l = l.list ++ reverse l.left ≡ reverse l.fn.items
