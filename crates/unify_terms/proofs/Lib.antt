@@ -3,6 +3,7 @@ pub mod Heads
 pub mod Making
 pub mod Orders
 pub mod Pairs
+pub mod Partitions
 pub mod Remaining
 pub mod Searches
 pub mod Step

@@ -5,6 +5,7 @@ pub mod Goals
 pub mod Graph
 pub mod Images
 pub mod Order
+pub mod Partition
 pub mod Pending
 pub mod Remaining
 pub mod Searched

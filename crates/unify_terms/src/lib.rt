@@ -8,6 +8,7 @@ mod images;
 mod node;
 mod order;
 mod pair;
+mod partition;
 mod pending;
 mod reversal;
 mod scope;
