@@ -11,4 +11,5 @@ pub mod Remaining
 pub mod Searched
 pub mod Solved
 pub mod Substitution
+pub mod SubstitutionLaws
 pub mod Unifiers
