@@ -1,0 +1,12 @@
+pub mod Adding
+pub mod Heads
+pub mod Making
+pub mod Orders
+pub mod Pairs
+pub mod Partitions
+pub mod Remaining
+pub mod Searches
+pub mod Step
+pub mod Turn
+pub mod Unifier
+pub mod Valuations
