@@ -1,5 +1,5 @@
 -- The greatest of a list.
-use Rattle.std.proofs.Common.{ℕ, ◌-◌, ◌+◌, ◌<◌, List, [], ◌∷◌, map, arith, zero, suc}
+use Rattle.std.proofs.Common.{ℕ, ◌<◌, List, [], ◌∷◌, map, arith, zero, suc}
 use Rattle.std.specs.List.{All as Each}
 use Rattle.fof_terms.specs.Lift.{greatest}
 

@@ -1,9 +1,8 @@
 -- Literals and clauses under images of their variables, and what it takes for a clause to cover another (subsumption
 -- by some substitution, as in Bachmair and Ganzinger, weakened to literals that may coincide or be false by their form).
-use Rattle.std.specs.Prelude.{ℕ, ◌+◌, Bool, true, false, not, List, [], ◌∷◌, ◌++◌, ◌≡◌, ◌⊎◌, map, reverse, sum, min, Some, slice_get}
+use Rattle.std.specs.Prelude.{ℕ, Bool, true, false, not, List, ◌++◌, ◌≡◌, ◌⊎◌, map, reverse, Some, slice_get}
 use Rattle.std.specs.List.{All as Each}
-use Rattle.fof_terms.specs.declared.term.Term.{Term, App}
-use Rattle.fof_terms.specs.Count.{symbol_count}
+use Rattle.fof_terms.specs.declared.term.Term.{Term}
 use Rattle.fof_terms.specs.Vocabulary.{Vocabulary}
 use Rattle.fof_terms.specs.Lift.{lifted_term}
 use Rattle.fof_terms.specs.Sorts.{sort_of_term, holds_of, one_sort}

@@ -1,15 +1,13 @@
 -- Terms under images of their variables.
-use Rattle.std.specs.Prelude.{ℕ, ◌+◌, ◌≤◌, List, [], ◌∷◌, ◌≡◌, map, refl, Option, Some, slice_get, sum}
+use Rattle.std.specs.Prelude.{ℕ, ◌+◌, List, [], ◌∷◌, ◌≡◌, map, refl, Option, Some, slice_get}
 use Rattle.std.specs.List.{AllByRecursion}
 use Rattle.std.proofs.Common.{ap, arith}
 use Rattle.std.proofs.lemmas.Simd.{map-map}
-use Rattle.std.proofs.lemmas.List.Sums.{sum_by-cons}
 use Rattle.fof_terms.specs.declared.term.Term.{Term, Var, App}
 use Rattle.fof_terms.specs.declared.term.Term.TheOpen as term
 use Rattle.fof_terms.specs.declared.term.Term.TheFolds.{fold-Term}
 use Rattle.fof_terms.specs.Trees.{fold-Var, fold-App}
 use Rattle.fof_terms.specs.Induction.{term_induction}
-use Rattle.fof_terms.specs.Count.{symbol_count, count_step}
 use Rattle.fof_terms.specs.Vocabulary.{Vocabulary}
 use Rattle.fof_terms.specs.Lift.{lifted_term, lifted_term-App}
 use Rattle.fof_terms.specs.Laws.{moves, applied_found}

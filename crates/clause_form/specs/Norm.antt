@@ -1,6 +1,6 @@
 -- The normal form of a formula (negation normal form, with members of one kind joined, truth and falsehood gone, and
 -- quantifiers without use dropped), and of its negation.
-use Rattle.std.specs.Prelude.{ℕ, Bool, true, false, not, List, [], ◌∷◌, ◌++◌, map, flat_map, ◌≡◌, if◌then◌else◌, refl}
+use Rattle.std.specs.Prelude.{ℕ, Bool, true, false, not, List, [], ◌∷◌, map, flat_map, ◌≡◌, if◌then◌else◌, refl}
 use Rattle.std.specs.List.{list_any}
 use Rattle.std.proofs.Common.{ap, ◌∙◌}
 use Rattle.std.proofs.lemmas.Simd.{map-map}

@@ -1,17 +1,16 @@
 -- The normal form of a formula is no larger than the formula's norm size.
-use Rattle.std.specs.Prelude.{ℕ, Bool, true, false, not, ◌≡◌, ◌≤◌, ◌+◌, ◌*◌, List, [], ◌∷◌, ◌++◌, map, flat_map, sum, refl}
+use Rattle.std.specs.Prelude.{ℕ, Bool, true, false, not, ◌≡◌, ◌≤◌, ◌+◌, List, [], ◌∷◌, ◌++◌, map, flat_map, sum, refl}
 use Rattle.std.specs.List.{AllByRecursion, list_any}
-use Rattle.std.proofs.Common.{arith, sym, ap, ◌∙◌, inl, inr, ◌⊎◌}
+use Rattle.std.proofs.Common.{arith, ap, ◌∙◌, inl, inr, ◌⊎◌}
 use Rattle.std.proofs.lemmas.List.Concat.{flat_map-cons}
 use Rattle.std.proofs.lemmas.Simd.{map-map}
 use Rattle.fof_terms.specs.declared.term.Term.{Term, Var}
-use Rattle.fof_terms.specs.declared.form.Form.{Form, Atom, Eq, Not, And, Or, Imp, Iff, All, Ex}
-use Rattle.fof_terms.specs.Instance.{instance_at}
+use Rattle.fof_terms.specs.declared.form.Form.{Form, Atom, Eq}
 use Rattle.fof_terms.specs.Induction.{form_induction}
 use Rattle.fof_terms.specs.Variables.{has_variable}
 use Rattle.fof_terms.specs.Walks.{FormWalk, placing}
 use Rattle.clause_form.specs.Joined.{members_cases}
-use Rattle.clause_form.specs.Norm.{signed, node, members_of, ends, alone, joined_flat, join, joined_flat-ended, joined_flat-alone, quantifier, quantified, quantified-kept, quantified-dropped, norm_of, norm_of-Atom, norm_of-Eq, norm_of-Not, norm_of-And, norm_of-Or, norm_of-Imp, norm_of-Iff, norm_of-All, norm_of-Ex}
+use Rattle.clause_form.specs.Norm.{signed, node, members_of, ends, alone, join, joined_flat-ended, joined_flat-alone, quantifier, quantified, quantified-kept, quantified-dropped, norm_of, norm_of-Atom, norm_of-Eq, norm_of-Not, norm_of-And, norm_of-Or, norm_of-Imp, norm_of-Iff, norm_of-All, norm_of-Ex}
 use Rattle.clause_form.specs.Sizes.{norm_size_of, norm_size_of-Atom, norm_size_of-Eq, norm_size_of-Not, norm_size_of-And, norm_size_of-Or, norm_size_of-Imp, norm_size_of-Iff, norm_size_of-All, norm_size_of-Ex}
 use Rattle.clause_form.specs.SizeLaws.{sum_cons}
 

@@ -1,12 +1,11 @@
 -- The normal form of what is well-sorted is so, with no more binders inside each other.
-use Rattle.std.specs.Prelude.{ℕ, ◌≡◌, ◌+◌, ◌-◌, ◌≤◌, ◌<◌, Bool, true, false, not, List, [], ◌∷◌, map, max, length, refl}
+use Rattle.std.specs.Prelude.{ℕ, ◌≡◌, ◌+◌, ◌≤◌, Bool, true, false, not, List, [], ◌∷◌, map, max, refl}
 use Rattle.std.specs.List.{AllByRecursion}
-use Rattle.std.proofs.Common.{arith, sym, inl, inr, ◌⊎◌}
-use Rattle.fof_terms.specs.declared.term.Term.{Term, Var}
-use Rattle.fof_terms.specs.declared.form.Form.{Form, Atom, Eq, Not, And, Or, Imp, Iff, All, Ex}
-use Rattle.fof_terms.specs.Instance.{instance_at}
-use Rattle.fof_terms.specs.Lift.{lifted, greatest}
-use Rattle.fof_terms.specs.Sorts.{binder_depth, binder_depth-Atom, binder_depth-Eq, binder_depth-Not, binder_depth-And, binder_depth-Or, binder_depth-Imp, binder_depth-Iff, binder_depth-All, binder_depth-Ex}
+use Rattle.std.proofs.Common.{arith, inl, inr, ◌⊎◌}
+use Rattle.fof_terms.specs.declared.term.Term.{Var}
+use Rattle.fof_terms.specs.declared.form.Form.{Form, Atom, Eq}
+use Rattle.fof_terms.specs.Lift.{greatest}
+use Rattle.fof_terms.specs.Sorts.{binder_depth, binder_depth-Not, binder_depth-And, binder_depth-Or, binder_depth-Imp, binder_depth-Iff, binder_depth-All, binder_depth-Ex}
 use Rattle.fof_terms.specs.Induction.{form_induction}
 use Rattle.fof_terms.specs.Variables.{has_variable}
 use Rattle.fof_terms.specs.Walks.{same_depth, placing}

@@ -1,13 +1,12 @@
 -- The clause that a closed clause is.
-use Rattle.std.specs.Prelude.{ℕ, ◌≡◌, Bool, true, false, List, [], ◌∷◌, map, Option, Some, None, refl}
-use Rattle.std.specs.Option.{option_map}
-use Rattle.std.proofs.Common.{ap, sym, ◌∙◌}
-use Rattle.fof_terms.specs.declared.form.Form.{Form, Atom, Eq, Not, And, Or, All}
+use Rattle.std.specs.Prelude.{ℕ, ◌≡◌, Bool, true, false, List, [], ◌∷◌, map, Some, refl}
+use Rattle.std.proofs.Common.{ap}
+use Rattle.fof_terms.specs.declared.form.Form.{Form, All}
 use Rattle.clause_form.specs.declared.clause.AtomOf.{AtomOf}
 use Rattle.clause_form.specs.declared.clause.AtomOf.TheVariants.{Pred, Eq as Equation, True, False}
 use Rattle.clause_form.specs.declared.clause.Lit.{Lit}
 use Rattle.clause_form.specs.declared.clause.Clause.{Clause}
-use Rattle.clause_form.specs.ClauseView.{View, view_of, clause_of, all_there, stated, denied, open_clause, within, form_of_atom, form_of_lit, form_of_lits, signed_form, closed_by, closed, IsLoneFalsehood, view_of-Atom, view_of-Eq, view_of-Not, view_of-And, view_of-Or, view_of-All}
+use Rattle.clause_form.specs.ClauseView.{View, view_of, clause_of, all_there, stated, open_clause, within, form_of_atom, form_of_lit, form_of_lits, signed_form, closed_by, closed, IsLoneFalsehood, view_of-Atom, view_of-Eq, view_of-Not, view_of-And, view_of-Or, view_of-All}
 
 atom_view : (a : AtomOf) → (view_of (form_of_atom a)).atom ≡ Some a
 atom_view (Pred p ts) = rw view_of-Atom refl

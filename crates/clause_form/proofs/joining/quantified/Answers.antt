@@ -1,5 +1,4 @@
-use Rattle.std.proofs.Common.{arith, sym, ◌∙◌, ap, ◌≡◌, true, false}
-use Rattle.fof_terms.specs.Variables.{has_variable}
+use Rattle.std.proofs.Common.{arith, sym, ◌∙◌}
 use Rattle.clause_form.specs.Norm.{quantified-dropped}
 use Rattle.clause_form.specs.Cases.{kept_all, kept_ex}
 use Rattle.fof_terms.specs.PlaceReach.{place_reach}

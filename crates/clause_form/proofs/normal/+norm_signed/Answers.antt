@@ -1,4 +1,4 @@
-use Rattle.std.proofs.Common.{rules, arith, ◌^◌, ◌<◌}
+use Rattle.std.proofs.Common.{rules, arith, ◌^◌}
 use Rattle.fof_terms.specs.Sorts.{binder_depth, binder_depth_equations}
 use Rattle.fof_terms.specs.declared.form.Form.TheViews.{the_lemmas}
 use Rattle.clause_form.proofs.Below.{below_greatest}
