@@ -1,0 +1,16 @@
+//! The canonical text of items: one text for each list of items, whatever text they came from.
+#![tactic(auto)]
+
+mod formulas;
+mod general;
+mod items;
+mod printed;
+mod terms;
+mod words;
+mod write;
+
+pub use printed::{print, print_formula, print_general};
+pub use write::write_name;
+
+#[cfg(test)]
+mod tests;
