@@ -38,7 +38,7 @@ use Rattle.tptp_grammar.specs.ReadClauses.{clause}
 use Rattle.tptp_grammar.specs.ReadGeneral.{general, nesting}
 use Rattle.tptp_grammar.specs.ReadItems.{name_at, name, all_roles, role_among, role_of, given_role, role_at, role, lang_of, is_typing, body_of, body, ended, Annotations, info_at, info, no_info, with_info, sourced_at, sourced, no_annotations, annotations_at, annotations, annotated_of, finished, bodied, with_role, named, annotated, file_name_at, file_name, name_list, selected, selection_at, selection, include_of, from_file, included, include, worded, item_at, item}
 use Rattle.tptp_grammar.proofs.Marks.{is_kind, text_is, closes_list, ends_literals, ends_formula, sees_mark, good_in, good_behind, good_list}
-use Rattle.tptp_grammar.proofs.ExactSorts.{ends_shape, good_typing}
+use Rattle.tptp_grammar.proofs.ExactTypings.{ends_shape, good_typing}
 use Rattle.tptp_grammar.proofs.ExactFormulas.{good_formula}
 use Rattle.tptp_grammar.proofs.ExactClauses.{good_clause}
 use Rattle.tptp_grammar.proofs.ExactGeneral.{ends_general, OpenGeneralList, of_open_list, to_open_list, good_nesting, good_general}

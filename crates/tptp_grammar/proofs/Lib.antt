@@ -2,6 +2,7 @@ pub mod Marks
 pub mod ExactTerms
 pub mod ExactAtoms
 pub mod ExactSorts
+pub mod ExactTypings
 pub mod ExactVariables
 pub mod ExactFormulas
 pub mod ExactClauses
