@@ -6,6 +6,7 @@ pub mod ExactTypings
 pub mod ExactVariables
 pub mod ExactFormulas
 pub mod ExactClauses
+pub mod ExactEmbedded
 pub mod ExactGeneral
 pub mod Solids
 pub mod Loops
