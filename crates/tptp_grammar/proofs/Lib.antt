@@ -10,6 +10,8 @@ pub mod ExactEmbedded
 pub mod ExactGeneral
 pub mod Solids
 pub mod Loops
+pub mod ExactNames
+pub mod ExactAnnotations
 pub mod ExactItems
 pub mod SolidItems
 pub mod ExactFile
