@@ -15,6 +15,7 @@ pub mod ExactAnnotations
 pub mod ExactItems
 pub mod SolidItems
 pub mod ExactFile
+pub mod AmongComments
 pub mod FirstFaults
 pub mod Nests
 pub mod Whole
