@@ -48,7 +48,7 @@ fn each_kind_of_nesting_is_read_through_250(rt: HostRuntime) -> Result<(), Fail>
     for (head, kind, most, want) in rows {
         let last = nested(rt.alloc(), head, kind, most)?;
         assert_eq!(rt; last.starts_with("1 "), true, "at {head}{}", kind.0);
-        let over = nested(rt.alloc(), head, kind, most + 1)?;
+        let over = nested(rt.alloc(), head, kind, most.saturating_add(1))?;
         assert_eq!(rt; over.as_str(), want, "at {head}{}", kind.0);
     }
     Ok(())

@@ -3,16 +3,27 @@ use super::shown::{answer, answer_before};
 use std::alloc::{AllocError, Global};
 use std::test::Fail;
 
-// The first blank before which the text, cut there, is not answered as it should be. Each token is followed by a blank,
-// and each `.` ends an item: the text before it is then spelled, and in each other case it ends too early.
-fn wrong_cut(alloc: Global, text: &str) -> Result<Option<String>, AllocError> {
+// Each token is followed by a blank.
+const TEXTS: [&str; 7] = [
+    "include ( 'A' ) . include ( 'A' , [ a , 'b' , 7 ] ) . ",
+    "cnf ( 1 , negated_conjecture , ( ( p ( X , f ( c ) ) | ~ q | ~ ( r ) | X != c | X = f ( X ) | $false ) ) ) . ",
+    "fof ( 'a' , axiom , ! [ X , Y ] : ~ ( p ( X ) & q & $true ) <=> ? [ Z ] : ( Z = f ( Y ) | c != Z ) ) . ",
+    "tff ( s , type , ( s : $tType ) ) . tff ( p , type , p : ( ( s * $i * s ) > $o ) ) . tff ( c , type , c : s ) . ",
+    "tff ( f , type , f : s > $i ) . tff ( a , axiom , ! [ X : s , Y : $i , Z ] : p ( X , Y , Z ) ) . ",
+    "fof ( c , plain , p /*,*/ , inference ( r , [ status ( thm ) , [ ] ] , [ a , b : c : [ d ] ] ) , [ ] ) . ",
+    "fof ( c , plain , p , [ 'x' , -1.5 , X , \"d\" , $fof ( p & q ) , $cnf ( p | q ) , $tff ( ! [ X : s ] : p ) , $fot ( f ( X ) ) ] ) . ",
+];
+
+// What the text, cut before each of its blanks, is answered otherwise than it should: a `.` ends an item, so that the text
+// through it is spelled, and behind each other token the text ends too early.
+fn wrong_cuts(alloc: Global, text: &str) -> Result<String, AllocError> {
     let bytes = text.as_bytes();
+    let mut wrong = String::new(alloc);
     let mut items = 0u64;
-    let mut before = b'.';
+    let mut before = b' ';
     for end in 0..bytes.len() {
         if bytes[end] == b' ' {
-            let spelled = before == b'.';
-            let want = if spelled {
+            let want = if before == b'.' {
                 items = items.wrapping_add(1);
                 format!(in alloc; "{items}")?
             } else {
@@ -20,27 +31,18 @@ fn wrong_cut(alloc: Global, text: &str) -> Result<Option<String>, AllocError> {
             };
             let found = answer_before(alloc, bytes, end)?;
             if found.as_str() != want.as_str() {
-                return Ok(Some(found));
+                write!(wrong, "{found} for {want}; ")?;
             }
         }
         before = bytes[end];
     }
-    Ok(None)
+    Ok(wrong)
 }
 
 #[test]
 fn each_cut_ends_too_early_or_is_spelled(rt: HostRuntime) -> Result<(), Fail> {
-    let rows = [
-        "include ( 'A' ) . include ( 'A' , [ a , 'b' , 7 ] ) . ",
-        "cnf ( 1 , negated_conjecture , ( ( p ( X , f ( c ) ) | ~ q | ~ ( r ) | X != c | X = f ( X ) | $false ) ) ) . ",
-        "fof ( 'a' , axiom , ! [ X , Y ] : ~ ( p ( X ) & q & $true ) <=> ? [ Z ] : ( Z = f ( Y ) | c != Z ) ) . ",
-        "tff ( s , type , ( s : $tType ) ) . tff ( p , type , p : ( ( s * $i * s ) > $o ) ) . tff ( c , type , c : s ) . ",
-        "tff ( f , type , f : s > $i ) . tff ( a , axiom , ! [ X : s , Y : $i , Z ] : p ( X , Y , Z ) ) . ",
-        "fof ( c , plain , p /*,*/ , inference ( r , [ status ( thm ) , [ ] ] , [ a , b : c : [ d ] ] ) , [ ] ) . ",
-        "fof ( c , plain , p , [ 'x' , -1.5 , X , \"d\" , $fof ( p & q ) , $cnf ( p | q ) , $tff ( ! [ X : s ] : p ) , $fot ( f ( X ) ) ] ) . ",
-    ];
-    for text in rows {
-        assert_eq!(rt; wrong_cut(rt.alloc(), text)?.is_none(), true, "at {text}");
+    for text in TEXTS {
+        assert_eq!(rt; wrong_cuts(rt.alloc(), text)?.as_str(), "", "at {text}");
     }
     Ok(())
 }
