@@ -1,36 +1,51 @@
 use super::*;
-use fof_terms::{Form, Kind, Signature, Symbol, Term, equal};
+use fof_terms::{Form, Kind, Signature, SortId, Symbol, Term, equal};
 use kernel::{Entry, Theory};
 use std::alloc::Global;
 use std::test::Fail;
-use tptp_base::{Boxed, List, Memory, Text};
+use tptp_base::{Boxed, List, Memory};
 
 // The predicates p and q, the predicate r of one argument, and the constants c and d, in this order.
 fn signature(alloc: Global) -> Result<Signature, Fail> {
     let mut signature = Signature::new(alloc)?;
-    for (name, is_predicate, is_unary) in [
-        ("p", true, false),
-        ("q", true, false),
-        ("r", true, true),
-        ("c", false, false),
-        ("d", false, false),
+    for (kind, args) in [
+        (Kind::Predicate, ""),
+        (Kind::Predicate, ""),
+        (Kind::Predicate, "i"),
+        (Kind::Function, ""),
+        (Kind::Function, ""),
     ] {
-        let mut args = List::new(alloc);
-        if is_unary {
-            args.push(0)?;
-        }
-        signature.add(Symbol {
-            name: Text::from_slice(alloc, name.as_bytes())?,
-            kind: if is_predicate {
-                Kind::Predicate
-            } else {
-                Kind::Function
-            },
-            args,
-            result: 0,
-        })?;
+        declare(&mut signature, alloc, kind, args)?;
     }
     Ok(signature)
+}
+
+// Adds a symbol with an argument for each letter, over individuals.
+fn declare(
+    signature: &mut Signature,
+    alloc: Global,
+    kind: Kind,
+    letters: &str,
+) -> Result<(), Memory> {
+    let count = signature.sort_count();
+    let mut args: List<SortId> = List::new(alloc);
+    for _ in letters.as_bytes() {
+        args.push(0)?;
+    }
+    let name = List::from_slice(alloc, b"name")?;
+    if count == 0 || !args.as_slice().iter().all(|sort| *sort < count) {
+        return Err(Memory);
+    }
+    let symbol = Symbol {
+        name,
+        kind,
+        args,
+        result: 0,
+    };
+    match signature.add(symbol) {
+        Ok(_) => Ok(()),
+        Err(_) => Err(Memory),
+    }
 }
 
 // The formula of a text in which the parts stand before what they are parts of: p and q, r of the constants c and d or
