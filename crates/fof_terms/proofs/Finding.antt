@@ -1,5 +1,5 @@
 -- Directories tell the first symbol and the first sort of each name, also once there is one more.
-use Rattle.std.proofs.Common.{◌≡◌, ℕ, ◌+◌, ◌<◌, ◌&&◌, ◌==◌, Bool, true, false, List, [], ◌∷◌, ◌++◌, length, drop, Option, Some, None, codes, nat_eq, refl, sym, ◌∙◌, ap, ⊎_elim, arith}
+use Rattle.std.proofs.Common.{◌≡◌, ℕ, ◌+◌, ◌<◌, ◌&&◌, ◌==◌, Bool, true, false, List, [], ◌∷◌, ◌++◌, length, drop, Option, Some, None, nat_eq, refl, sym, ◌∙◌, ap, ⊎_elim, arith}
 use Rattle.std.specs.Option.{option_map, is_some}
 use Rattle.std.specs.List.{position}
 use Rattle.std.specs.Cmp.Lexicographic.{pointwise, bytes_decides}
@@ -9,7 +9,7 @@ use Rattle.fof_terms.specs.declared.directory.Directory.{Directory}
 use Rattle.fof_terms.specs.declared.signature.Symbol.{Symbol}
 use Rattle.fof_terms.specs.declared.signature.Kind.{Kind}
 use Rattle.fof_terms.specs.declared.signature.Kind.TheVariants.{Function, Predicate}
-use Rattle.fof_terms.specs.Directory.{entered, Enters, HasSameEntries}
+use Rattle.fof_terms.specs.Directory.{entered, Enters}
 use Rattle.fof_terms.specs.Found.{FindsSymbols, FindsSorts}
 use Rattle.fof_terms.specs.Vocabulary.{is_kind, is_symbol}
 use Rattle.fof_terms.proofs.Places.{position_known, position_missed, position_new}
@@ -25,16 +25,6 @@ rest_true false b e = cc
 same_count : (a b : ℕ) → a == b ≡ true → b ≡ a
 same_count a b e = grind (arith, nat_tests)
 
-apart_kinds : (k l : Kind) → (k ≡ l → ⊥) → is_kind k l ≡ false
-apart_kinds Function Function ne = absurd (ne refl)
-apart_kinds Function Predicate ne = refl
-apart_kinds Predicate Function ne = refl
-apart_kinds Predicate Predicate ne = absurd (ne refl)
-
-failing : (a b c : Bool) → b ≡ false → a && (b && c) ≡ false
-failing true b c e = rw e refl
-failing false b c e = refl
-
 -- what a test of a symbol tells of the name and the number of arguments
 told_name : (name : List ℕ) (kind : Kind) (arity : ℕ) (s : Symbol) → is_symbol name kind arity s ≡ true → name ≡ s.name
 told_name name kind arity s e = sym ((bytes_decides s.name name).0 (first_true (pointwise nat_eq s.name name) (is_kind s.kind kind && (length s.args == arity)) e))
@@ -46,20 +36,7 @@ told_count name kind arity s e =
 cases_of : {P : Type 0} (b : Bool) → (b ≡ true → P) → (b ≡ false → P) → P
 cases_of b t f = ⊎_elim t f (cases_Bool b)
 
-pub same_symbols : (kind : Kind) (symbols : List Symbol) (d e : Directory) → HasSameEntries d e → FindsSymbols kind symbols d → FindsSymbols kind symbols e
-same_symbols kind symbols d e same finds = record { found = λ name arity. same.same name arity ∙ finds.found name arity }
-
-pub same_sorts : (sorts : List (List ℕ)) (d e : Directory) → HasSameEntries d e → FindsSorts sorts d → FindsSorts sorts e
-same_sorts sorts d e same finds = record { found = λ name. same.same name 0 ∙ finds.found name }
-
 module _ (symbols : List Symbol) (s : Symbol) (d : Directory) where
-  -- a symbol of the other kind
-  pub other_symbol : (kind : Kind) → (s.kind ≡ kind → ⊥) → FindsSymbols kind symbols d → FindsSymbols kind (symbols ++ s ∷ []) d
-  other_symbol kind ne finds = record {
-    found = λ name arity.
-        finds.found name arity ∙ sym (position_missed (is_symbol name kind arity) symbols s (failing (pointwise nat_eq s.name name) (is_kind s.kind kind) (length s.args == arity) (apart_kinds s.kind kind ne)));
-  }
-
   -- a symbol that is known
   pub known_symbol : is_some (entered d s.name (length s.args)) ≡ true → FindsSymbols s.kind symbols d → FindsSymbols s.kind (symbols ++ s ∷ []) d
   known_symbol known finds = record {
@@ -155,10 +132,3 @@ pub sort_entered : (sorts : List (List ℕ)) (sort : List ℕ) (d e : Directory)
     → FindsSorts sorts d → FindsSorts (sorts ++ sort ∷ []) e
 sort_entered [] sort d e name number some same place absent enters finds = absurd (omega arith)
 sort_entered (first ∷ rest) sort d e name number some same place absent enters finds = new_sort first rest sort d e number place (none_from (entered d sort 0) absent) (rw same at enters) finds
-
--- the first sort alone, and no symbols
-pub first_sort : (sorts : List (List ℕ)) (d : Directory) → sorts ≡ codes "$i" ∷ [] → ((name : List ℕ) (arity : ℕ) → entered d name arity ≡ None) → FindsSorts sorts d
-first_sort sorts d is none = record { found = λ name. rw is (none name 0) }
-
-pub no_symbols : (kind : Kind) (symbols : List Symbol) (d : Directory) → symbols ≡ [] → ((name : List ℕ) (arity : ℕ) → entered d name arity ≡ None) → FindsSymbols kind symbols d
-no_symbols kind symbols d is none = record { found = λ name arity. rw is (none name arity) }

@@ -2,7 +2,7 @@ use Rattle.std.proofs.Common.{◌≡◌, true, false, subst, sym, ◌∙◌}
 use Rattle.std.specs.Option.{is_some}
 use Rattle.fof_terms.specs.Directory.{entered}
 use Rattle.fof_terms.specs.Found.{FindsSorts}
-use Rattle.fof_terms.proofs.Finding.{sort_known, sort_entered, same_sorts}
+use Rattle.fof_terms.proofs.Finding.{sort_known, sort_entered}
 use Rattle.fof_terms.proofs.signature.put_sort.Goals as goal
 
 pub returns-then-is_some-clause-finds : goal.returns-then-is_some-clause-finds
