@@ -5,6 +5,7 @@ mod closing;
 mod context;
 mod deduction;
 mod entry;
+mod marks;
 mod proof;
 mod quantifiers;
 mod rules;
