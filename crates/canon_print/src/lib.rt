@@ -4,11 +4,13 @@
 mod formulas;
 mod general;
 mod items;
+mod law;
 mod printed;
 mod terms;
 mod words;
 mod write;
 
+pub use law::{one_text, read_again};
 pub use printed::{print, print_formula, print_general};
 pub use write::write_name;
 
