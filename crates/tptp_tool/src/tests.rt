@@ -12,6 +12,16 @@ const REPORT: &str = "c ok resolution\n% SZS status Unsatisfiable for pq.p\nveri
 // disjunction without cases. Then the last entry.
 const LOG: &str = "tptp-log 1\nL ore | 0 note line 1 line 0 0\nL line 2\n";
 
+// A first line of an atom that the problem lacks. It is declared before the lemma, whose goal is that atom.
+const WIDER: &str =
+    "cnf(c,plain,q,inference(res,[status(thm)],[a,b])).\ncnf(d,plain,$false,inference(res,[status(thm)],[a,b])).\n";
+
+const WIDER_REPORT: &str =
+    "c ok resolution\nd ok resolution\n% SZS status Unsatisfiable for pq.p\nverified: 2 lines\n";
+
+const WIDER_LOG: &str =
+    "tptp-log 1\nD p 'q' 0\nL ore a 1 0 note line 1 line 0 0\nL ore | 0 note line 1 line 0 0\nL line 3\n";
+
 fn text(alloc: Global, text: &str) -> Result<Text, AllocError> {
     Text::from_slice(alloc, text.as_bytes())
 }
@@ -34,17 +44,18 @@ fn words_of(alloc: Global, line: &str) -> Result<Vec<String>, AllocError> {
 #[test]
 fn words_and_files(rt: HostRuntime) -> Result<(), Fail> {
     let alloc = rt.alloc();
-    for (line, status, printed, logged) in [
-        ("verify pq.p pq.s", 0, REPORT, LOG),
-        ("verify pq.p pq.s pq.log", 0, REPORT, LOG),
-        ("verify no.p pq.s", 3, "no.p: no such file\n", ""),
-        ("verify pq.p no.s", 3, "no.s: no such file\n", ""),
-        ("verify pq.p", 2, USAGE, ""),
-        ("--limit 01 parse pq.p", 2, USAGE, ""),
-        ("", 2, USAGE, ""),
+    for (line, derivation, status, printed, logged) in [
+        ("verify pq.p pq.s", PROOF, 0, REPORT, LOG),
+        ("verify pq.p pq.s pq.log", PROOF, 0, REPORT, LOG),
+        ("verify pq.p pq.s", WIDER, 0, WIDER_REPORT, WIDER_LOG),
+        ("verify no.p pq.s", PROOF, 3, "no.p: no such file\n", ""),
+        ("verify pq.p no.s", PROOF, 3, "no.s: no such file\n", ""),
+        ("verify pq.p", PROOF, 2, USAGE, ""),
+        ("--limit 01 parse pq.p", PROOF, 2, USAGE, ""),
+        ("", PROOF, 2, USAGE, ""),
     ] {
         let words = words_of(alloc, line)?;
-        let mut store = SteadyStore::new(alloc, files(alloc, PROBLEM, PROOF)?)?;
+        let mut store = SteadyStore::new(alloc, files(alloc, PROBLEM, derivation)?)?;
         let mut out = SteadySink::new(alloc);
         let mut log = SteadySink::new(alloc);
         let answer = run_tptp(alloc, &words, &mut store, &mut out, &mut log);
