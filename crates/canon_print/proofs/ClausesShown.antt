@@ -1,5 +1,5 @@
 -- The canonical text of clauses is cut into tokens that spell them.
-use Rattle.std.proofs.Common.{◌≡◌, ℕ, suc, ◌≤◌, Bool, true, false, List, [], ◌∷◌, ◌++◌, map, codes, refl, sym, subst, ◌∙◌, ap, arith}
+use Rattle.std.proofs.Common.{◌≡◌, ℕ, suc, ◌≤◌, false, List, ◌∷◌, ◌++◌, map, codes, refl, sym, subst, ap, arith}
 use Rattle.first_fault.specs.Rules.{Listed, last, more}
 use Rattle.tptp_lexer.specs.declared.token.Token.TheVariants.{Mark as Sign}
 use Rattle.tptp_lexer.specs.declared.token.Mark.TheVariants as m
@@ -11,7 +11,7 @@ use Rattle.tptp_grammar.specs.Clauses as g
 use Rattle.tptp_grammar.specs.Clauses.{IsLiteral, IsClause}
 use Rattle.tptp_grammar.specs.Terms.{IsAtom}
 use Rattle.canon_print.specs.Words.{later, separated}
-use Rattle.canon_print.specs.Canonical.{Shown, shown, is_compound, formula_text, unit_text}
+use Rattle.canon_print.specs.Canonical.{Shown, is_compound, formula_text, unit_text}
 use Rattle.canon_print.specs.Equations.{shown-Not, shown-Or}
 use Rattle.canon_print.proofs.Lexed.{blank, sign, Given}
 use Rattle.canon_print.proofs.Shows.{Printed, Prints, Shows, by_rule, by_text, two, bar, shows_listed}

@@ -1,7 +1,6 @@
 -- The canonical text of a file's items is cut into tokens that spell them again.
-use Rattle.std.proofs.Common.{◌≡◌, ℕ, suc, ◌+◌, ◌≤◌, Bool, true, false, List, [], ◌∷◌, ◌++◌, length, map, codes, ◌⊎◌, inl, inr, refl, sym, subst, ◌∙◌, ap, arith, append_assoc, length-append}
+use Rattle.std.proofs.Common.{◌≡◌, ℕ, suc, ◌+◌, true, false, List, [], ◌∷◌, ◌++◌, length, map, codes, ◌⊎◌, inl, inr, refl, sym, subst, ◌∙◌, ap, arith, append_assoc, length-append}
 use Rattle.std.proofs.lemmas.Bool.{and_parts}
-use Rattle.std.specs.List.{flat_map, list_all}
 use Rattle.first_fault.specs.Nesting.{Within}
 use Rattle.tptp_lexer.specs.declared.style.Style.TheVariants.{Problem}
 use Rattle.tptp_lexer.specs.declared.token.Token.{Token}
@@ -16,7 +15,6 @@ use Rattle.tptp_lexer.specs.Spelled.{Spelled, lower_word, upper_word, dollar_wor
 use Rattle.tptp_lexer.specs.Tokenized.{Cut, here, after_blank, after_token, placed}
 use Rattle.tptp_grammar.specs.Solid.{Placed, is_comment}
 use Rattle.tptp_grammar.specs.Tokens.{Tokens}
-use Rattle.tptp_grammar.specs.Items.{IsItem}
 use Rattle.tptp_grammar.specs.Files as g
 use Rattle.tptp_grammar.specs.Files.{Through, IsFile, SpellsWithin}
 use Rattle.canon_print.specs.Words.{is_lower_word}
@@ -24,7 +22,7 @@ use Rattle.canon_print.specs.Canonical.{item_text, canonical_text}
 use Rattle.canon_print.specs.RoundTrip.{TextSpells, at_place, first_place, AreSame, SpellsAgain}
 use Rattle.canon_print.proofs.Longest.{longest_lower, longest_mark, longest_line, longest_block}
 use Rattle.canon_print.proofs.Lexed.{LexedTo, done, blank, token, Facts, facts_of, Given}
-use Rattle.canon_print.proofs.ItemsShown.{ItemPrinted, ItemShown, item_shown}
+use Rattle.canon_print.proofs.ItemsShown.{ItemPrinted, item_shown}
 
 -- ---- what the tokens of a text say
 

@@ -1,11 +1,9 @@
 -- The canonical text of formulas is cut into tokens that spell them.
-use Rattle.std.proofs.Common.{◌≡◌, ℕ, suc, ◌≤◌, Bool, true, false, List, [], ◌∷◌, ◌++◌, map, codes, Option, None, Some, refl, sym, subst, ◌∙◌, ap, arith, append_assoc}
+use Rattle.std.proofs.Common.{◌≡◌, ℕ, suc, ◌≤◌, Bool, true, false, List, [], ◌∷◌, ◌++◌, map, codes, Some, refl, sym, subst, ◌∙◌, ap, arith, append_assoc}
 use Rattle.std.proofs.lemmas.List.{append-nil}
-use Rattle.first_fault.specs.Rules.{Listed}
 use Rattle.tptp_lexer.specs.declared.token.Token.TheVariants.{Upper, Mark as Sign}
 use Rattle.tptp_lexer.specs.declared.token.Mark.{Mark}
 use Rattle.tptp_lexer.specs.declared.token.Mark.TheVariants as m
-use Rattle.tptp_base.specs.declared.surface.SortName.{SortName}
 use Rattle.tptp_base.specs.declared.surface.BoundVar.{BoundVar}
 use Rattle.tptp_base.specs.declared.surface.BinOp.{BinOp}
 use Rattle.tptp_base.specs.declared.surface.BinOp.TheVariants as op
@@ -18,12 +16,12 @@ use Rattle.tptp_grammar.specs.Tokens.{Tokens, operator, quantifier}
 use Rattle.tptp_grammar.specs.Formulas as g
 use Rattle.tptp_grammar.specs.Formulas.{IsBoundVariable, AreBoundVariables, under, IsUnit, IsFormula, AreUnits}
 use Rattle.canon_print.specs.Words.{later, separated}
-use Rattle.canon_print.specs.Canonical.{Shown, opening, closing, as_unit, shown, is_compound, formula_text, unit_text, sort_text, variable_text, operator_text, quantifier_text}
+use Rattle.canon_print.specs.Canonical.{Shown, opening, closing, shown, is_compound, formula_text, unit_text, sort_text, variable_text, operator_text, quantifier_text}
 use Rattle.canon_print.specs.Equations.{shown-Not, shown-And, shown-Or, shown-Binary, shown-Bind}
 use Rattle.canon_print.proofs.Longest.{Ends}
-use Rattle.canon_print.proofs.Lexed.{LexedTo, done, blank, chain, join, sign, Given, print_upper}
-use Rattle.canon_print.proofs.Shows.{Printed, Prints, Shows, by_rule, by_text, prints_by, two, Separator, comma, bar, ampersand, colon, separated_one, shows_listed}
-use Rattle.canon_print.proofs.TermsShown.{AtomShown, atom_shown, inequation_shown}
+use Rattle.canon_print.proofs.Lexed.{LexedTo, done, blank, join, sign, Given, print_upper}
+use Rattle.canon_print.proofs.Shows.{Prints, Shows, by_rule, by_text, prints_by, two, Separator, comma, bar, ampersand, separated_one, shows_listed}
+use Rattle.canon_print.proofs.TermsShown.{atom_shown, inequation_shown}
 use Rattle.canon_print.proofs.TypesShown.{argument_sort_shown}
 
 -- ---- units and formulas

@@ -1,28 +1,23 @@
 -- The canonical text of general terms is cut into tokens that spell them.
-use Rattle.std.proofs.Common.{◌≡◌, ℕ, suc, ◌≤◌, true, false, List, [], ◌∷◌, ◌++◌, map, codes, Some, refl, sym, subst, ◌∙◌, ap, arith}
-use Rattle.tptp_lexer.specs.declared.token.Token.{Token}
+use Rattle.std.proofs.Common.{◌≡◌, ℕ, suc, ◌≤◌, List, ◌∷◌, ◌++◌, map, codes, refl, sym, ap, arith}
 use Rattle.tptp_lexer.specs.declared.token.Token.TheVariants.{Upper, Dollar, Number, Distinct, Mark as Sign}
 use Rattle.tptp_lexer.specs.declared.token.Mark.TheVariants as m
-use Rattle.tptp_base.specs.declared.surface.STerm.{STerm}
 use Rattle.tptp_base.specs.declared.surface.Surface.{Surface}
 use Rattle.tptp_base.specs.declared.item.Lang.{Lang}
 use Rattle.tptp_base.specs.declared.item.Lang.TheVariants as lang
 use Rattle.tptp_base.specs.declared.item.GTerm.{GTerm}
-use Rattle.tptp_base.specs.declared.item.GTerm.TheVariants as gt
 use Rattle.tptp_lexer.specs.Bytes.{Text}
-use Rattle.tptp_lexer.specs.Quotes.{double_quote}
-use Rattle.tptp_grammar.specs.Tokens.{Tokens, word, embedded_text}
-use Rattle.tptp_grammar.specs.Terms.{IsTerm}
+use Rattle.tptp_grammar.specs.Tokens.{Tokens, embedded_text}
 use Rattle.tptp_grammar.specs.GeneralTerms as g
 use Rattle.tptp_grammar.specs.GeneralTerms.{IsFormulaOf, IsGeneralData, IsGeneralTerm, IsGeneralList, AreGeneralTerms}
-use Rattle.canon_print.specs.Words.{quoted, word_text, later, separated}
+use Rattle.canon_print.specs.Words.{word_text, later, separated}
 use Rattle.canon_print.specs.Canonical.{term_text, formula_text, list_text, general_text}
 use Rattle.canon_print.specs.Equations.{general_text-Word, general_text-Func, general_text-Var, general_text-Number, general_text-Distinct, general_text-Formula, general_text-Term, general_text-List, general_text-Pair}
 use Rattle.canon_print.proofs.Longest.{Ends}
 use Rattle.canon_print.proofs.Lexed.{LexedTo, done, join, sign, Given, word_facts, print_word, print_upper, print_number, print_distinct, print_dollar}
-use Rattle.canon_print.proofs.Shows.{Printed, Prints, Shows, by_rule, by_text, two, comma, separated_one}
+use Rattle.canon_print.proofs.Shows.{Shows, by_rule, by_text, two, comma, separated_one}
 use Rattle.canon_print.proofs.TermsShown.{term_shown}
-use Rattle.canon_print.proofs.FormulasShown.{ShowsFormula, formula_shown}
+use Rattle.canon_print.proofs.FormulasShown.{formula_shown}
 use Rattle.canon_print.proofs.ClausesShown.{clause_shown}
 
 formula_of_shown : (limit : ℕ) (l : Lang) {d : ℕ} (f : Surface) (ts rest : Tokens) → IsFormulaOf l d f ts rest → Given limit ts → Shows limit (λ e. IsFormulaOf l e f) d (formula_text f) rest

@@ -1,35 +1,30 @@
 -- The canonical text of annotated formulas and includes is cut into tokens that spell them.
-use Rattle.std.proofs.Common.{◌≡◌, ℕ, suc, ◌≤◌, Bool, true, false, List, [], ◌∷◌, ◌++◌, map, codes, Option, None, Some, refl, sym, subst, ◌∙◌, ap, arith, append_assoc}
+use Rattle.std.proofs.Common.{◌≡◌, ℕ, true, false, List, ◌∷◌, ◌++◌, map, codes, Option, None, Some, refl, sym, subst, ◌∙◌, arith, append_assoc}
 use Rattle.std.proofs.lemmas.List.{append-nil}
-use Rattle.first_fault.specs.Rules.{Listed}
-use Rattle.tptp_lexer.specs.declared.token.Token.{Token}
 use Rattle.tptp_lexer.specs.declared.token.Token.TheVariants.{Lower, Quoted, Number, Mark as Sign}
 use Rattle.tptp_lexer.specs.declared.token.Mark.TheVariants as m
 use Rattle.tptp_base.specs.declared.place.Place.{Place}
 use Rattle.tptp_base.specs.declared.name.Name.{Name}
-use Rattle.tptp_base.specs.declared.name.Name.TheVariants as nm
 use Rattle.tptp_base.specs.declared.item.Lang.{Lang}
 use Rattle.tptp_base.specs.declared.item.Lang.TheVariants as lang
 use Rattle.tptp_base.specs.declared.item.Role.{Role}
 use Rattle.tptp_base.specs.declared.item.Role.TheVariants as role
 use Rattle.tptp_base.specs.declared.item.Body.{Body}
-use Rattle.tptp_base.specs.declared.item.Body.TheVariants as body
 use Rattle.tptp_base.specs.declared.item.GTerm.{GTerm}
 use Rattle.tptp_base.specs.declared.item.Item.{Item}
-use Rattle.tptp_base.specs.declared.item.Item.TheVariants as item
 use Rattle.tptp_lexer.specs.Bytes.{Text}
 use Rattle.tptp_lexer.specs.Quotes.{single_quote}
-use Rattle.tptp_grammar.specs.Tokens.{Tokens, word, lang_text, role_text}
+use Rattle.tptp_grammar.specs.Tokens.{Tokens, lang_text, role_text}
 use Rattle.tptp_grammar.specs.Formulas.{IsFormula}
 use Rattle.tptp_grammar.specs.GeneralTerms.{IsGeneralTerm, IsGeneralList}
 use Rattle.tptp_grammar.specs.Items as g
 use Rattle.tptp_grammar.specs.Items.{IsName, IsBody, IsEnd, IsSelection, IsItem}
 use Rattle.canon_print.specs.Words.{is_lower_word, quoted, name_text, separated}
-use Rattle.canon_print.specs.Canonical.{body_text, next_line, item_end, info_text, annotations_text, selection_text, item_text, list_text, general_text}
+use Rattle.canon_print.specs.Canonical.{body_text, next_line, item_end, info_text, annotations_text, selection_text, item_text, general_text}
 use Rattle.canon_print.specs.RoundTrip.{at_place}
 use Rattle.canon_print.proofs.Longest.{Ends}
 use Rattle.canon_print.proofs.Lexed.{LexedTo, done, blank, chain, join, sign, Given, word_facts, print_word, print_number, print_lower, print_quoted}
-use Rattle.canon_print.proofs.Shows.{Printed, Shows, by_rule, by_text, two, comma, shows_listed}
+use Rattle.canon_print.proofs.Shows.{Printed, Shows, by_text, two, comma, shows_listed}
 use Rattle.canon_print.proofs.TypesShown.{typing_shown}
 use Rattle.canon_print.proofs.FormulasShown.{formula_shown}
 use Rattle.canon_print.proofs.ClausesShown.{clause_shown}

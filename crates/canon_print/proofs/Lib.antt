@@ -9,3 +9,4 @@ pub mod ClausesShown
 pub mod GeneralShown
 pub mod ItemsShown
 pub mod FilesShown
+pub mod OneReading

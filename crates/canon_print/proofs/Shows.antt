@@ -1,5 +1,5 @@
 -- What is printed of a part that some tokens spell: at any nesting that is no deeper, whatever follows.
-use Rattle.std.proofs.Common.{◌≡◌, ℕ, suc, ◌≤◌, Bool, true, false, List, [], ◌∷◌, ◌++◌, map, codes, refl, sym, subst, ◌∙◌, ap, arith, append_assoc}
+use Rattle.std.proofs.Common.{◌≡◌, ℕ, ◌≤◌, List, [], ◌∷◌, ◌++◌, map, codes, refl, sym, subst, ap, arith, append_assoc}
 use Rattle.std.proofs.lemmas.List.{append-nil}
 use Rattle.first_fault.specs.Rules.{Listed, last, more}
 use Rattle.tptp_lexer.specs.declared.token.Token.TheVariants.{Mark as Sign}
@@ -9,7 +9,7 @@ use Rattle.tptp_lexer.specs.Bytes.{Text}
 use Rattle.tptp_grammar.specs.Tokens.{Tokens}
 use Rattle.canon_print.specs.Words.{later, separated}
 use Rattle.canon_print.proofs.Longest.{Ends}
-use Rattle.canon_print.proofs.Lexed.{LexedTo, done, blank, chain, join, sign, Given}
+use Rattle.canon_print.proofs.Lexed.{LexedTo, done, blank, join, sign, Given}
 
 -- the text, before what follows it, is cut into tokens that the rule accepts
 pub record Printed (limit : ℕ) (R : Tokens → Tokens → Type 0) (text after : Text) (rest : Tokens) : Type 0 where

@@ -1,22 +1,19 @@
 -- The canonical text of terms, atoms and sorts is cut into tokens that spell them.
-use Rattle.std.proofs.Common.{◌≡◌, ℕ, suc, ◌≤◌, Bool, true, false, List, [], ◌∷◌, ◌++◌, map, codes, Some, refl, sym, subst, ◌∙◌, ap, arith}
-use Rattle.tptp_lexer.specs.declared.token.Token.{Token}
+use Rattle.std.proofs.Common.{◌≡◌, ℕ, suc, ◌≤◌, false, List, ◌∷◌, ◌++◌, codes, refl, sym, ap, arith}
 use Rattle.tptp_lexer.specs.declared.token.Token.TheVariants.{Upper, Dollar, Mark as Sign}
 use Rattle.tptp_lexer.specs.declared.token.Mark.TheVariants as m
 use Rattle.tptp_base.specs.declared.surface.STerm.{STerm}
-use Rattle.tptp_base.specs.declared.surface.STerm.TheVariants as tm
 use Rattle.tptp_base.specs.declared.surface.Surface.{Surface}
 use Rattle.tptp_base.specs.declared.surface.Surface.TheVariants as fm
 use Rattle.tptp_lexer.specs.Bytes.{Text}
-use Rattle.tptp_grammar.specs.Tokens.{Tokens, word}
+use Rattle.tptp_grammar.specs.Tokens.{Tokens}
 use Rattle.tptp_grammar.specs.Terms as g
 use Rattle.tptp_grammar.specs.Terms.{IsTerm, IsApplied, AreTerms, IsAtom, IsInequation}
 use Rattle.canon_print.specs.Words.{word_text, later, separated}
 use Rattle.canon_print.specs.Canonical.{applied_text, term_text, terms_text, Shown, shown, formula_text, is_compound}
 use Rattle.canon_print.specs.Equations.{term_text-Var, term_text-App, shown-True, shown-False, shown-Atom, shown-Eq, shown-Neq}
-use Rattle.canon_print.proofs.Longest.{Ends}
-use Rattle.canon_print.proofs.Lexed.{LexedTo, done, join, sign, Given, Facts, word_facts, print_word, print_upper, print_dollar}
-use Rattle.canon_print.proofs.Shows.{Printed, Shows, by_rule, by_text, two, comma, equal, not_equal, separated_one}
+use Rattle.canon_print.proofs.Lexed.{done, join, sign, Given, word_facts, print_word, print_upper, print_dollar}
+use Rattle.canon_print.proofs.Shows.{Shows, by_rule, by_text, two, comma, equal, not_equal, separated_one}
 
 applied_some : (f : Text) {d : ℕ} {xs : List STerm} {ts rest : Tokens} → AreTerms d xs ts rest → word_text f ++ (codes "(" ++ (separated (codes ",") (terms_text xs) ++ codes ")")) ≡ applied_text f (terms_text xs)
 applied_some f (g.last_term h) = refl

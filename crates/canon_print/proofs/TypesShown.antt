@@ -1,22 +1,20 @@
 -- The canonical text of sorts and type lines is cut into tokens that spell them.
-use Rattle.std.proofs.Common.{◌≡◌, ℕ, suc, ◌≤◌, List, [], ◌∷◌, ◌++◌, map, codes, Some, refl, sym, subst, ◌∙◌, ap, arith}
+use Rattle.std.proofs.Common.{◌≡◌, ℕ, suc, ◌≤◌, List, [], ◌∷◌, ◌++◌, map, codes, refl, arith}
 use Rattle.first_fault.specs.Rules.{Listed, last, more}
-use Rattle.tptp_lexer.specs.declared.token.Token.{Token}
 use Rattle.tptp_lexer.specs.declared.token.Token.TheVariants.{Dollar, Mark as Sign}
 use Rattle.tptp_lexer.specs.declared.token.Mark.TheVariants as m
 use Rattle.tptp_base.specs.declared.surface.SortName.{SortName}
-use Rattle.tptp_base.specs.declared.surface.SortName.TheVariants as sort
 use Rattle.tptp_base.specs.declared.item.Shape.{Shape}
 use Rattle.tptp_base.specs.declared.item.Shape.TheVariants as shape
 use Rattle.tptp_base.specs.declared.item.Typing.{Typing}
 use Rattle.tptp_lexer.specs.Bytes.{Text}
-use Rattle.tptp_grammar.specs.Tokens.{Tokens, word}
+use Rattle.tptp_grammar.specs.Tokens.{Tokens}
 use Rattle.tptp_grammar.specs.Types as g
 use Rattle.tptp_grammar.specs.Types.{IsArgumentSort, IsResultSort, IsMap, IsShape, IsTyping}
 use Rattle.canon_print.specs.Words.{word_text, separated}
 use Rattle.canon_print.specs.Canonical.{sort_text, shape_text, typing_text}
-use Rattle.canon_print.proofs.Lexed.{LexedTo, done, blank, join, sign, Given, word_facts, print_word, print_dollar}
-use Rattle.canon_print.proofs.Shows.{Printed, Prints, Shows, by_rule, by_text, two, star, greater, shows_listed}
+use Rattle.canon_print.proofs.Lexed.{blank, join, sign, Given, word_facts, print_word, print_dollar}
+use Rattle.canon_print.proofs.Shows.{Prints, Shows, by_rule, by_text, two, star, greater, shows_listed}
 
 pub argument_sort_shown : (limit : ℕ) {d : ℕ} {s : SortName} {ts rest : Tokens} → IsArgumentSort d s ts rest → Given limit ts → Shows limit (λ e. IsArgumentSort e s) d (sort_text s) rest
 argument_sort_shown limit (g.named_sort {d = d} {w = w} {s = s} is) given = record {

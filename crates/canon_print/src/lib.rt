@@ -10,7 +10,7 @@ mod terms;
 mod words;
 mod write;
 
-pub use law::{one_text, read_again};
+pub use law::{one_reading, one_text, read_again, read_only};
 pub use printed::{print, print_formula, print_general};
 pub use write::write_name;
 
