@@ -1,6 +1,6 @@
 -- The causes of faults.
-use Rattle.std.specs.Prelude.{⊤, IfErr, IsErrAnd}
-use Rattle.std.proofs.Common.{◌≡◌, ◌⊎◌, ℕ, List, [], inl, inr, sym, ap, subst, ◌∙◌, Some, None, Ok, Err}
+use Rattle.std.specs.Prelude.{IfErr, IsErrAnd}
+use Rattle.std.proofs.Common.{◌≡◌, ◌⊎◌, List, [], inl, inr, sym, ap, subst, Some, None, Ok, Err}
 use Rattle.std.specs.declared.option.Option.{Option}
 use Rattle.std.specs.declared.result.Result.{Result}
 use Rattle.tptp_base.specs.declared.item.Item.{Item}

@@ -1,6 +1,7 @@
 -- Steps of the walk, one behind the other.
-use Rattle.std.specs.Prelude.{⊤, OnOk, IfErr}
-use Rattle.std.proofs.Common.{◌≡◌, ◌⊎◌, ◌≤◌, ◌<◌, ℕ, ◌+◌, ◌-◌, Bool, true, false, List, [], ◌∷◌, ◌++◌, length, reverse, All, inl, inr, refl, sym, ap, subst, ◌∙◌, arith, append_assoc, append-nil, length-append, Some, None, Ok, Err}
+use Rattle.std.specs.Prelude.{OnOk, IfErr}
+use Rattle.std.proofs.Common.{◌≡◌, ◌⊎◌, ◌≤◌, ◌<◌, ℕ, ◌+◌, ◌-◌, false, List, [], ◌∷◌, ◌++◌, length, reverse, All, inl, inr, refl, sym, ap, subst, ◌∙◌, arith, append_assoc, append-nil, length-append, Some, None, Ok, Err}
+use Rattle.std.specs.Borrow.{Bor}
 use Rattle.std.specs.declared.option.Option.{Option}
 use Rattle.std.specs.declared.result.Result.{Result}
 use Rattle.std.proofs.lemmas.List.{reverse-append}
@@ -12,21 +13,22 @@ use Rattle.tptp_base.specs.declared.name.Name.{Name}
 use Rattle.tptp_base.specs.Store.{Files, IsMissing}
 use Rattle.include_resolve.specs.declared.fault.IncludeFault.{IncludeFault}
 use Rattle.include_resolve.specs.declared.fault.IncludeFault.TheVariants as fault
-use Rattle.include_resolve.specs.declared.fault.TextFault.{TextFault}
 use Rattle.include_resolve.specs.declared.opened.Opened.{Opened}
+use Rattle.include_resolve.specs.declared.path.Path.{Path, Inside}
 use Rattle.include_resolve.specs.declared.problem.Problem.{Problem}
 use Rattle.include_resolve.specs.declared.problem.TheConstants.{MAX_DEPTH, TOTAL_SIZE}
 use Rattle.include_resolve.specs.declared.reading.Read.{Read}
 use Rattle.include_resolve.specs.declared.reading.Read.TheVariants.{Whole, Over}
 use Rattle.include_resolve.specs.Names.{Text, tried_names, is_on}
-use Rattle.include_resolve.specs.Opening.{Joins, TakesText, FitsIn}
+use Rattle.include_resolve.specs.Opening.{Joins, TakesText}
 use Rattle.include_resolve.specs.Parts.{Answer, nothing, joined, before, file_alone, item_alone}
+use Rattle.include_resolve.specs.Path.{path_names, path_names-Inside}
 use Rattle.include_resolve.specs.Reading.{IsReadOf}
 use Rattle.include_resolve.specs.Resolved.{Walk, start, beyond, inside, IsFirstFile, IsRead, Opens, missing, cycle, too_deep, opened, Reads, over, faulty, spelled, Replaces, done, stopped, went_on, Takes, comment, formula, replaced, Answers}
 use Rattle.include_resolve.specs.Selecting.{Selects}
 use Rattle.include_resolve.specs.Selection.{selected}
 use Rattle.include_resolve.specs.Steps.{walk_of, IsRefusal, Opening, Fails, Gives, Adds}
-use Rattle.include_resolve.proofs.Joins.{walk_at, part_of, same_walk, same_part, beyond_joined, beyond_nothing, before_joined, before_end, nothing_before}
+use Rattle.include_resolve.proofs.Joins.{part_of, same_walk, same_part, beyond_joined, beyond_nothing, before_joined, before_end, nothing_before}
 
 -- ---- faults
 
@@ -243,7 +245,6 @@ module _ (told : Option Files) (root : Option Text) where
   item_added path from item old kept more (Ok value) t e m = (item_alone item, e, nothing_opened old item, t)
   item_added path from item old kept more (Err cause) t e m = fails_memory (Takes told root (walk_of path old) from item) cause m
 
--- what was read fits
-pub fits_in : (told : Option Files) (opened : Opened) (name : Text) (read : Read) → IsReadOf told name (TOTAL_SIZE - opened.read) read → opened.read ≤ TOTAL_SIZE → FitsIn opened read
-fits_in told opened name (Whole text) h le = (h.1, omega (arith, h.2, le))
-fits_in told opened name (Over limit) h le = tt
+-- inside one file more there is room for one file less
+pub room_inside : (name : Bor Text) (others : Bor Path) (room : ℕ) → length (path_names others.now) + room ≡ MAX_DEPTH + 1 → 0 < room → length (path_names (Inside name others)) + (room - 1) ≡ MAX_DEPTH + 1
+room_inside name others room h some = rw path_names-Inside (omega (arith, h, some))

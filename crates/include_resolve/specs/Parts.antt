@@ -1,5 +1,5 @@
 -- Parts of a problem: what one file, with all that it includes, adds to it.
-use Rattle.std.specs.Prelude.{ℕ, ◌+◌, List, [], ◌∷◌, ◌++◌, Ok, Err}
+use Rattle.std.specs.Prelude.{ℕ, ◌+◌, [], ◌∷◌, ◌++◌, Ok, Err}
 use Rattle.std.specs.declared.result.Result.{Result}
 use Rattle.tptp_base.specs.declared.item.Item.{Item}
 use Rattle.include_resolve.specs.declared.fault.IncludeFault.{IncludeFault}

@@ -1,5 +1,5 @@
 -- The names of the open files, as the code holds them.
-use Rattle.std.specs.Prelude.{◌≡◌, ℕ, List, [], ◌∷◌}
+use Rattle.std.specs.Prelude.{◌≡◌, List, [], ◌∷◌}
 use Rattle.std.specs.Borrow.{Bor}
 use Rattle.include_resolve.specs.declared.path.Path.{Path, Outside, Inside}
 use Rattle.include_resolve.specs.declared.path.Path.TheOpen as path

@@ -3,7 +3,7 @@
 -- first and in order. A file's text is tested whole before its includes are opened, and a selection after its file.
 --
 -- It is said over any store. Where a store doesn't tell its files, each name may have any file, or none.
-use Rattle.std.specs.Prelude.{⊤, ◌≡◌, ◌<◌, ◌≤◌, ℕ, suc, ◌+◌, ◌-◌, List, [], ◌∷◌, length, All, true, false, None, Some, Ok, Err}
+use Rattle.std.specs.Prelude.{⊤, ◌≡◌, ◌<◌, ◌≤◌, ℕ, ◌+◌, ◌-◌, List, [], ◌∷◌, length, All, true, false, None, Ok, Err}
 use Rattle.std.specs.declared.option.Option.{Option}
 use Rattle.tptp_base.specs.declared.item.Annotated.{Annotated}
 use Rattle.tptp_base.specs.declared.item.Include.{Include as Inclusion}

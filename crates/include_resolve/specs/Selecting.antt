@@ -6,7 +6,6 @@ use Rattle.tptp_base.specs.declared.item.Item.{Item}
 use Rattle.tptp_base.specs.declared.name.Name.{Name}
 use Rattle.include_resolve.specs.declared.fault.IncludeFault.{IncludeFault}
 use Rattle.include_resolve.specs.declared.fault.IncludeFault.TheVariants as fault
-use Rattle.include_resolve.specs.declared.problem.Problem.{Problem}
 use Rattle.include_resolve.specs.Names.{Text}
 use Rattle.include_resolve.specs.Selection.{selected}
 

@@ -1,16 +1,16 @@
-use Rattle.std.proofs.Common.{◌≡◌, ◌≤◌, List, [], ◌∷◌, length, reverse, refl, sym, ap, subst, ◌∙◌, arith, Result, Ok, Err}
+use Rattle.std.proofs.Common.{◌≤◌, List, length, reverse, refl, ap, ◌∙◌, arith, rules, Result}
 use Rattle.std.specs.Prelude.{string_bytes}
 use Rattle.std.proofs.lemmas.List.{reverse-reverse}
 use Rattle.std.specs.Option.{option_copied}
 use Rattle.tptp_base.specs.declared.item.Item.{Item}
-use Rattle.tptp_base.specs.declared.item.Item.TheVariants.{Comment, Formula, Include}
+use Rattle.tptp_base.specs.declared.item.Item.TheVariants.{Comment, Formula}
 use Rattle.include_resolve.specs.declared.fault.IncludeFault.{IncludeFault}
 use Rattle.include_resolve.specs.declared.problem.TheConstants.{MAX_DEPTH}
 use Rattle.include_resolve.specs.Path.{path_names, path_names-Inside}
-use Rattle.include_resolve.specs.Resolved.{Opens, Replaces, Takes, comment, formula}
+use Rattle.include_resolve.specs.Resolved.{Opens, Replaces, comment, formula}
 use Rattle.include_resolve.specs.Steps.{list_of, walk_of, Gives}
 use Rattle.include_resolve.proofs.Causing.{err_case, causes_of_selection}
-use Rattle.include_resolve.proofs.Steps.{include_given, nowhere, refuses, text_fault, file_given, file_fails, progress_start, progress_on, progress_stops, progress_ends, item_added}
+use Rattle.include_resolve.proofs.Steps.{include_given, nowhere, refuses, text_fault, file_given, file_fails, progress_start, progress_on, progress_stops, progress_ends, item_added, room_inside}
 use Rattle.include_resolve.proofs.resolving.+open.Goals as goal
 
 pub included-returns-clause-gives : goal.included-returns-clause-gives
@@ -55,7 +55,8 @@ open_found-returns-in_err-items-clause-gives g t c =
     (text_fault told root path old names written selection name found off room c.args.found.read c.take_text.new.opened c.in_err-items.field-0.0 c.requires.read c.requires.budget (rw c.as_str-2.ensures.value at c.in_err-items.ensures.taken))
 
 pub open_found-replace-requires : goal.open_found-replace-requires
-open_found-replace-requires g t c κs within = (omega (arith, c.in_ok-check_path.ensures.room), (rw path_names-Inside (omega (arith, c.requires.room, c.in_ok-check_path.ensures.room)), c.in_ok-items.ensures.budget))
+open_found-replace-requires g t c κs within =
+    (omega (arith, c.in_ok-check_path.ensures.room), (search rules, first_of (search (rules, room_inside), grind (arith, room_inside))))
 
 pub open_found-returns-in_err-items-2-clause-gives : goal.open_found-returns-in_err-items-2-clause-gives
 open_found-returns-in_err-items-2-clause-gives g t c =
@@ -98,7 +99,7 @@ replace-items-init g t c =
     let path = path_names c.args.level.now.path.now in
     record {
       progress = rw c.new-kept.ensures (progress_start told root path c.args.from.now c.args.items c.args.opened.now c.in_ok-left.left (ap reverse c.in_ok-left.ensures ∙ reverse-reverse c.args.items));
-      budget = c.requires.budget;
+      budget = omega arith;
       same_files = refl;
       more_absents = omega arith;
       more_faults = omega arith;

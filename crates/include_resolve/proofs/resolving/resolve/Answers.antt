@@ -1,4 +1,4 @@
-use Rattle.std.proofs.Common.{◌≡◌, List, [], ◌∷◌, length, refl, ap, arith, Result, Ok, Err}
+use Rattle.std.proofs.Common.{refl, Result}
 use Rattle.std.specs.Option.{option_copied}
 use Rattle.include_resolve.specs.declared.fault.IncludeFault.{IncludeFault}
 use Rattle.include_resolve.specs.declared.problem.Problem.{Problem}

@@ -1,4 +1,4 @@
-use Rattle.std.proofs.Common.{filter, ◌∙◌}
+use Rattle.std.proofs.Common.{◌∙◌}
 use Rattle.include_resolve.specs.Selection.{is_selected}
 use Rattle.include_resolve.proofs.Sets.{kept_more, kept_end, selects_same}
 use Rattle.include_resolve.proofs.selection.kept_items.Goals as goal

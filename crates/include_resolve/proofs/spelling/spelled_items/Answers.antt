@@ -1,4 +1,4 @@
-use Rattle.tptp_lexer.specs.declared.fault.LexFault.TheVariants.{Byte, Unfinished}
+use Rattle.tptp_lexer.specs.declared.fault.LexFault.TheVariants.{Byte}
 use Rattle.include_resolve.specs.declared.fault.TextFault.TheVariants.{Lex}
 use Rattle.include_resolve.proofs.Faults.{named_fault}
 use Rattle.include_resolve.proofs.spelling.spelled_items.Goals as goal
