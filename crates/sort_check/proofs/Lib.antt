@@ -1,4 +1,5 @@
 pub mod Closings
+pub mod Declaring
 pub mod GivenLoops
 pub mod LineLoops
 pub mod Loops

@@ -1,5 +1,5 @@
 -- What comes of a whole where it is known what comes of its parts.
-use Rattle.std.proofs.Common.{◌≡◌, ℕ, ◌+◌, ◌==◌, ◌++◌, List, [], ◌∷◌, length, Ok, Err, if◌then◌else◌, refl, sym, ◌∙◌, ap, subst}
+use Rattle.std.proofs.Common.{◌≡◌, ℕ, ◌+◌, ◌==◌, ◌++◌, List, [], ◌∷◌, length, Ok, Err, if◌then◌else◌, ◌≤◌, refl, sym, ◌∙◌, ap, arith}
 use Rattle.tptp_base.specs.declared.limit.LimitName.{LimitName}
 use Rattle.tptp_base.specs.declared.limit.LimitName.TheVariants.{Symbols}
 use Rattle.tptp_base.specs.declared.surface.STerm.{STerm}
@@ -13,7 +13,7 @@ use Rattle.fof_terms.specs.Vocabulary.{Vocabulary}
 use Rattle.fof_terms.specs.declared.signature.Symbol.{Symbol}
 use Rattle.fof_terms.specs.declared.signature.Kind.TheVariants.{Function, Predicate}
 use Rattle.fof_terms.specs.declared.term.Term.{Term, App}
-use Rattle.fof_terms.specs.declared.form.Form.{Form, Atom}
+use Rattle.fof_terms.specs.declared.form.Form.{Form, Atom, And, Or}
 use Rattle.sort_check.specs.declared.fault.SortRule.{SortRule}
 use Rattle.sort_check.specs.declared.fault.SortRule.TheVariants.{Limit}
 use Rattle.sort_check.specs.declared.fault.Stop.{Stop}
@@ -24,7 +24,7 @@ use Rattle.sort_check.specs.Outcomes.{Outcome, and_then, mapped, each, Stops}
 use Rattle.sort_check.specs.Reach.{Reach}
 use Rattle.sort_check.specs.Symbols.{Text, head, with_symbol, result_sort}
 use Rattle.sort_check.specs.Denotation.{Setting, State, state, setting, TermOutcome, argument, denoted_term, made, beside, atom, denoted_form, joined, bound, bound_variable, closed}
-use Rattle.sort_check.specs.Equations.{denoted_term-App, denoted_form-Binary}
+use Rattle.sort_check.specs.Equations.{denoted_term-App, denoted_form-And, denoted_form-Or}
 
 pub full : (s : Symbol) (v : Vocabulary) (limit : LimitName) → limit ≡ Symbols → length v.symbols ≡ 16777216 → with_symbol s v ≡ Err (Limit limit)
 full s v limit l e =
@@ -76,3 +76,30 @@ module _ (here : Setting) (scope : List Variable) (p : Text) (ts : List STerm) (
 -- a formula in a scope in which only the count differs
 pub same_scope : (declared : List Text) (old now : Reach) (a : Surface) (s : State) → now ≡ record old { bound = now.bound } → denoted_form (setting declared now) a now.variables s ≡ denoted_form (setting declared old) a old.variables s
 same_scope declared old now a s kept = ap (λ (r : Reach). denoted_form (setting declared r) a r.variables s) kept
+
+abbrev pub members : Setting → List Variable → List Surface → State → Outcome SortRule State (List Form)
+members here scope as_ s = each (λ place a. denoted_form here a scope) 0 as_ s
+
+module _ (here : Setting) (scope : List Variable) (s : State) (a : Surface) (as_ seen : List Surface) (seen_is : seen ≡ as_) where
+  and_is : a ≡ fm.And as_ → denoted_form here a scope s ≡ mapped And (members here scope seen s)
+  and_is is =
+      ap (λ (x : Surface). denoted_form here x scope s) is ∙ denoted_form-And here scope s as_ ∙ ap (λ (xs : List Surface). mapped And (members here scope xs s)) (sym seen_is)
+
+  or_is : a ≡ fm.Or as_ → denoted_form here a scope s ≡ mapped Or (members here scope seen s)
+  or_is is =
+      ap (λ (x : Surface). denoted_form here x scope s) is ∙ denoted_form-Or here scope s as_ ∙ ap (λ (xs : List Surface). mapped Or (members here scope xs s)) (sym seen_is)
+
+  pub and_ok : a ≡ fm.And as_ → (forms : List Form) (t : State) → members here scope seen s ≡ Ok (forms, t) → denoted_form here a scope s ≡ Ok (And forms, t)
+  and_ok is forms t e = and_is is ∙ ap (mapped And) e
+
+  pub or_ok : a ≡ fm.Or as_ → (forms : List Form) (t : State) → members here scope seen s ≡ Ok (forms, t) → denoted_form here a scope s ≡ Ok (Or forms, t)
+  or_ok is forms t e = or_is is ∙ ap (mapped Or) e
+
+  pub and_fails : a ≡ fm.And as_ → (e : Stop) → Stops (members here scope seen s) e → Stops (denoted_form here a scope s) e
+  and_fails is = stops_as (members here scope seen s) (denoted_form here a scope s) (λ r k. and_is is ∙ ap (mapped And) k)
+
+  pub or_fails : a ≡ fm.Or as_ → (e : Stop) → Stops (members here scope seen s) e → Stops (denoted_form here a scope s) e
+  or_fails is = stops_as (members here scope seen s) (denoted_form here a scope s) (λ r k. or_is is ∙ ap (mapped Or) k)
+
+pub open_room : (old new : Reach) (vs : List Variable) → length old.variables ≤ old.bound + 250 → new ≡ record old { bound = new.bound } → new.bound ≡ old.bound + length vs → length new.variables + length vs ≤ new.bound + 250
+open_room old new vs few kept count = omega (arith, few, count, ap (λ (r : Reach). length r.variables) kept)

@@ -36,7 +36,8 @@ pub fn declare(
                 result,
             )?;
             declare_symbol(signature, symbol)?;
-            names.add(alloc, typing.name.as_slice())
+            names.add(alloc, typing.name.as_slice())?;
+            Ok(())
         }
     }
 }

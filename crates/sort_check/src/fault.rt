@@ -3,7 +3,7 @@ ghost use Rattle.std.specs.Prelude.{◌≡◌};
 ghost use Rattle.sort_check.specs.declared.fault.SortFault.TheVariants.{Memory as out_of_memory};
 ghost use Rattle.sort_check.specs.declared.fault.Stop.TheVariants.{Memory as wanting};
 
-use std::alloc::{AllocError, AllocFailed};
+use std::alloc::AllocError;
 use thiserror::Error;
 use tptp_base::{LimitName, Memory, Name, Place};
 
@@ -76,14 +76,6 @@ impl From<AllocError> for Stop {
     ghost from_gives = { λ _ e. e ≡ wanting };
 
     fn from(_: AllocError) -> Stop {
-        Stop::Memory
-    }
-}
-
-impl<T: Drop> From<AllocFailed<T>> for Stop {
-    ghost from_gives = { λ _ e. e ≡ wanting };
-
-    fn from(_: AllocFailed<T>) -> Stop {
         Stop::Memory
     }
 }

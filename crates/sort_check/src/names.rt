@@ -2,10 +2,10 @@
 ghost use Rattle.std.specs.Prelude.{◌≡◌, [], OnOk};
 ghost use Rattle.sort_check.specs.Symbols.{is_among, with_name};
 
-use crate::fault::Stop;
 use indexmap::IndexSet;
 use std::alloc::Global;
 use std::marker::Model;
+use tptp_base::Memory;
 
 /// Names in the order in which they came, each once. Looking one up takes time that does not grow with their number.
 #[derive(Drop)]
@@ -32,7 +32,7 @@ impl Names {
     }
 
     /// Adds a name, unless it is there.
-    pub fn add(&mut self, alloc: Global, name: &[u8]) -> Result<(), Stop>
+    pub fn add(&mut self, alloc: Global, name: &[u8]) -> Result<(), Memory>
         ensures { OnOk result (self.new ≡ with_name name.now self.old) }
     {
         let name = Vec::from_slice(alloc, name)?;

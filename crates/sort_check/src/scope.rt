@@ -61,7 +61,8 @@ impl Scope {
 
     /// How many variables are in scope.
     pub fn len(&self) -> usize
-        ensures { result ≡ length self.now.variables }
+        ensures value { result ≡ length self.now.variables }
+        ensures few { length self.now.variables ≤ self.now.bound + 250 }
     {
         self.variables.len()
     }

@@ -4,10 +4,10 @@ ghost use Rattle.std.specs.List.{list_any};
 ghost use Rattle.std.specs.Str.{bytes_eq};
 ghost use Rattle.sort_check.specs.Denotation as spec;
 
-use crate::fault::Stop;
+
 use crate::scope::Variable;
 use std::alloc::Global;
-use tptp_base::{List, STerm, Surface, Text};
+use tptp_base::{List, Memory, STerm, Surface, Text};
 
 /// The most variables of a clause.
 const MAX_CLAUSE_VARIABLES: usize = 250;
@@ -15,7 +15,7 @@ const MAX_CLAUSE_VARIABLES: usize = 250;
 /// Notes the variables of a formula, as long as there are at most 250.
 #[cycle(variables_of)]
 #[tactic(auto, using(crate::specs::VariableEquations::variables_equations))]
-pub fn note_variables(form: &Surface, alloc: Global, found: &mut List<Variable>) -> Result<(), Stop>
+pub fn note_variables(form: &Surface, alloc: Global, found: &mut List<Variable>) -> Result<(), Memory>
     ensures value { OnOk result (found.new ≡ spec.variables_of form.now found.old) }
     ensures few { OnOk result (length found.old ≤ 250 → length found.new ≤ 250) }
 {
@@ -42,7 +42,7 @@ pub fn note_variables(form: &Surface, alloc: Global, found: &mut List<Variable>)
 
 // Notes the variables of formulas.
 #[cycle(variables_of)]
-fn note_in_members(forms: &[Surface], alloc: Global, found: &mut List<Variable>) -> Result<(), Stop>
+fn note_in_members(forms: &[Surface], alloc: Global, found: &mut List<Variable>) -> Result<(), Memory>
     ensures value { OnOk result (found.new ≡ spec.in_turn (map spec.variables_of forms.now) found.old) }
     ensures few { OnOk result (length found.old ≤ 250 → length found.new ≤ 250) }
 {
@@ -55,7 +55,7 @@ fn note_in_members(forms: &[Surface], alloc: Global, found: &mut List<Variable>)
 // Notes the variables of a term.
 #[cycle(variables_of_term)]
 #[tactic(auto, using(crate::specs::VariableEquations::variables_equations))]
-fn note_in_term(term: &STerm, alloc: Global, found: &mut List<Variable>) -> Result<(), Stop>
+fn note_in_term(term: &STerm, alloc: Global, found: &mut List<Variable>) -> Result<(), Memory>
     ensures value { OnOk result (found.new ≡ spec.variables_of_term term.now found.old) }
     ensures few { OnOk result (length found.old ≤ 250 → length found.new ≤ 250) }
 {
@@ -67,7 +67,7 @@ fn note_in_term(term: &STerm, alloc: Global, found: &mut List<Variable>) -> Resu
 
 // Notes the variables of terms.
 #[cycle(variables_of_term)]
-fn note_in_terms(terms: &[STerm], alloc: Global, found: &mut List<Variable>) -> Result<(), Stop>
+fn note_in_terms(terms: &[STerm], alloc: Global, found: &mut List<Variable>) -> Result<(), Memory>
     ensures value { OnOk result (found.new ≡ spec.in_turn (map spec.variables_of_term terms.now) found.old) }
     ensures few { OnOk result (length found.old ≤ 250 → length found.new ≤ 250) }
 {
@@ -78,7 +78,7 @@ fn note_in_terms(terms: &[STerm], alloc: Global, found: &mut List<Variable>) -> 
 }
 
 // Notes a variable, unless it is there or 250 are.
-fn note(alloc: Global, name: &[u8], found: &mut List<Variable>) -> Result<(), Stop>
+fn note(alloc: Global, name: &[u8], found: &mut List<Variable>) -> Result<(), Memory>
     ensures value { OnOk result (found.new ≡ spec.noted name.now found.old) }
     ensures few { OnOk result (length found.old ≤ 250 → length found.new ≤ 250) }
 {
