@@ -24,9 +24,10 @@ use Rattle.tptp_grammar.specs.ReadItems.{name}
 use Rattle.tptp_grammar.proofs.ExactTerms.{moves_term, good_term}
 use Rattle.tptp_grammar.proofs.ExactSorts.{moves_argument_sort, good_argument_sort}
 use Rattle.tptp_grammar.proofs.ExactClauses.{moves_literal, good_literal}
-use Rattle.tptp_grammar.proofs.ExactFormulas.{moves_bound_variable, good_bound_variable, moves_unit, good_unit}
+use Rattle.tptp_grammar.proofs.ExactVariables.{moves_bound_variable, good_bound_variable}
+use Rattle.tptp_grammar.proofs.ExactFormulas.{moves_unit, good_unit}
 use Rattle.tptp_grammar.proofs.ExactGeneral.{moves_general, good_general}
-use Rattle.tptp_grammar.proofs.ExactItems.{moves_name, good_name}
+use Rattle.tptp_grammar.proofs.ExactNames.{moves_name, good_name}
 
 pub term_steps : (room : ℕ) → Steps (is_mark m.Comma) (term room)
 term_steps room = steps (is_mark m.Comma) (term room) (IsTerm 0) room (λ x ts rest h. moves_term h) ((good_term room 0 room (omega arith)).exact)

@@ -13,7 +13,8 @@ use Rattle.tptp_grammar.specs.ReadTerms.{is_mark}
 use Rattle.tptp_grammar.specs.ReadTypes.{inside, mapping, map_open, typing, typing_open}
 use Rattle.tptp_grammar.specs.ReadFormulas.{bracket, deeper, unit, formula_by, formula, parenthesis}
 use Rattle.tptp_grammar.specs.ReadGeneral.{general, nesting, listed, general_arguments, general_bracketed, general_pair}
-use Rattle.tptp_grammar.proofs.ExactFormulas.{deeper_is, deeper_none, good_bracket, some_in_bracket, IsBracket}
+use Rattle.tptp_grammar.proofs.ExactFormulas.{deeper_is, deeper_none}
+use Rattle.tptp_grammar.proofs.ExactVariables.{good_bracket, some_in_bracket, IsBracket}
 
 -- what is read of one list, of another that is the same
 pub reads_again : {A : Type 0} (ts us : List Token) → ts ≡ us → (p : Reader Token A) (o : Outcome Token A) (r : Result A Stop) (left : List Token) → o ≡ p us → Reads (p ts) r left → Reads o r left

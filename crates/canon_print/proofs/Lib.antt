@@ -1,0 +1,12 @@
+pub mod Longest
+pub mod Lexed
+pub mod Written
+pub mod Shows
+pub mod TermsShown
+pub mod TypesShown
+pub mod FormulasShown
+pub mod ClausesShown
+pub mod GeneralShown
+pub mod ItemsShown
+pub mod FilesShown
+pub mod OneReading

@@ -1,0 +1,32 @@
+-- Texts that spell items, and items that differ in their places alone.
+use Rattle.std.specs.Prelude.{◌≡◌, ℕ, List, [], map}
+use Rattle.tptp_base.specs.declared.place.Place.{Place}
+use Rattle.tptp_base.specs.declared.item.Item.{Item}
+use Rattle.tptp_base.specs.declared.item.Item.TheVariants as item
+use Rattle.tptp_lexer.specs.declared.style.Style.TheVariants.{Problem}
+use Rattle.tptp_lexer.specs.Bytes.{Text}
+use Rattle.tptp_lexer.specs.Tokenized.{Cut, placed}
+use Rattle.tptp_grammar.specs.Solid.{Placed}
+use Rattle.tptp_grammar.specs.Files.{SpellsWithin}
+
+-- the text of the file is cut into tokens, and these spell the items, nested no deeper than the limit
+abbrev pub TextSpells : ℕ → ℕ → List Item → Text → Type 0
+TextSpells file limit items text = (tokens : List Placed) × (end : ℕ) × Cut Problem (placed file text) 0 text tokens end [] × SpellsWithin limit items tokens
+
+-- the item at another place
+abbrev pub at_place : Place → Item → Item
+at_place place (item.Comment text) = item.Comment text
+at_place place (item.Formula formula) = item.Formula (record formula { place = place })
+at_place place (item.Include include) = item.Include (record include { place = place })
+
+-- the first place of a file
+abbrev pub first_place : Place
+first_place = record { file = 0; offset = 0; line = 1; column = 1 }
+
+-- the same items, but for their places
+abbrev pub AreSame : List Item → List Item → Type 0
+AreSame items others = map (at_place first_place) items ≡ map (at_place first_place) others
+
+-- Some text spells the same items again, but for their places.
+abbrev pub SpellsAgain : ℕ → ℕ → List Item → Text → Type 0
+SpellsAgain file limit items text = (again : List Item) × AreSame again items × TextSpells file limit again text

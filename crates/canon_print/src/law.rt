@@ -1,0 +1,34 @@
+//! Laws of the canonical text. Their bodies are empty: what they say is in their contracts.
+ghost use Rattle.std.specs.Prelude.{◌≡◌, ℕ, List};
+ghost use Rattle.tptp_base.specs.declared.item.Item.{Item};
+ghost use Rattle.tptp_lexer.specs.Bytes.{Text};
+ghost use Rattle.canon_print.specs.Canonical.{canonical_text};
+ghost use Rattle.canon_print.specs.RoundTrip.{AreSame, TextSpells, SpellsAgain};
+
+/// What some text spells, the canonical text spells again, but for the places of the items. It nests no deeper than
+/// any text that spells them.
+pub fn read_again()
+    ensures { (file limit : ℕ) (items : List Item) (text : Text) →
+        TextSpells file limit items text → SpellsAgain file limit items (canonical_text items) }
+{}
+
+/// A text spells one list of items in a file.
+pub fn one_reading()
+    ensures { (file limit more : ℕ) (items others : List Item) (text : Text) →
+        TextSpells file limit items text → TextSpells file more others text → items ≡ others }
+{}
+
+/// What the canonical text spells are the items that it was made of, but for their places, and these have the same
+/// canonical text again.
+pub fn read_only()
+    ensures same { (file limit more : ℕ) (items others : List Item) (text : Text) →
+        TextSpells file limit items text → TextSpells file more others (canonical_text items) → AreSame others items }
+    ensures again { (file limit more : ℕ) (items others : List Item) (text : Text) →
+        TextSpells file limit items text → TextSpells file more others (canonical_text items) →
+        canonical_text others ≡ canonical_text items }
+{}
+
+/// Items that differ in their places alone have one canonical text: printed again, it is the same bytes.
+pub fn one_text()
+    ensures { (items others : List Item) → AreSame items others → canonical_text items ≡ canonical_text others }
+{}

@@ -1,0 +1,5 @@
+use Rattle.clause_form.specs.NormSize.{norm_small}
+use Rattle.clause_form.proofs.laws.norm_no_larger.Goals as goal
+
+pub returns : goal.returns
+returns c = norm_small

@@ -1,0 +1,16 @@
+pub mod Cases
+pub mod ClauseLaws
+pub mod ClauseView
+pub mod Covers
+pub mod Images
+pub mod Joined
+pub mod Kinds
+pub mod Norm
+pub mod NormCases
+pub mod NormSize
+pub mod NormSorts
+pub mod Paths
+pub mod SizeLaws
+pub mod Sizes
+pub mod Strip
+pub mod ViewLaws

@@ -1,0 +1,33 @@
+//! Clauses and normal forms: the clause that a formula is, what it takes for one clause to cover another, the normal
+//! form of a formula with its sizes, and the paths through a normal form.
+#![tactic(auto)]
+
+mod clause;
+mod closing;
+mod fault;
+mod joining;
+mod laws;
+mod normal;
+mod path;
+mod sameness;
+mod sizes;
+mod stripping;
+mod view;
+
+pub use clause::{AtomOf, Clause, Lit, copy_clauses, copy_lits};
+pub use closing::{close, form_of_atom, form_of_lit};
+pub use fault::FormFault;
+pub use joining::{join_flat, node, push_members, quantified, signed};
+pub use laws::{
+    cover_of_instance, empty_instance, image_of_image, instance_of_trivial, norm_no_larger,
+    view_of_closed,
+};
+pub use normal::{MAX_NORM_SIZE, norm, norm_all, norm_signed};
+pub use path::{Parent, Path};
+pub use sameness::{are_complementary, denies, is_trivial, same_atoms};
+pub use sizes::{clause_count, norm_size};
+pub use stripping::strip;
+pub use view::{as_clause, as_lit};
+
+#[cfg(test)]
+mod tests;

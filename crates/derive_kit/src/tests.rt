@@ -1,0 +1,191 @@
+use super::*;
+use fof_terms::{Form, Kind, Signature, SortId, Symbol, Term, equal};
+use kernel::{Entry, Theory};
+use std::alloc::Global;
+use std::test::Fail;
+use tptp_base::{Boxed, List, Memory};
+
+// The predicates p and q, the predicate r of one argument, and the constants c and d, in this order.
+fn signature(alloc: Global) -> Result<Signature, Fail> {
+    let mut signature = Signature::new(alloc)?;
+    for (kind, args) in [
+        (Kind::Predicate, ""),
+        (Kind::Predicate, ""),
+        (Kind::Predicate, "i"),
+        (Kind::Function, ""),
+        (Kind::Function, ""),
+    ] {
+        declare(&mut signature, alloc, kind, args)?;
+    }
+    Ok(signature)
+}
+
+// Adds a symbol with an argument for each letter, over individuals.
+fn declare(
+    signature: &mut Signature,
+    alloc: Global,
+    kind: Kind,
+    letters: &str,
+) -> Result<(), Memory> {
+    let count = signature.sort_count();
+    let mut args: List<SortId> = List::new(alloc);
+    for _ in letters.as_bytes() {
+        args.push(0)?;
+    }
+    let name = List::from_slice(alloc, b"name")?;
+    if count == 0 || !args.as_slice().iter().all(|sort| *sort < count) {
+        return Err(Memory);
+    }
+    let symbol = Symbol {
+        name,
+        kind,
+        args,
+        result: 0,
+    };
+    match signature.add(symbol) {
+        Ok(_) => Ok(()),
+        Err(_) => Err(Memory),
+    }
+}
+
+// The formula of a text in which the parts stand before what they are parts of: p and q, r of the constants c and d or
+// of a variable by its number, `e` the equation of c and d, & and | with two members, > an implication, ! a quantifier.
+fn form(alloc: Global, text: &str) -> Result<Boxed<Form>, Memory> {
+    let mut stack = List::new(alloc);
+    for byte in text.as_bytes() {
+        let next = match *byte {
+            b'p' => atom(alloc, 0)?,
+            b'q' => atom(alloc, 1)?,
+            b'&' | b'|' | b'>' => connected(alloc, *byte, &mut stack)?,
+            b'!' => Boxed::new(alloc, Form::All(0, stack.pop().ok_or(Memory)?))?,
+            b'e' => Boxed::new(alloc, Form::Eq(term(alloc, b'c'), term(alloc, b'd')))?,
+            other => applied(alloc, other)?,
+        };
+        stack.push(next)?;
+    }
+    stack.pop().ok_or(Memory)
+}
+
+fn atom(alloc: Global, symbol: u32) -> Result<Boxed<Form>, Memory> {
+    Ok(Boxed::new(alloc, Form::Atom(symbol, List::new(alloc)))?)
+}
+
+fn term(alloc: Global, letter: u8) -> Term {
+    match letter {
+        b'c' => Term::App(3, List::new(alloc)),
+        b'd' => Term::App(4, List::new(alloc)),
+        digit => Term::Var(digit.saturating_sub(b'0') as u32),
+    }
+}
+
+fn applied(alloc: Global, letter: u8) -> Result<Boxed<Form>, Memory> {
+    let mut args = List::new(alloc);
+    args.push(term(alloc, letter))?;
+    Ok(Boxed::new(alloc, Form::Atom(2, args))?)
+}
+
+fn connected(
+    alloc: Global,
+    sign: u8,
+    stack: &mut List<Boxed<Form>>,
+) -> Result<Boxed<Form>, Memory> {
+    let right = stack.pop().ok_or(Memory)?;
+    let left = stack.pop().ok_or(Memory)?;
+    if sign == b'>' {
+        return Ok(Boxed::new(alloc, Form::Imp(left, right))?);
+    }
+    let mut members = List::new(alloc);
+    members.push(left.into_inner())?;
+    members.push(right.into_inner())?;
+    if sign == b'&' {
+        return Ok(Boxed::new(alloc, Form::And(members))?);
+    }
+    Ok(Boxed::new(alloc, Form::Or(members))?)
+}
+
+// The members of a conjunction or a disjunction.
+fn members(alloc: Global, text: &str) -> Result<List<Form>, Memory> {
+    match form(alloc, text)?.into_inner() {
+        Form::And(members) => Ok(members),
+        Form::Or(members) => Ok(members),
+        _ => Err(Memory),
+    }
+}
+
+// Whether the kernel concludes the formula `premise > conclusion` of the text, where the proof shows the conclusion under
+// the premise.
+fn shows(alloc: Global, text: &str, premise: &str, proof: Part) -> Result<bool, Fail> {
+    let mut theory = Theory::start(alloc, signature(alloc)?, List::new(alloc))?;
+    let whole = imp_i(alloc, form(alloc, premise)?.into_inner(), proof)?;
+    let mut entries = List::new(alloc);
+    entries.push(Entry::Lemma(whole.into_inner()))?;
+    for entry in entries.as_slice() {
+        theory.admit(entry)?;
+    }
+    let want = form(alloc, text)?;
+    match theory.formula(0) {
+        Some(found) => Ok(equal(found, want.get())),
+        None => Ok(false),
+    }
+}
+
+#[test]
+fn cases_of_disjunctions(rt: HostRuntime) -> Result<(), Fail> {
+    let alloc = rt.alloc();
+    let mut arms = List::new(alloc);
+    let second = or_i(alloc, members(alloc, "qp|")?, 1, hyp(alloc, 0)?)?;
+    arms.push(second.into_inner())?;
+    let first = or_i(alloc, members(alloc, "qp|")?, 0, hyp(alloc, 0)?)?;
+    arms.push(first.into_inner())?;
+    let choice = hyp(alloc, 0)?;
+    let made = cases(alloc, choice, arms, form(alloc, "qp|")?.into_inner())?;
+    assert!(rt; shows(alloc, "pq|qp|>", "pq|", made)?);
+    let mut arms = List::new(alloc);
+    arms.push(hyp(alloc, 0)?.into_inner())?;
+    arms.push(hyp(alloc, 0)?.into_inner())?;
+    let choice = hyp(alloc, 0)?;
+    let made = cases(alloc, choice, arms, form(alloc, "p")?.into_inner())?;
+    assert!(rt; shows(alloc, "pp|p>", "pp|", made)?);
+    Ok(())
+}
+
+#[test]
+fn facts_that_are_cut_in(rt: HostRuntime) -> Result<(), Fail> {
+    let alloc = rt.alloc();
+    let lemma = and_e(alloc, 1, hyp(alloc, 0)?)?;
+    let rest = hyp(alloc, 0)?;
+    let made = cut_under(alloc, lemma, form(alloc, "q")?.into_inner(), rest)?;
+    assert!(rt; shows(alloc, "pq&q>", "pq&", made)?);
+    let lemma = and_e(alloc, 1, hyp(alloc, 0)?)?;
+    let rest = and_e(alloc, 0, hyp(alloc, 1)?)?;
+    let made = cut_under(alloc, lemma, form(alloc, "q")?.into_inner(), rest)?;
+    assert!(rt; shows(alloc, "pq&p>", "pq&", made)?);
+    Ok(())
+}
+
+#[test]
+fn instances(rt: HostRuntime) -> Result<(), Fail> {
+    let alloc = rt.alloc();
+    let mut terms = List::new(alloc);
+    terms.push(term(alloc, b'c'))?;
+    let made = instance_of(alloc, hyp(alloc, 0)?, terms)?;
+    assert!(rt; shows(alloc, "0!c>", "0!", made)?);
+    let mut terms = List::new(alloc);
+    terms.push(term(alloc, b'c'))?;
+    terms.push(term(alloc, b'd'))?;
+    let made = instance_of(alloc, hyp(alloc, 0)?, terms)?;
+    assert!(rt; shows(alloc, "10&!!cd&>", "10&!!", made)?);
+    Ok(())
+}
+
+#[test]
+fn sides_of_equations(rt: HostRuntime) -> Result<(), Fail> {
+    let alloc = rt.alloc();
+    for (hole, text, premise) in [("0", "ec&d>", "ec&"), ("0p|", "ecp|&dp|>", "ecp|&")] {
+        let equation = and_e(alloc, 0, hyp(alloc, 0)?)?;
+        let fact = and_e(alloc, 1, hyp(alloc, 0)?)?;
+        let made = rewrite_in(alloc, 0, form(alloc, hole)?.into_inner(), equation, fact)?;
+        assert!(rt; shows(alloc, text, premise, made)?, "{text}");
+    }
+    Ok(())
+}

@@ -1,0 +1,7 @@
+pub mod Causing
+pub mod Faults
+pub mod Finding
+pub mod Joins
+pub mod Sets
+pub mod Slashes
+pub mod Steps

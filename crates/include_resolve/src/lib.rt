@@ -1,0 +1,18 @@
+//! Includes replaced: the items of a file and of all that it includes, or the first fault on the walk through the files.
+#![tactic(auto)]
+
+mod fault;
+mod name_set;
+mod names;
+mod opened;
+mod order;
+mod path;
+mod problem;
+mod reading;
+mod resolving;
+mod selection;
+mod spelling;
+
+pub use fault::{IncludeFault, TextFault};
+pub use problem::{MAX_DEPTH, Problem, TOTAL_SIZE};
+pub use resolving::resolve;
