@@ -1,5 +1,5 @@
 -- What the type lines declare, where it is known what comes of their parts.
-use Rattle.std.proofs.Common.{◌≡◌, ℕ, zero, suc, ◌+◌, ◌==◌, ◌||◌, ◌++◌, Bool, true, false, List, [], ◌∷◌, length, take, slice_get, Option, Some, None, Ok, Err, if◌then◌else◌, refl, sym, ◌∙◌, ap, add-one}
+use Rattle.std.proofs.Common.{◌≡◌, ℕ, zero, suc, ◌+◌, ◌==◌, ◌||◌, ◌++◌, Bool, true, false, List, [], ◌∷◌, length, take, slice_get, Option, None, Ok, Err, if◌then◌else◌, refl, sym, ◌∙◌, ap, add-one}
 use Rattle.std.specs.List.{list_any}
 use Rattle.tptp_base.specs.declared.limit.LimitName.{LimitName}
 use Rattle.tptp_base.specs.declared.limit.LimitName.TheVariants.{Sorts}
@@ -49,7 +49,7 @@ full_sorts word v limit none l e =
 pub sort_fails : (word : Text) (s : Shape) (v : Vocabulary) (names : List Text) → s ≡ shape.Sort → (seen : Text) → seen ≡ word → (e : Stop) → Stops (declared_sort seen v) e → Stops (typed word s (record { vocabulary = v; names = names })) e
 sort_fails word s v names is seen seen_is =
     stops_as (declared_sort seen v) (typed word s (record { vocabulary = v; names = names }))
-        (λ r k. ap (λ (x : Shape). typed word x (record { vocabulary = v; names = names })) is ∙ ap (λ (w : Text). declaring names (declared_sort w v)) (sym seen_is) ∙ ap (declaring names) k)
+    (λ r k. ap (λ (x : Shape). typed word x (record { vocabulary = v; names = names })) is ∙ ap (λ (w : Text). declaring names (declared_sort w v)) (sym seen_is) ∙ ap (declaring names) k)
 
 pub symbol_ok : (word : Text) (s : Shape) (args : List SortName) (result : SortName) (v w : Vocabulary) (names new : List Text) (symbol : Symbol) (n : ℕ) → s ≡ shape.Symbol args result → (seen : Text) → seen ≡ word → (args_seen : List SortName) → args_seen ≡ args
     → symbol_named seen args_seen result v ≡ Ok (symbol, v) → declared_symbol symbol v ≡ Ok (n, w) → new ≡ with_name word names → typed word s (record { vocabulary = v; names = names }) ≡ Ok (tt, record { vocabulary = w; names = new })

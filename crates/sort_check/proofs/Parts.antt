@@ -1,14 +1,11 @@
 -- What comes of a whole where it is known what comes of its parts.
-use Rattle.std.proofs.Common.{◌≡◌, ℕ, ◌+◌, ◌==◌, ◌++◌, List, [], ◌∷◌, length, Ok, Err, if◌then◌else◌, ◌≤◌, refl, sym, ◌∙◌, ap, arith}
+use Rattle.std.proofs.Common.{◌≡◌, ℕ, ◌+◌, ◌==◌, ◌++◌, List, [], ◌∷◌, length, Ok, Err, if◌then◌else◌, ◌≤◌, sym, ◌∙◌, ap, arith}
 use Rattle.tptp_base.specs.declared.limit.LimitName.{LimitName}
 use Rattle.tptp_base.specs.declared.limit.LimitName.TheVariants.{Symbols}
 use Rattle.tptp_base.specs.declared.surface.STerm.{STerm}
 use Rattle.tptp_base.specs.declared.surface.STerm.TheVariants as tm
 use Rattle.tptp_base.specs.declared.surface.Surface.{Surface}
 use Rattle.tptp_base.specs.declared.surface.Surface.TheVariants as fm
-use Rattle.tptp_base.specs.declared.surface.BinOp.{BinOp}
-use Rattle.tptp_base.specs.declared.surface.Quant.{Quant}
-use Rattle.tptp_base.specs.declared.surface.BoundVar.{BoundVar}
 use Rattle.fof_terms.specs.Vocabulary.{Vocabulary}
 use Rattle.fof_terms.specs.declared.signature.Symbol.{Symbol}
 use Rattle.fof_terms.specs.declared.signature.Kind.TheVariants.{Function, Predicate}
@@ -19,11 +16,10 @@ use Rattle.sort_check.specs.declared.fault.SortRule.TheVariants.{Limit}
 use Rattle.sort_check.specs.declared.fault.Stop.{Stop}
 use Rattle.sort_check.specs.declared.fault.Stop.TheVariants as stop
 use Rattle.sort_check.specs.declared.scope.Variable.{Variable}
-use Rattle.sort_check.specs.declared.terms.Sorted.{Sorted}
 use Rattle.sort_check.specs.Outcomes.{Outcome, and_then, mapped, each, Stops}
 use Rattle.sort_check.specs.Reach.{Reach}
 use Rattle.sort_check.specs.Symbols.{Text, head, with_symbol, result_sort}
-use Rattle.sort_check.specs.Denotation.{Setting, State, state, setting, TermOutcome, argument, denoted_term, made, beside, atom, denoted_form, joined, bound, bound_variable, closed}
+use Rattle.sort_check.specs.Denotation.{Setting, State, setting, TermOutcome, argument, denoted_term, made, beside, atom, denoted_form}
 use Rattle.sort_check.specs.Equations.{denoted_term-App, denoted_form-And, denoted_form-Or}
 
 pub full : (s : Symbol) (v : Vocabulary) (limit : LimitName) → limit ≡ Symbols → length v.symbols ≡ 16777216 → with_symbol s v ≡ Err (Limit limit)

@@ -1,6 +1,6 @@
 -- The equations of what terms and formulas denote.
-use Rattle.std.specs.Prelude.{ℕ, ◌+◌, ◌++◌, List, [], ◌∷◌, ◌≡◌, length, map, Ok, Err, refl}
-use Rattle.std.proofs.Common.{ap, ◌∙◌, sym, suc}
+use Rattle.std.specs.Prelude.{ℕ, ◌+◌, List, [], ◌∷◌, ◌≡◌, length, map, Ok, Err, refl}
+use Rattle.std.proofs.Common.{ap, ◌∙◌, suc}
 use denote.Hole.Carrier.{roll}
 use Rattle.tptp_base.specs.declared.surface.STerm.{STerm}
 use Rattle.tptp_base.specs.declared.surface.STerm.TheVariants as tm
@@ -21,7 +21,7 @@ use Rattle.fof_terms.specs.declared.form.Form.{Not, And, Or}
 use Rattle.sort_check.specs.declared.scope.Variable.{Variable}
 use Rattle.sort_check.specs.Outcomes.{Outcome, and_then, mapped, each}
 use Rattle.sort_check.specs.Symbols.{Text, head, result_sort}
-use Rattle.sort_check.specs.Denotation.{Setting, State, Meaning, TermOutcome, nearest, variable_at, argument, made, term_step, denoted_term, beside, atom, equation, joined, bound, form_step, denoted_form, noted, in_turn, variables_step, variables_of_term, form_variables_step, variables_of}
+use Rattle.sort_check.specs.Denotation.{Setting, State, Meaning, TermOutcome, nearest, variable_at, argument, made, term_step, denoted_term, beside, atom, equation, joined, bound, form_step, denoted_form}
 
 -- ---- each of some parts, seen as each of their wholes
 

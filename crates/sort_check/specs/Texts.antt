@@ -11,7 +11,6 @@ use Rattle.tptp_base.specs.declared.item.Role.{Role}
 use Rattle.tptp_base.specs.declared.item.Role.TheVariants as role
 use Rattle.tptp_base.specs.declared.item.Shape.{Shape}
 use Rattle.tptp_base.specs.declared.item.Shape.TheVariants as shape
-use Rattle.tptp_base.specs.declared.item.Typing.{Typing}
 use Rattle.tptp_base.specs.declared.item.Body.{Body}
 use Rattle.tptp_base.specs.declared.item.Body.TheVariants as body
 use Rattle.tptp_base.specs.declared.item.Annotated.{Annotated}

@@ -1,6 +1,6 @@
 -- The equations of the variables of terms and formulas.
-use Rattle.std.specs.Prelude.{ℕ, List, ◌≡◌, map}
-use Rattle.std.proofs.Common.{ap, ◌∙◌, refl}
+use Rattle.std.specs.Prelude.{List, ◌≡◌, map}
+use Rattle.std.proofs.Common.{ap}
 use Rattle.tptp_base.specs.declared.surface.STerm.{STerm}
 use Rattle.tptp_base.specs.declared.surface.STerm.TheVariants as tm
 use Rattle.tptp_base.specs.declared.surface.Surface.{Surface}

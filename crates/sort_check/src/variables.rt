@@ -4,7 +4,6 @@ ghost use Rattle.std.specs.List.{list_any};
 ghost use Rattle.std.specs.Str.{bytes_eq};
 ghost use Rattle.sort_check.specs.Denotation as spec;
 
-
 use crate::scope::Variable;
 use std::alloc::Global;
 use tptp_base::{List, Memory, STerm, Surface, Text};
@@ -15,7 +14,11 @@ const MAX_CLAUSE_VARIABLES: usize = 250;
 /// Notes the variables of a formula, as long as there are at most 250.
 #[cycle(variables_of)]
 #[tactic(auto, using(crate::specs::VariableEquations::variables_equations))]
-pub fn note_variables(form: &Surface, alloc: Global, found: &mut List<Variable>) -> Result<(), Memory>
+pub fn note_variables(
+    form: &Surface,
+    alloc: Global,
+    found: &mut List<Variable>,
+) -> Result<(), Memory>
     ensures value { OnOk result (found.new ≡ spec.variables_of form.now found.old) }
     ensures few { OnOk result (length found.old ≤ 250 → length found.new ≤ 250) }
 {
@@ -42,7 +45,11 @@ pub fn note_variables(form: &Surface, alloc: Global, found: &mut List<Variable>)
 
 // Notes the variables of formulas.
 #[cycle(variables_of)]
-fn note_in_members(forms: &[Surface], alloc: Global, found: &mut List<Variable>) -> Result<(), Memory>
+fn note_in_members(
+    forms: &[Surface],
+    alloc: Global,
+    found: &mut List<Variable>,
+) -> Result<(), Memory>
     ensures value { OnOk result (found.new ≡ spec.in_turn (map spec.variables_of forms.now) found.old) }
     ensures few { OnOk result (length found.old ≤ 250 → length found.new ≤ 250) }
 {
