@@ -3,4 +3,3 @@ pub mod Concluded
 pub mod ConcludedOver
 pub mod ConcludedLists
 pub mod Added
-pub mod Marked

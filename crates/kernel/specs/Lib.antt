@@ -7,5 +7,4 @@ pub mod Hypotheses
 pub mod Proves
 pub mod Rules
 pub mod Statements
-pub mod Uses
 pub mod Weakening

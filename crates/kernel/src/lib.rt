@@ -5,7 +5,6 @@ mod closing;
 mod context;
 mod deduction;
 mod entry;
-mod marks;
 mod proof;
 mod quantifiers;
 mod rules;
@@ -17,6 +16,3 @@ pub use deduction::conclude;
 pub use entry::{AdmitFault, Decl, Entry};
 pub use proof::Proof;
 pub use theory::Theory;
-
-#[cfg(test)]
-mod tests;

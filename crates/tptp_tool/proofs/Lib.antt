@@ -4,12 +4,10 @@ pub mod Beginning
 pub mod Declaring
 pub mod Denoting
 pub mod Endings
-pub mod Formats
 pub mod Headline
 pub mod LineChecks
 pub mod Logs
 pub mod OneConclusion
 pub mod Reports
-pub mod Requests
 pub mod Stages
 pub mod Texts

@@ -3,16 +3,12 @@ pub mod Checked
 pub mod Claim
 pub mod Closing
 pub mod Ending
-pub mod Ends
-pub mod Formatted
 pub mod Good
 pub mod Line
-pub mod Options
 pub mod Outcome
 pub mod ProblemTheory
 pub mod Reading
 pub mod Report
 pub mod Run
-pub mod Spelled
 pub mod Stop
 pub mod Words

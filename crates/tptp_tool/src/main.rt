@@ -6,11 +6,9 @@ mod closing;
 mod declarations;
 mod denotation;
 mod derivation;
-mod format;
 mod refusals;
 mod report;
 mod run;
-mod spelled;
 mod stop;
 #[cfg(test)]
 mod tests;
@@ -61,8 +59,7 @@ fn words_of<R: Env + AllocGlobal>(rt: &R) -> io::Result<Vec<String>> {
 
 // The name of the log, if there is one.
 fn log_name(words: &[String]) -> Option<&str> {
-    match read_words(words)?.job {
+    match read_words(words)? {
         Job::Verify(_, _, log) => log,
-        Job::Format(_) => None,
     }
 }

@@ -95,8 +95,8 @@ fn no_such_file(alloc: Global, name: &str) -> Result<Answer, AllocError>
     Ok(Answer::new(3, text))
 }
 
-/// What is said of a file that is over a limit.
-pub fn over_limit(alloc: Global, name: &str, limit: LimitName) -> Result<Answer, AllocError>
+// A file that is over a limit.
+fn over_limit(alloc: Global, name: &str, limit: LimitName) -> Result<Answer, AllocError>
     ensures { IfOk result (λ answer. ending_of answer ≡ Ending.over_limit name.now limit) }
 {
     let reason = limit_text(limit);

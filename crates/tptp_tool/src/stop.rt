@@ -77,14 +77,6 @@ impl From<AllocError> for Halt {
     }
 }
 
-impl From<Memory> for Halt {
-    ghost from_gives = { λ _ halt. halt ≡ Stopped StopMemory };
-
-    fn from(_: Memory) -> Self {
-        Halt::Stopped(Stop::Memory)
-    }
-}
-
 impl From<Stop> for Halt {
     ghost from_gives = { λ stop halt. halt ≡ Stopped stop };
 

@@ -1,6 +1,0 @@
-use Rattle.sort_check.proofs.LineLoops.{TypesSoFar}
-use Rattle.sort_check.proofs.denotation.take_types.Given as goal
-
-abbrev pub invariant-loop-item : goal.invariant-loop-item
-invariant-loop-item l =
-    TypesSoFar l.items (record { vocabulary = l.initial.signature; names = l.initial.names }) l.item-index (record { vocabulary = l.signature; names = l.names })
