@@ -118,12 +118,7 @@ fn source(alloc: Global, number: u32) -> Result<GTerm, Memory>
 }
 
 // Adds the number so far below, where there is one.
-fn add_below(
-    alloc: Global,
-    parents: &mut List<GTerm>,
-    number: u32,
-    by: u32,
-) -> Result<(), Memory>
+fn add_below(alloc: Global, parents: &mut List<GTerm>, number: u32, by: u32) -> Result<(), Memory>
     ensures { OnOk result (parents.new ≡ parents.old ++ number_below number by) }
 {
     if by <= number {

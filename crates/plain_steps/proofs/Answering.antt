@@ -7,18 +7,18 @@ use Rattle.kernel.specs.Statements.{Statements}
 use Rattle.kernel.specs.Proves.{Proves}
 use Rattle.kernel.specs.declared.proof.Proof.{Proof}
 use Rattle.kernel.specs.declared.entry.Entry.TheVariants.{Lemma}
-use Rattle.elaborate.specs.declared.answer.Rule.TheVariants.{Resolution}
-use Rattle.elaborate.specs.declared.answer.StepAnswer.TheVariants.{Accepted, Unverified}
-use Rattle.elaborate.specs.declared.answer.Reason.TheVariants.{NotYet}
-use Rattle.elaborate.specs.declared.literal.Literal.{Literal}
-use Rattle.elaborate.specs.declared.pair.Pair.{Pair}
-use Rattle.elaborate.specs.PropositionalClause.{form_of, HasLiterals}
-use Rattle.elaborate.specs.Resolution.{IsPivot, opposite_of}
-use Rattle.elaborate.specs.ByRule.{ByResolution, Holds, formulas_at}
-use Rattle.elaborate.specs.StepAnswer.{IsStepAnswer}
-use Rattle.elaborate.specs.Literals.{one_clause_view}
-use Rattle.elaborate.specs.Offers.{IsOffer, IsPair}
-use Rattle.elaborate.proofs.PivotLists.{alone}
+use Rattle.plain_steps.specs.declared.answer.Rule.TheVariants.{Resolution}
+use Rattle.plain_steps.specs.declared.answer.StepAnswer.TheVariants.{Accepted, Unverified}
+use Rattle.plain_steps.specs.declared.answer.Reason.TheVariants.{NotYet}
+use Rattle.plain_steps.specs.declared.literal.Literal.{Literal}
+use Rattle.plain_steps.specs.declared.pair.Pair.{Pair}
+use Rattle.plain_steps.specs.PropositionalClause.{form_of, HasLiterals}
+use Rattle.plain_steps.specs.Resolution.{IsPivot, opposite_of}
+use Rattle.plain_steps.specs.ByRule.{ByResolution, Holds, formulas_at}
+use Rattle.plain_steps.specs.StepAnswer.{IsStepAnswer}
+use Rattle.plain_steps.specs.Literals.{one_clause_view}
+use Rattle.plain_steps.specs.Offers.{IsOffer, IsPair}
+use Rattle.plain_steps.proofs.PivotLists.{alone}
 
 module _ (fs : List Form) where
   -- the formula of a number is among the formulas of the numbers

@@ -6,10 +6,10 @@ use Rattle.kernel.specs.Statements.{Statements}
 use Rattle.kernel.specs.Proves.{Proves}
 use Rattle.kernel.specs.Building.{by_not_e, by_or_e}
 use Rattle.kernel.specs.declared.proof.Proof.{Proof, OrE, NotE}
-use Rattle.elaborate.specs.declared.literal.Literal.{Literal}
-use Rattle.elaborate.specs.PropositionalClause.{form_of}
-use Rattle.elaborate.specs.Resolution.{opposite_of}
-use Rattle.elaborate.specs.Literals.{form_of-positive, form_of-negative}
+use Rattle.plain_steps.specs.declared.literal.Literal.{Literal}
+use Rattle.plain_steps.specs.PropositionalClause.{form_of}
+use Rattle.plain_steps.specs.Resolution.{opposite_of}
+use Rattle.plain_steps.specs.Literals.{form_of-positive, form_of-negative}
 
 module _ (t : Statements) (h : List Form) (l : Literal) (own opposite : Proof) where
   pub by_positive : l.positive ≡ true → Proves t [] h own (form_of l) → Proves t [] h opposite (form_of (opposite_of l)) → Proves t [] h (NotE opposite own) (Or [])

@@ -14,12 +14,12 @@ use Rattle.kernel.specs.Proves.{Proves}
 use Rattle.kernel.specs.Rules.{ProveEach}
 use Rattle.kernel.specs.Building.{by_hyp, by_line, by_or_i, by_or_e}
 use Rattle.kernel.specs.declared.proof.Proof.{Proof, Line, Hyp, OrI, OrE}
-use Rattle.elaborate.specs.declared.literal.Literal.{Literal}
-use Rattle.elaborate.specs.PropositionalClause.{form_of, HasLiterals}
-use Rattle.elaborate.specs.Literals.{form_of≢Or}
-use Rattle.elaborate.specs.Cuts.{IsGoal, either, Assumes}
-use Rattle.elaborate.specs.Offers.{IsOffer}
-use Rattle.elaborate.proofs.PivotLists.{alone}
+use Rattle.plain_steps.specs.declared.literal.Literal.{Literal}
+use Rattle.plain_steps.specs.PropositionalClause.{form_of, HasLiterals}
+use Rattle.plain_steps.specs.Literals.{form_of≢Or}
+use Rattle.plain_steps.specs.Cuts.{IsGoal, either, Assumes}
+use Rattle.plain_steps.specs.Offers.{IsOffer}
+use Rattle.plain_steps.proofs.PivotLists.{alone}
 
 -- the nearest hypothesis
 pub first : (t : Statements) (h : List Form) (a : Form) → Sorted t.vocabulary [] a → Proves t [] (a ∷ h) (Hyp 0) a

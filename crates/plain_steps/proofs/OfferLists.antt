@@ -3,15 +3,15 @@ use Rattle.std.proofs.Common.{◌≡◌, ◌⊎◌, inl, inr, ℕ, ◌+◌, ◌<
 use Rattle.std.proofs.Math.Seq.{take-length}
 use Rattle.std.proofs.lemmas.List.Elements.{Contains-get_or}
 use Rattle.fof_terms.specs.declared.form.Form.{Form}
-use Rattle.elaborate.specs.declared.literal.Literal.{Literal}
-use Rattle.elaborate.specs.declared.table.Table.{Table}
-use Rattle.elaborate.specs.declared.pair.Pair.{Pair}
-use Rattle.elaborate.specs.Table.{found, Inserts}
-use Rattle.elaborate.specs.Resolution.{IsPivot, opposite_of}
-use Rattle.elaborate.specs.PropositionalClause.{HasLiterals}
-use Rattle.elaborate.specs.Offers.{IsOffer, IsPair, IsApart, Grows, Meets}
-use Rattle.elaborate.specs.Literals.{one_clause_view}
-use Rattle.elaborate.proofs.LiteralLists.{same_or_apart, opposite_twice, opposite_apart, one_more_cases, one_more_old, one_more_new, first_in_all}
+use Rattle.plain_steps.specs.declared.literal.Literal.{Literal}
+use Rattle.plain_steps.specs.declared.table.Table.{Table}
+use Rattle.plain_steps.specs.declared.pair.Pair.{Pair}
+use Rattle.plain_steps.specs.Table.{found, Inserts}
+use Rattle.plain_steps.specs.Resolution.{IsPivot, opposite_of}
+use Rattle.plain_steps.specs.PropositionalClause.{HasLiterals}
+use Rattle.plain_steps.specs.Offers.{IsOffer, IsPair, IsApart, Grows, Meets}
+use Rattle.plain_steps.specs.Literals.{one_clause_view}
+use Rattle.plain_steps.proofs.LiteralLists.{same_or_apart, opposite_twice, opposite_apart, one_more_cases, one_more_old, one_more_new, first_in_all}
 
 nothing_in : {X : Type 0} (x : X) → Contains [] x → ⊥
 nothing_in x c = omega (arith, c.1)

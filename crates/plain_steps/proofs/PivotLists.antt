@@ -4,8 +4,8 @@ use Rattle.std.proofs.Math.Seq.{take-length}
 use Rattle.std.specs.List.{All as Each, Contains}
 use Rattle.std.proofs.lemmas.Option.{slice_get_within, get_or_from_slice_get}
 use Rattle.std.proofs.lemmas.List.Elements.{All-contains, All-weaker, Contains-get_or, Contains-push_cases}
-use Rattle.elaborate.specs.declared.literal.Literal.{Literal}
-use Rattle.elaborate.specs.Resolution.{IsPivot}
+use Rattle.plain_steps.specs.declared.literal.Literal.{Literal}
+use Rattle.plain_steps.specs.Resolution.{IsPivot}
 
 -- what holds of the first elements holds of all, once they are all
 pub all_done : {X : Type 0} (P : X → Type 0) (xs : List X) (n : ℕ) → length xs ≤ n → n ≤ length xs → Each P (take n xs) → Each P xs

@@ -2,11 +2,11 @@
 use Rattle.std.proofs.Common.{◌≡◌, ◌⊎◌, inl, inr, ℕ, ◌+◌, ◌<◌, ◌≤◌, List, length, take, get_or, slice_get, Some, None, Contains, sym, ◌∙◌, arith}
 use Rattle.std.proofs.Math.Seq.{take-length}
 use Rattle.std.proofs.lemmas.Option.{slice_get-get_or}
-use Rattle.elaborate.specs.declared.literal.Literal.{Literal}
-use Rattle.elaborate.specs.declared.table.Table.{Table}
-use Rattle.elaborate.specs.Table.{found, Inserts}
-use Rattle.elaborate.specs.Places.{IsPlaces}
-use Rattle.elaborate.proofs.LiteralLists.{same_or_apart, one_more_cases}
+use Rattle.plain_steps.specs.declared.literal.Literal.{Literal}
+use Rattle.plain_steps.specs.declared.table.Table.{Table}
+use Rattle.plain_steps.specs.Table.{found, Inserts}
+use Rattle.plain_steps.specs.Places.{IsPlaces}
+use Rattle.plain_steps.proofs.LiteralLists.{same_or_apart, one_more_cases}
 
 pub record FirstPlaces (ls : List Literal) (n : ℕ) (t : Table) : Type 0 where
   pub at : (l : Literal) (i : ℕ) → found t l ≡ Some i → slice_get ls i ≡ Some l

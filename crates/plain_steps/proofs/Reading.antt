@@ -2,9 +2,9 @@
 use Rattle.std.proofs.Common.{◌≡◌, ℕ, Bool, true, false, List, [], ◌∷◌, ◌<◌, map, length, get_or, Option, Some, None, option_map, IfSome, IfNone, refl, sym, ap, ◌∙◌, zero, suc, inl, inr, arith, ◌⊎◌}
 use Rattle.fof_terms.specs.declared.form.Form.{Form, Atom, Not, Or}
 use Rattle.fof_terms.specs.Trees.{Or-injective, Not-injective}
-use Rattle.elaborate.specs.declared.literal.Literal.{Literal}
-use Rattle.elaborate.specs.PropositionalClause.{form_of, HasLiterals}
-use Rattle.elaborate.specs.Literals.{atom≢not, form_of-positive, form_of-negative, form_of≢Or}
+use Rattle.plain_steps.specs.declared.literal.Literal.{Literal}
+use Rattle.plain_steps.specs.PropositionalClause.{form_of, HasLiterals}
+use Rattle.plain_steps.specs.Literals.{atom≢not, form_of-positive, form_of-negative, form_of≢Or}
 
 abbrev pub with_sign : Bool → ℕ → Literal
 with_sign g k = record { positive = g; symbol = k }

@@ -2,9 +2,9 @@
 use Rattle.std.proofs.Common.{◌≡◌, ℕ, Bool, true, false, nat_eq, Some, refl, sym, ◌∙◌, arith}
 use Rattle.std.proofs.lemmas.Bool.Decides.{nat_tests}
 use Rattle.indexmap.specs.IndexMap.{get, Updates}
-use Rattle.elaborate.specs.declared.literal.Literal.{Literal}
-use Rattle.elaborate.specs.declared.table.Table.{Table}
-use Rattle.elaborate.specs.Table.{found, Inserts}
+use Rattle.plain_steps.specs.declared.literal.Literal.{Literal}
+use Rattle.plain_steps.specs.declared.table.Table.{Table}
+use Rattle.plain_steps.specs.Table.{found, Inserts}
 
 pub found-positive : (t : Table) (l : Literal) → l.positive ≡ true → found t l ≡ get nat_eq t.positive l.symbol
 unfolding found

@@ -2,11 +2,11 @@
 use Rattle.std.specs.Prelude.{ℕ, ◌≡◌, ◌⊎◌, List, [], ◌∷◌, slice_get, filter_map}
 use Rattle.std.specs.List.{All as Each, Contains}
 use Rattle.fof_terms.specs.declared.form.Form.{Form}
-use Rattle.elaborate.specs.declared.answer.Rule.{Rule}
-use Rattle.elaborate.specs.declared.answer.Rule.TheVariants.{Resolution}
-use Rattle.elaborate.specs.declared.literal.Literal.{Literal}
-use Rattle.elaborate.specs.PropositionalClause.{HasLiterals}
-use Rattle.elaborate.specs.Resolution.{IsResolution}
+use Rattle.plain_steps.specs.declared.answer.Rule.{Rule}
+use Rattle.plain_steps.specs.declared.answer.Rule.TheVariants.{Resolution}
+use Rattle.plain_steps.specs.declared.literal.Literal.{Literal}
+use Rattle.plain_steps.specs.PropositionalClause.{HasLiterals}
+use Rattle.plain_steps.specs.Resolution.{IsResolution}
 
 -- two of the parents, which may be one parent twice, and the line are clauses, and the line is a resolution of the two
 pub record ByResolution (parents : List Form) (line : Form) : Type 0 where

@@ -3,8 +3,8 @@ use Rattle.std.specs.Prelude.{◌≡◌, ◌⊎◌, List, [], ◌∷◌}
 use Rattle.fof_terms.specs.declared.form.Form.{Form, Or}
 use Rattle.fof_terms.specs.Sorts.{Sorted}
 use Rattle.kernel.specs.Statements.{Statements}
-use Rattle.elaborate.specs.declared.literal.Literal.{Literal}
-use Rattle.elaborate.specs.PropositionalClause.{form_of, HasLiterals}
+use Rattle.plain_steps.specs.declared.literal.Literal.{Literal}
+use Rattle.plain_steps.specs.PropositionalClause.{form_of, HasLiterals}
 
 -- the formula is a closed clause of these literals
 pub record IsGoal (t : Statements) (goal : Form) (literals : List Literal) : Type 0 where

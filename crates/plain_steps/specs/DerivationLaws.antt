@@ -7,7 +7,7 @@ use Rattle.kernel.specs.declared.entry.Entry.TheVariants.{Lemma}
 use Rattle.kernel.specs.Statements.{Statements}
 use Rattle.kernel.specs.Entries.{Admits, with_formula}
 use Rattle.kernel.specs.EntryLaws.{admits_more}
-use Rattle.elaborate.specs.StepAnswer.{IsDerivation}
+use Rattle.plain_steps.specs.StepAnswer.{IsDerivation}
 
 -- the theory before the last entry, and with it
 pub derivation_ends : (t : Statements) (entries : List Entry) (line : Form) → IsDerivation t entries line → (m : Statements) × Admits t entries (with_formula m line)

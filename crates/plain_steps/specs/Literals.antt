@@ -5,8 +5,8 @@ use Rattle.fof_terms.specs.declared.form.Form.{Form, Atom, Not, Or}
 use Rattle.fof_terms.specs.declared.form.Form.TheOpen as form
 use Rattle.fof_terms.specs.declared.form.Form.TheViews.{out-Form, outs-Atom, outs-Not, outs-Or}
 use Rattle.fof_terms.specs.Trees.{Or-injective, Not-injective}
-use Rattle.elaborate.specs.declared.literal.Literal.{Literal}
-use Rattle.elaborate.specs.PropositionalClause.{signed, form_of, HasLiterals}
+use Rattle.plain_steps.specs.declared.literal.Literal.{Literal}
+use Rattle.plain_steps.specs.PropositionalClause.{signed, form_of, HasLiterals}
 
 signed≢Or : (g : Bool) (k : ℕ) (as_ : List Form) → signed g k ≡ Or as_ → ⊥
 signed≢Or true k as_ e = let layers : form.Atom k [] ≡ form.Or as_ = sym (outs-Atom k []) ∙ ap out-Form e ∙ outs-Or as_ in cc

@@ -2,12 +2,12 @@
 use Rattle.std.specs.Prelude.{ℕ, ◌≡◌, ◌⊎◌, List, slice_get, Some, None}
 use Rattle.std.specs.List.{Contains}
 use Rattle.fof_terms.specs.declared.form.Form.{Form}
-use Rattle.elaborate.specs.declared.literal.Literal.{Literal}
-use Rattle.elaborate.specs.declared.table.Table.{Table}
-use Rattle.elaborate.specs.declared.pair.Pair.{Pair}
-use Rattle.elaborate.specs.Table.{found}
-use Rattle.elaborate.specs.PropositionalClause.{HasLiterals}
-use Rattle.elaborate.specs.Resolution.{IsPivot, opposite_of}
+use Rattle.plain_steps.specs.declared.literal.Literal.{Literal}
+use Rattle.plain_steps.specs.declared.table.Table.{Table}
+use Rattle.plain_steps.specs.declared.pair.Pair.{Pair}
+use Rattle.plain_steps.specs.Table.{found}
+use Rattle.plain_steps.specs.PropositionalClause.{HasLiterals}
+use Rattle.plain_steps.specs.Resolution.{IsPivot, opposite_of}
 
 -- the formula of that number is a clause that can be resolved upon the literal
 pub record IsOffer (formulas : List Form) (conclusion : List Literal) (n : ℕ) (l : Literal) : Type 0 where

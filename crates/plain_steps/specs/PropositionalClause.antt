@@ -1,7 +1,7 @@
 -- The clause view of a formula without variables, terms and equations: which literals it is a disjunction of (TPTP BNF: cnf_formula, literal).
 use Rattle.std.specs.Prelude.{ℕ, ◌≡◌, ◌⊎◌, Bool, true, false, List, [], ◌∷◌, map}
 use Rattle.fof_terms.specs.declared.form.Form.{Form, Atom, Not, Or}
-use Rattle.elaborate.specs.declared.literal.Literal.{Literal}
+use Rattle.plain_steps.specs.declared.literal.Literal.{Literal}
 
 -- the atom of a predicate without arguments, or its negation
 abbrev pub signed : Bool → ℕ → Form

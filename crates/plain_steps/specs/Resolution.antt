@@ -1,7 +1,7 @@
 -- Resolution of propositional clauses (Bachmair and Ganzinger, binary resolution), up to literals that the conclusion has besides.
 use Rattle.std.specs.Prelude.{◌≡◌, ◌⊎◌, not, List}
 use Rattle.std.specs.List.{All as Each, Contains}
-use Rattle.elaborate.specs.declared.literal.Literal.{Literal}
+use Rattle.plain_steps.specs.declared.literal.Literal.{Literal}
 
 -- the literal of the same atom and the other sign
 abbrev pub opposite_of : Literal → Literal

@@ -8,10 +8,10 @@ use Rattle.kernel.specs.declared.entry.Entry.TheVariants.{Lemma}
 use Rattle.kernel.specs.Statements.{Statements}
 use Rattle.kernel.specs.Entries.{Admits}
 use Rattle.kernel.specs.Proves.{Proves}
-use Rattle.elaborate.specs.declared.answer.Reason.TheVariants.{NotYet}
-use Rattle.elaborate.specs.declared.answer.StepAnswer.{StepAnswer}
-use Rattle.elaborate.specs.declared.answer.StepAnswer.TheVariants.{Accepted, Unverified}
-use Rattle.elaborate.specs.ByRule.{ByRule, ByNone, formulas_at}
+use Rattle.plain_steps.specs.declared.answer.Reason.TheVariants.{NotYet}
+use Rattle.plain_steps.specs.declared.answer.StepAnswer.{StepAnswer}
+use Rattle.plain_steps.specs.declared.answer.StepAnswer.TheVariants.{Accepted, Unverified}
+use Rattle.plain_steps.specs.ByRule.{ByRule, ByNone, formulas_at}
 
 -- each entry adds what a proof shows, and nothing else
 abbrev pub AreLemmas : List Entry → Type 0

@@ -1,8 +1,8 @@
 -- Tables from literals to numbers, as contracts see them.
 use Rattle.std.specs.Prelude.{ℕ, ◌≡◌, nat_eq, Bool, true, false, Option, Some}
 use Rattle.indexmap.specs.IndexMap.{get}
-use Rattle.elaborate.specs.declared.literal.Literal.{Literal}
-use Rattle.elaborate.specs.declared.table.Table.{Table}
+use Rattle.plain_steps.specs.declared.literal.Literal.{Literal}
+use Rattle.plain_steps.specs.declared.table.Table.{Table}
 
 -- the number at the predicate in the part of that sign
 abbrev pub found_in : Table → Bool → ℕ → Option ℕ

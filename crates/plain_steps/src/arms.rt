@@ -5,9 +5,9 @@ ghost use Rattle.fof_terms.specs.Sorts.{Sorted};
 ghost use Rattle.kernel.specs.Statements.{Statements};
 ghost use Rattle.kernel.specs.Proves.{Proves};
 ghost use Rattle.kernel.specs.Rules.{ProveEach};
-ghost use Rattle.elaborate.specs.Cuts.{IsGoal, either as either_of};
-ghost use Rattle.elaborate.specs.PropositionalClause.{form_of};
-ghost use Rattle.elaborate.specs.declared.literal.Literal.{Literal as literal};
+ghost use Rattle.plain_steps.specs.Cuts.{IsGoal, either as either_of};
+ghost use Rattle.plain_steps.specs.PropositionalClause.{form_of};
+ghost use Rattle.plain_steps.specs.declared.literal.Literal.{Literal as literal};
 
 use crate::conclusion::Conclusion;
 use crate::literal::{Literal, literal_of};

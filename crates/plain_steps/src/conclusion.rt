@@ -17,8 +17,8 @@ pub struct Conclusion {
 
 impl Model for Conclusion {
     ghost use Rattle.std.specs.Prelude.{List};
-    ghost use Rattle.elaborate.specs.Places.{IsPlaces};
-    ghost use Rattle.elaborate.specs.declared.literal.Literal.{Literal as literal};
+    ghost use Rattle.plain_steps.specs.Places.{IsPlaces};
+    ghost use Rattle.plain_steps.specs.declared.literal.Literal.{Literal as literal};
 
     ghost Value = { List literal };
 

@@ -3,10 +3,10 @@ ghost use Rattle.fof_terms.specs.declared.form.Form.{Form as Formula, Or};
 ghost use Rattle.fof_terms.specs.Sorts.{Sorted};
 ghost use Rattle.kernel.specs.Proves.{Proves};
 ghost use Rattle.kernel.specs.declared.proof.Proof.{Hyp};
-ghost use Rattle.elaborate.specs.Cuts.{IsGoal, Assumes};
-ghost use Rattle.elaborate.specs.Offers.{IsOffer};
-ghost use Rattle.elaborate.specs.PropositionalClause.{form_of};
-ghost use Rattle.elaborate.specs.declared.literal.Literal.{Literal as literal};
+ghost use Rattle.plain_steps.specs.Cuts.{IsGoal, Assumes};
+ghost use Rattle.plain_steps.specs.Offers.{IsOffer};
+ghost use Rattle.plain_steps.specs.PropositionalClause.{form_of};
+ghost use Rattle.plain_steps.specs.declared.literal.Literal.{Literal as literal};
 
 use crate::arms::{arms, either, members_of};
 use crate::conclusion::Conclusion;

@@ -2,10 +2,10 @@ ghost use Rattle.std.specs.Prelude.{◌<◌, ◌^◌, ℕ, [], List, length, IfO
 ghost use Rattle.fof_terms.specs.declared.form.Form.{Form as Formula, Or};
 ghost use Rattle.kernel.specs.Statements.{Statements};
 ghost use Rattle.kernel.specs.Proves.{Proves};
-ghost use Rattle.elaborate.specs.Cuts.{IsGoal};
-ghost use Rattle.elaborate.specs.Offers.{IsPair};
-ghost use Rattle.elaborate.specs.PropositionalClause.{form_of};
-ghost use Rattle.elaborate.specs.Resolution.{opposite_of};
+ghost use Rattle.plain_steps.specs.Cuts.{IsGoal};
+ghost use Rattle.plain_steps.specs.Offers.{IsPair};
+ghost use Rattle.plain_steps.specs.PropositionalClause.{form_of};
+ghost use Rattle.plain_steps.specs.Resolution.{opposite_of};
 
 use crate::conclusion::Conclusion;
 use crate::cut::{cut, depth_of, pivot_part};

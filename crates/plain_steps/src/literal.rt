@@ -1,8 +1,8 @@
 ghost use Rattle.std.specs.Prelude.{◌≡◌, ℕ, [], ◌∷◌, map, option_map, IfOk, IfSome, IfNone};
 ghost use Rattle.fof_terms.specs.declared.form.Form.{Atom};
-ghost use Rattle.elaborate.specs.PropositionalClause.{form_of, HasLiterals};
-ghost use Rattle.elaborate.specs.Resolution.{opposite_of};
-ghost use Rattle.elaborate.specs.declared.literal.Literal.{Literal as literal};
+ghost use Rattle.plain_steps.specs.PropositionalClause.{form_of, HasLiterals};
+ghost use Rattle.plain_steps.specs.Resolution.{opposite_of};
+ghost use Rattle.plain_steps.specs.declared.literal.Literal.{Literal as literal};
 
 use fof_terms::{Form, SymId};
 use std::alloc::Global;

@@ -1,8 +1,8 @@
 ghost use Rattle.std.specs.Prelude.{ℕ, IfOk, IfSome, IfNone};
 ghost use Rattle.std.specs.List.{Contains};
-ghost use Rattle.elaborate.specs.Offers.{IsOffer, IsPair, Grows, Meets};
-ghost use Rattle.elaborate.specs.Resolution.{opposite_of};
-ghost use Rattle.elaborate.specs.declared.literal.Literal.{Literal as literal};
+ghost use Rattle.plain_steps.specs.Offers.{IsOffer, IsPair, Grows, Meets};
+ghost use Rattle.plain_steps.specs.Resolution.{opposite_of};
+ghost use Rattle.plain_steps.specs.declared.literal.Literal.{Literal as literal};
 
 use crate::conclusion::Conclusion;
 use crate::literal::{Literal, literals_of};

@@ -1,7 +1,7 @@
 ghost use Rattle.std.specs.Prelude.{◌≡◌, ◌⊎◌, ◌↔◌, Some, slice_get, IsTrue, IfSome, IfNone};
 ghost use Rattle.std.specs.List.{All as Each, Contains};
-ghost use Rattle.elaborate.specs.Resolution.{IsPivot};
-ghost use Rattle.elaborate.specs.declared.literal.Literal.{Literal as literal};
+ghost use Rattle.plain_steps.specs.Resolution.{IsPivot};
+ghost use Rattle.plain_steps.specs.declared.literal.Literal.{Literal as literal};
 
 use crate::conclusion::Conclusion;
 use crate::literal::Literal;

@@ -1,5 +1,5 @@
 ghost use Rattle.std.specs.Prelude.{IfOk};
-ghost use Rattle.elaborate.specs.Places.{IsPlaces};
+ghost use Rattle.plain_steps.specs.Places.{IsPlaces};
 
 use crate::literal::Literal;
 use crate::table::Table;

@@ -3,9 +3,9 @@ ghost use Rattle.fof_terms.specs.declared.form.Form.{Form as Formula, Or};
 ghost use Rattle.fof_terms.specs.Sorts.{Sorted};
 ghost use Rattle.kernel.specs.Proves.{Proves};
 ghost use Rattle.kernel.specs.declared.entry.Entry.TheVariants.{Lemma};
-ghost use Rattle.elaborate.specs.declared.answer.StepAnswer.TheVariants.{Accepted};
-ghost use Rattle.elaborate.specs.ByRule.{ByResolution, formulas_at};
-ghost use Rattle.elaborate.specs.StepAnswer.{IsStepAnswer};
+ghost use Rattle.plain_steps.specs.declared.answer.StepAnswer.TheVariants.{Accepted};
+ghost use Rattle.plain_steps.specs.ByRule.{ByResolution, formulas_at};
+ghost use Rattle.plain_steps.specs.StepAnswer.{IsStepAnswer};
 
 use crate::answer::{Reason, Rule, StepAnswer};
 use crate::conclusion::Conclusion;

@@ -1,6 +1,6 @@
 ghost use Rattle.std.specs.Prelude.{◌≡◌, None, OnOk};
-ghost use Rattle.elaborate.specs.Table.{found, Inserts};
-ghost use Rattle.elaborate.specs.declared.literal.Literal.{Literal as literal};
+ghost use Rattle.plain_steps.specs.Table.{found, Inserts};
+ghost use Rattle.plain_steps.specs.declared.literal.Literal.{Literal as literal};
 
 use crate::literal::Literal;
 use fof_terms::SymId;

@@ -184,9 +184,12 @@ fn includes(rt: HostRuntime) -> Result<(), Fail> {
     let selects = ("y.p", "include('low.ax',[a]).\n");
     let said = "low.ax: no formula a to select\n";
     assert!(rt; ends(alloc, "parse x.p", &[first, selects, low], 3, said)?);
-    let open = ("y.p", "fof(b,axiom,'b).\n");
+    let open = ("y.p", "fof(b,axiom,'b).");
     let said = "y.p:1:13: unfinished quote or comment\n";
     assert!(rt; ends(alloc, "parse x.p", &[first, open], 3, said)?);
+    let byte = ("y.p", "fof(b,axiom,'b).\n");
+    let said = "y.p:1:13: no token begins here\n";
+    assert!(rt; ends(alloc, "parse x.p", &[first, byte], 3, said)?);
     let empty = ("y.p", "fof(b,axiom,).\n");
     assert!(rt;
         ends(
@@ -270,7 +273,8 @@ fn limits(rt: HostRuntime) -> Result<(), Fail> {
     let text = format!(in alloc; "cnf(a,axiom,p(Y{variables})).")?;
     let said = "x.p:1:1: in a: limit variables\n";
     assert!(rt; ends(alloc, "parse x.p", &[("x.p", text.as_str())], 7, said)?);
-    let text = format!(in alloc; "fof(a,axiom,! [Y{variables}] : p).")?;
+    let some = repeated(alloc, ",X", 125, true)?;
+    let text = format!(in alloc; "fof(a,axiom,(! [Y{some}] : p) & (! [Y{some}] : p)).")?;
     let files = [("top.p", "include('x.p').\n"), ("x.p", text.as_str())];
     assert!(rt; ends(alloc, "parse top.p", &files, 7, said)?);
     Ok(())

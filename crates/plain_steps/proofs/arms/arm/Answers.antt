@@ -1,9 +1,9 @@
 use Rattle.std.proofs.Common.{[], ◌∷◌, sym, subst}
 use Rattle.fof_terms.specs.declared.form.Form.{Form}
 use Rattle.kernel.specs.Proves.{Proves}
-use Rattle.elaborate.proofs.CutLists.{arm_in, arm_pivot, is_pivot_then}
-use Rattle.elaborate.proofs.Outcomes.{ok_map}
-use Rattle.elaborate.proofs.arms.arm.Goals as goal
+use Rattle.plain_steps.proofs.CutLists.{arm_in, arm_pivot, is_pivot_then}
+use Rattle.plain_steps.proofs.Outcomes.{ok_map}
+use Rattle.plain_steps.proofs.arms.arm.Goals as goal
 
 pub returns-in_ok-members-in-Some : goal.returns-in_ok-members-in-Some
 returns-in_ok-members-in-Some c =

@@ -1,5 +1,5 @@
-use Rattle.elaborate.proofs.CutLists.{no_arms, arms_more, all_arms}
-use Rattle.elaborate.proofs.arms.arms.Goals as goal
+use Rattle.plain_steps.proofs.CutLists.{no_arms, arms_more, all_arms}
+use Rattle.plain_steps.proofs.arms.arms.Goals as goal
 
 pub loop-member-init : goal.loop-member-init
 loop-member-init c = no_arms c.args.members.now c.args.goal.now c.args.conclusion.now c.args.pivot c.new-arms.result c.new-arms.ensures

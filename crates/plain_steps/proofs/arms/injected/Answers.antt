@@ -1,6 +1,6 @@
-use Rattle.elaborate.proofs.CutLists.{inject_member, inject_alone}
-use Rattle.elaborate.proofs.Outcomes.{ok_map}
-use Rattle.elaborate.proofs.arms.injected.Goals as goal
+use Rattle.plain_steps.proofs.CutLists.{inject_member, inject_alone}
+use Rattle.plain_steps.proofs.Outcomes.{ok_map}
+use Rattle.plain_steps.proofs.arms.injected.Goals as goal
 
 pub returns-in_ok-members-in-Some : goal.returns-in_ok-members-in-Some
 returns-in_ok-members-in-Some c =

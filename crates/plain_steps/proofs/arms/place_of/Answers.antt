@@ -1,7 +1,7 @@
 use Rattle.std.proofs.Common.{sym, subst, ◌∙◌, Contains}
-use Rattle.elaborate.specs.Literals.{form_of-injective}
-use Rattle.elaborate.proofs.Outcomes.{none_map}
-use Rattle.elaborate.proofs.arms.place_of.Goals as goal
+use Rattle.plain_steps.specs.Literals.{form_of-injective}
+use Rattle.plain_steps.proofs.Outcomes.{none_map}
+use Rattle.plain_steps.proofs.arms.place_of.Goals as goal
 
 pub returns-in-Some-clause-none : goal.returns-in-Some-clause-none
 returns-in-Some-clause-none c =

@@ -1,7 +1,7 @@
 use Rattle.fof_terms.specs.declared.form.Form.{Or}
-use Rattle.elaborate.proofs.CutLists.{cut_split}
-use Rattle.elaborate.proofs.Outcomes.{ok_map}
-use Rattle.elaborate.proofs.cut.cut.Goals as goal
+use Rattle.plain_steps.proofs.CutLists.{cut_split}
+use Rattle.plain_steps.proofs.Outcomes.{ok_map}
+use Rattle.plain_steps.proofs.cut.cut.Goals as goal
 
 pub returns-in_ok-copy-in-Some : goal.returns-in_ok-copy-in-Some
 returns-in_ok-copy-in-Some c =

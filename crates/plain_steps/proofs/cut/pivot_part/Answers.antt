@@ -1,8 +1,8 @@
 use Rattle.std.proofs.Common.{◌++◌}
 use Rattle.fof_terms.specs.declared.form.Form.{Or}
-use Rattle.elaborate.proofs.CutLists.{pivot_hyp, pivot_line}
-use Rattle.elaborate.proofs.Outcomes.{ok_map}
-use Rattle.elaborate.proofs.cut.pivot_part.Goals as goal
+use Rattle.plain_steps.proofs.CutLists.{pivot_hyp, pivot_line}
+use Rattle.plain_steps.proofs.Outcomes.{ok_map}
+use Rattle.plain_steps.proofs.cut.pivot_part.Goals as goal
 
 pub returns-in-Some : goal.returns-in-Some
 returns-in-Some c =

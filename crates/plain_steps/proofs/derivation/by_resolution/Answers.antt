@@ -1,10 +1,10 @@
 use Rattle.std.proofs.Common.{[], refl, sym, subst}
 use Rattle.kernel.specs.Proves.{Proves}
-use Rattle.elaborate.specs.Resolution.{opposite_of}
-use Rattle.elaborate.specs.PropositionalClause.{form_of}
-use Rattle.elaborate.proofs.Contradictions.{from_falsehood}
-use Rattle.elaborate.proofs.Outcomes.{ok_map}
-use Rattle.elaborate.proofs.derivation.by_resolution.Goals as goal
+use Rattle.plain_steps.specs.Resolution.{opposite_of}
+use Rattle.plain_steps.specs.PropositionalClause.{form_of}
+use Rattle.plain_steps.proofs.Contradictions.{from_falsehood}
+use Rattle.plain_steps.proofs.Outcomes.{ok_map}
+use Rattle.plain_steps.proofs.derivation.by_resolution.Goals as goal
 
 pub returns : goal.returns
 returns c =

@@ -1,6 +1,6 @@
-use Rattle.elaborate.proofs.Contradictions.{by_positive, by_negative}
-use Rattle.elaborate.proofs.Outcomes.{ok_map}
-use Rattle.elaborate.proofs.derivation.contradiction.Goals as goal
+use Rattle.plain_steps.proofs.Contradictions.{by_positive, by_negative}
+use Rattle.plain_steps.proofs.Outcomes.{ok_map}
+use Rattle.plain_steps.proofs.derivation.contradiction.Goals as goal
 
 pub returns-then-literal : goal.returns-then-literal
 returns-then-literal c =

@@ -1,6 +1,6 @@
 use Rattle.std.proofs.Common.{◌∙◌, arith}
-use Rattle.elaborate.proofs.Reading.{member_is}
-use Rattle.elaborate.proofs.literal.all_literals.Goals as goal
+use Rattle.plain_steps.proofs.Reading.{member_is}
+use Rattle.plain_steps.proofs.literal.all_literals.Goals as goal
 
 pub returns-in-None-clause-none : goal.returns-in-None-clause-none
 returns-in-None-clause-none c = λ literals e.

@@ -1,7 +1,7 @@
 use Rattle.std.proofs.Common.{ap, sym, ◌∙◌}
 use Rattle.fof_terms.specs.declared.form.Form.{Not}
-use Rattle.elaborate.proofs.Reading.{denied_some, denied_none, plain_some, plain_none}
-use Rattle.elaborate.proofs.literal.literal_of.Goals as goal
+use Rattle.plain_steps.proofs.Reading.{denied_some, denied_none, plain_some, plain_none}
+use Rattle.plain_steps.proofs.literal.literal_of.Goals as goal
 
 pub returns-in-Not-clause-some : goal.returns-in-Not-clause-some
 returns-in-Not-clause-some c =

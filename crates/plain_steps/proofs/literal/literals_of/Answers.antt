@@ -1,8 +1,8 @@
 use Rattle.std.proofs.Common.{sym, ap, ◌∙◌}
 use Rattle.fof_terms.specs.declared.form.Form.{Or}
-use Rattle.elaborate.proofs.Outcomes.{ok_map, none_map}
-use Rattle.elaborate.proofs.Reading.{disjunction_only}
-use Rattle.elaborate.proofs.literal.literals_of.Goals as goal
+use Rattle.plain_steps.proofs.Outcomes.{ok_map, none_map}
+use Rattle.plain_steps.proofs.Reading.{disjunction_only}
+use Rattle.plain_steps.proofs.literal.literals_of.Goals as goal
 
 pub returns-in-Or-clause-none : goal.returns-in-Or-clause-none
 returns-in-Or-clause-none c =

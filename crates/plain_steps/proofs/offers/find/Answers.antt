@@ -1,7 +1,7 @@
 use Rattle.std.proofs.Common.{refl, sym}
-use Rattle.elaborate.proofs.Outcomes.{if_none}
-use Rattle.elaborate.proofs.OfferLists.{searched_more, none_left}
-use Rattle.elaborate.proofs.offers.find.Goals as goal
+use Rattle.plain_steps.proofs.Outcomes.{if_none}
+use Rattle.plain_steps.proofs.OfferLists.{searched_more, none_left}
+use Rattle.plain_steps.proofs.offers.find.Goals as goal
 
 pub loop-number-preserved : goal.loop-number-preserved
 loop-number-preserved c =

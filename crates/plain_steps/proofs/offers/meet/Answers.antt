@@ -1,10 +1,10 @@
 use Rattle.std.proofs.Common.{sym, subst, Contains}
-use Rattle.elaborate.specs.declared.literal.Literal.{Literal}
-use Rattle.elaborate.specs.Resolution.{IsPivot}
-use Rattle.elaborate.specs.Offers.{IsOffer}
-use Rattle.elaborate.proofs.Outcomes.{ok_map, some_map, none_map}
-use Rattle.elaborate.proofs.OfferLists.{no_growth, no_clause_offers, clause_offers, offers_pivot, grows_same, meets_same}
-use Rattle.elaborate.proofs.offers.meet.Goals as goal
+use Rattle.plain_steps.specs.declared.literal.Literal.{Literal}
+use Rattle.plain_steps.specs.Resolution.{IsPivot}
+use Rattle.plain_steps.specs.Offers.{IsOffer}
+use Rattle.plain_steps.proofs.Outcomes.{ok_map, some_map, none_map}
+use Rattle.plain_steps.proofs.OfferLists.{no_growth, no_clause_offers, clause_offers, offers_pivot, grows_same, meets_same}
+use Rattle.plain_steps.proofs.offers.meet.Goals as goal
 
 pub returns-in-None-2-clause-none : goal.returns-in-None-2-clause-none
 returns-in-None-2-clause-none c =

@@ -1,6 +1,6 @@
 use Rattle.std.proofs.Common.{sym, refl, ◌∙◌}
-use Rattle.elaborate.proofs.OfferLists.{grows_more}
-use Rattle.elaborate.proofs.offers.offer.Goals as goal
+use Rattle.plain_steps.proofs.OfferLists.{grows_more}
+use Rattle.plain_steps.proofs.offers.offer.Goals as goal
 
 pub loop-pivot-preserved : goal.loop-pivot-preserved
 loop-pivot-preserved c =

@@ -1,11 +1,11 @@
 use Rattle.std.proofs.Common.{◌≡◌, ◌⊎◌, inl, inr, refl}
 use Rattle.std.specs.List.{Contains}
 use Rattle.std.proofs.lemmas.List.Elements.{All-more}
-use Rattle.elaborate.specs.declared.literal.Literal.{Literal}
-use Rattle.elaborate.proofs.LiteralLists.{not_unequal}
-use Rattle.elaborate.proofs.PivotLists.{all_done}
-use Rattle.elaborate.proofs.pivots.is_alone.Goals as goal
-use Rattle.elaborate.proofs.pivots.is_alone.Goals.{else-ne-via-then-ne+else-not-has, else-ne-via-else-ne}
+use Rattle.plain_steps.specs.declared.literal.Literal.{Literal}
+use Rattle.plain_steps.proofs.LiteralLists.{not_unequal}
+use Rattle.plain_steps.proofs.PivotLists.{all_done}
+use Rattle.plain_steps.proofs.pivots.is_alone.Goals as goal
+use Rattle.plain_steps.proofs.pivots.is_alone.Goals.{else-ne-via-then-ne+else-not-has, else-ne-via-else-ne}
 
 pub loop-other-preserved : goal.loop-other-preserved
 loop-other-preserved c =

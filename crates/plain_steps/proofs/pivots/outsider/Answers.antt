@@ -2,8 +2,8 @@ use Rattle.std.proofs.Common.{refl}
 use Rattle.std.specs.List.{Contains}
 use Rattle.std.proofs.lemmas.Option.{slice_get-get_or}
 use Rattle.std.proofs.lemmas.List.Elements.{All-more}
-use Rattle.elaborate.proofs.PivotLists.{all_done, not_true}
-use Rattle.elaborate.proofs.pivots.outsider.Goals as goal
+use Rattle.plain_steps.proofs.PivotLists.{all_done, not_true}
+use Rattle.plain_steps.proofs.pivots.outsider.Goals as goal
 
 pub returns-then-not-has-clause-some : goal.returns-then-not-has-clause-some
 returns-then-not-has-clause-some c =

@@ -1,6 +1,6 @@
 use Rattle.std.proofs.Common.{refl}
-use Rattle.elaborate.proofs.PivotLists.{pivot_slice, no_pivot_slice, not_true}
-use Rattle.elaborate.proofs.pivots.pivots.Goals as goal
+use Rattle.plain_steps.proofs.PivotLists.{pivot_slice, no_pivot_slice, not_true}
+use Rattle.plain_steps.proofs.pivots.pivots.Goals as goal
 
 pub returns-then-is_alone : goal.returns-then-is_alone
 returns-then-is_alone c = pivot_slice c.args.clause.now c.args.conclusion.now c.in-Some.place _ c.in-Some.ensures.some (c.if-is_alone.ensures.0 refl)

@@ -1,6 +1,6 @@
 use Rattle.std.proofs.Common.{refl}
-use Rattle.elaborate.proofs.PlaceLists.{place_more, all_places}
-use Rattle.elaborate.proofs.places.places_of.Goals as goal
+use Rattle.plain_steps.proofs.PlaceLists.{place_more, all_places}
+use Rattle.plain_steps.proofs.places.places_of.Goals as goal
 
 pub loop-place-preserved : goal.loop-place-preserved
 loop-place-preserved c =

@@ -1,7 +1,7 @@
 use Rattle.std.proofs.Common.{sym, subst}
-use Rattle.elaborate.specs.PropositionalClause.{HasLiterals}
-use Rattle.elaborate.proofs.Answering.{pair_gives, no_pair_gives, no_clause_gives}
-use Rattle.elaborate.proofs.steps.resolved.Goals as goal
+use Rattle.plain_steps.specs.PropositionalClause.{HasLiterals}
+use Rattle.plain_steps.proofs.Answering.{pair_gives, no_pair_gives, no_clause_gives}
+use Rattle.plain_steps.proofs.steps.resolved.Goals as goal
 
 pub returns-in_default-clause-none : goal.returns-in_default-clause-none
 returns-in_default-clause-none c =

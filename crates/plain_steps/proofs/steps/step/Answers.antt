@@ -1,6 +1,6 @@
-use Rattle.elaborate.proofs.Outcomes.{ok_map}
-use Rattle.elaborate.proofs.Answering.{is_accepted, is_unverified}
-use Rattle.elaborate.proofs.steps.step.Goals as goal
+use Rattle.plain_steps.proofs.Outcomes.{ok_map}
+use Rattle.plain_steps.proofs.Answering.{is_accepted, is_unverified}
+use Rattle.plain_steps.proofs.steps.step.Goals as goal
 
 pub returns-in-Some : goal.returns-in-Some
 returns-in-Some c =

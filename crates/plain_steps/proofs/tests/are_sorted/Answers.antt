@@ -1,8 +1,8 @@
 use Rattle.std.proofs.Common.{[], refl, subst}
 use Rattle.fof_terms.specs.Sorts.{Sorted}
 use Rattle.std.proofs.lemmas.List.Elements.{All-more}
-use Rattle.elaborate.proofs.PivotLists.{all_done}
-use Rattle.elaborate.proofs.tests.are_sorted.Goals as goal
+use Rattle.plain_steps.proofs.PivotLists.{all_done}
+use Rattle.plain_steps.proofs.tests.are_sorted.Goals as goal
 
 pub loop-form-preserved : goal.loop-form-preserved
 loop-form-preserved c =

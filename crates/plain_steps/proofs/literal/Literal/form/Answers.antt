@@ -1,6 +1,6 @@
 use Rattle.std.proofs.Common.{refl}
-use Rattle.elaborate.specs.Literals.{form_of-positive, form_of-negative}
-use Rattle.elaborate.proofs.literal.Literal.form.Goals as goal
+use Rattle.plain_steps.specs.Literals.{form_of-positive, form_of-negative}
+use Rattle.plain_steps.proofs.literal.Literal.form.Goals as goal
 
 pub returns-then-self : goal.returns-then-self
 returns-then-self c = rw (c.new.ensures, form_of-positive c.args.self c.if-self.true) refl

@@ -1,6 +1,6 @@
 use Rattle.std.proofs.Common.{sym, ◌∙◌}
-use Rattle.elaborate.proofs.Tables.{found-positive, found-negative}
-use Rattle.elaborate.proofs.table.Table.get.Goals as goal
+use Rattle.plain_steps.proofs.Tables.{found-positive, found-negative}
+use Rattle.plain_steps.proofs.table.Table.get.Goals as goal
 
 pub returns-then-literal : goal.returns-then-literal
 returns-then-literal c = c.copied.ensures ∙ c.get.ensures.value ∙ sym (found-positive c.args.self.now c.args.literal c.if-literal.true)

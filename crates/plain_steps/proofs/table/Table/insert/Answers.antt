@@ -1,6 +1,6 @@
 use Rattle.std.proofs.Common.{refl}
-use Rattle.elaborate.proofs.Tables.{inserts_positive, inserts_negative}
-use Rattle.elaborate.proofs.table.Table.insert.Goals as goal
+use Rattle.plain_steps.proofs.Tables.{inserts_positive, inserts_negative}
+use Rattle.plain_steps.proofs.table.Table.insert.Goals as goal
 
 pub returns-in_ok-insert : goal.returns-in_ok-insert
 returns-in_ok-insert c = inserts_positive c.args.self.now _ c.args.literal c.args.number c.if-literal.true refl c.in_ok-insert.ensures.updates

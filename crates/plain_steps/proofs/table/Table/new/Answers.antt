@@ -1,6 +1,6 @@
 use Rattle.std.proofs.Common.{◌≡◌, Bool, true, false, None, rules}
-use Rattle.elaborate.specs.Table.{found, found_in}
-use Rattle.elaborate.proofs.table.Table.new.Goals as goal
+use Rattle.plain_steps.specs.Table.{found, found_in}
+use Rattle.plain_steps.proofs.table.Table.new.Goals as goal
 
 pub returns : goal.returns
 unfolding found

@@ -1,5 +1,0 @@
-use Rattle.rule_checks.proofs.Moving.{reaches_fit}
-use Rattle.rule_checks.proofs.joint.kept_apart.Goals as goal
-
-pub apart-requires : goal.apart-requires
-apart-requires c = rw c.as_slice.ensures (reaches_fit c.args.sig.now c.args.clause.now c.args.by c.requires.fit c.requires.few)

@@ -1,6 +1,0 @@
-use Rattle.std.proofs.Common.{ℕ, ◌<◌}
-use Rattle.rule_checks.specs.NormRule.{NormsAlike}
-use Rattle.rule_checks.proofs.norm_rule.first_alike.Given as goal
-
-abbrev pub invariant-loop-at : goal.invariant-loop-at
-invariant-loop-at l = (k : ℕ) → k < l.at → NormsAlike l.parents l.made k → ⊥

@@ -1,7 +1,0 @@
-use Rattle.std.proofs.Common.{ℕ, ◌<◌, List}
-use Rattle.fof_terms.specs.declared.term.Term.{Term}
-use Rattle.rule_checks.specs.ResolutionSearch.{ResolvesWith}
-use Rattle.rule_checks.proofs.resolution_rule.resolve_with.Given as goal
-
-abbrev pub invariant-loop-b : goal.invariant-loop-b
-invariant-loop-b l = (b : ℕ) → b < l.b → (i j : ℕ) (more : List ℕ) (s : ℕ → Term) → ResolvesWith l.sig l.clauses l.left l.line b i j more s → ⊥

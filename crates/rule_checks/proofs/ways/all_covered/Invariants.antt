@@ -1,6 +1,0 @@
-use Rattle.std.proofs.Common.{◌≡◌, take, map}
-use Rattle.rule_checks.specs.Ways.{goal_of_need, cover_ways}
-use Rattle.rule_checks.proofs.ways.all_covered.Given as goal
-
-abbrev pub invariant-loop-lit : goal.invariant-loop-lit
-invariant-loop-lit l = l.goals ≡ map (λ k. goal_of_need (cover_ways l.targets k)) (take l.lit-index l.lits)
