@@ -1,4 +1,3 @@
 pub mod Cuts
 pub mod Pieces
-pub mod Quoted
 pub mod Regions

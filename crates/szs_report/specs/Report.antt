@@ -1,7 +1,7 @@
 -- What the report on a derivation says, its status in the words of the SZS ontology: a line for each line of the
 -- derivation, and closing lines.
 use Rattle.std.specs.Prelude.{ℕ, List, [], ◌∷◌, ◌++◌, codes, decimal}
-use Rattle.szs_report.specs.NameText.{name_text}
+use Rattle.canon_print.specs.Words.{name_text}
 use Rattle.tptp_base.specs.declared.name.Name.{Name}
 use Rattle.szs_report.specs.declared.answer.LineAnswer.{LineAnswer}
 use Rattle.szs_report.specs.declared.answer.LineAnswer.TheVariants.{Ok as Accepted, Unverified, Skipped}

@@ -4,7 +4,6 @@
 
 mod answer;
 mod line;
-mod name;
 mod output;
 mod write;
 

@@ -4,11 +4,11 @@ ghost use Rattle.tptp_base.specs.Count.{Rose};
 ghost use Rattle.tptp_base.specs.Sink.{Takes, TakesPrefix};
 ghost use Rattle.szs_report.specs.Report.{answer_text, line_text, verdict_text};
 
-use crate::name::put_name;
 use crate::{LineAnswer, Verdict};
+use canon_print::print_name;
 use itoa::Buffer;
 use std::alloc::{AllocError, Global};
-use tptp_base::{Name, Sink, SinkFault, put_all};
+use tptp_base::{Memory, Name, Sink, SinkFault, put_all};
 
 /// Writes what is said of a line, `NAME ok RULE`, `NAME unverified REASON` or `NAME skipped`; on a refusal a prefix
 /// of it. The text is made first, and written in one piece.
@@ -44,11 +44,10 @@ pub fn write_end<K: Sink>(alloc: Global, end: &Verdict, sink: &mut K) -> Result<
 }
 
 // What is said of a line.
-fn line_of(alloc: Global, name: &Name, answer: &LineAnswer) -> Result<Vec<u8>, AllocError>
+fn line_of(alloc: Global, name: &Name, answer: &LineAnswer) -> Result<Vec<u8>, Memory>
     ensures { IfOk result (λ line. line.items ≡ line_text name.now answer.now) }
 {
-    let mut line = Vec::new(alloc);
-    put_name(&mut line, name)?;
+    let mut line = Vec::from_slice(alloc, print_name(alloc, name)?.as_slice())?;
     line.push(b' ')?;
     put_answer(&mut line, answer)?;
     line.push(b'\n')?;
