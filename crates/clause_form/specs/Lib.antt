@@ -1,3 +1,4 @@
+pub mod Beside
 pub mod Cases
 pub mod ClauseLaws
 pub mod ClauseView
@@ -9,7 +10,10 @@ pub mod Norm
 pub mod NormCases
 pub mod NormSize
 pub mod NormSorts
+pub mod PathCases
 pub mod Paths
+pub mod Reached
+pub mod Room
 pub mod SizeLaws
 pub mod Sizes
 pub mod Strip

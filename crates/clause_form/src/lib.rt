@@ -2,6 +2,7 @@
 //! form of a formula with its sizes, and the paths through a normal form.
 #![tactic(auto)]
 
+mod beside;
 mod clause;
 mod closing;
 mod fault;
@@ -14,6 +15,7 @@ mod sizes;
 mod stripping;
 mod view;
 
+pub use beside::all_beside;
 pub use clause::{AtomOf, Clause, Lit, copy_clauses, copy_lits};
 pub use closing::{close, form_of_atom, form_of_lit};
 pub use fault::FormFault;
