@@ -3,6 +3,7 @@ pub mod Cases
 pub mod ClauseLaws
 pub mod ClauseView
 pub mod Covers
+pub mod Found
 pub mod Images
 pub mod Joined
 pub mod Kinds

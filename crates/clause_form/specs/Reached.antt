@@ -144,7 +144,7 @@ EachSuits [] (c ∷ cs) = ⊥
 EachSuits (a ∷ as_) [] = ⊥
 EachSuits (a ∷ as_) (c ∷ cs) = Suits a c × EachSuits as_ cs
 
-member_size : (as_ : List Form) (k : ℕ) (a : Form) → slice_get as_ k ≡ Some a → norm_size_of a ≤ sum (map norm_size_of as_)
+pub member_size : (as_ : List Form) (k : ℕ) (a : Form) → slice_get as_ k ≡ Some a → norm_size_of a ≤ sum (map norm_size_of as_)
 member_size [] k a e = cc
 member_size (b ∷ as_) zero a e = let same : b ≡ a = cc in rw (sum_cons (norm_size_of b) (map norm_size_of as_), same) (omega arith)
 member_size (b ∷ as_) (suc k) a e = rw (sum_cons (norm_size_of b) (map norm_size_of as_)) (omega (arith, member_size as_ k a e))
@@ -173,7 +173,7 @@ suits_all s a c r = record {
       r.fits w (s ∷ v) parts.1;
 }
 
-segments_size : (as_ : List Form) (cs : List Clause) → EachSuits as_ cs → (f : ℕ) → length (all_sorts cs) + length (segments f cs) ≤ sum (map norm_size_of as_)
+pub segments_size : (as_ : List Form) (cs : List Clause) → EachSuits as_ cs → (f : ℕ) → length (all_sorts cs) + length (segments f cs) ≤ sum (map norm_size_of as_)
 segments_size [] [] all f = omega arith
 segments_size [] (c ∷ cs) all f = absurd all
 segments_size (a ∷ as_) [] all f = absurd all

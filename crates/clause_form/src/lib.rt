@@ -10,6 +10,7 @@ mod joining;
 mod laws;
 mod normal;
 mod path;
+mod reaching;
 mod sameness;
 mod sizes;
 mod stripping;
@@ -26,6 +27,7 @@ pub use laws::{
 };
 pub use normal::{MAX_NORM_SIZE, norm, norm_all, norm_signed};
 pub use path::{Parent, Path};
+pub use reaching::{clause_of_path, clauses_of_paths};
 pub use sameness::{are_complementary, denies, is_trivial, same_atoms};
 pub use sizes::{clause_count, norm_size};
 pub use stripping::strip;
