@@ -136,6 +136,7 @@ pub record Rest (whole : Clause) (f k : ℕ) (cs : List Clause) : Type 0 where
   pub count : length earlier ≡ f
   pub sorts : whole.sorts ≡ earlier ++ all_sorts cs
   pub lits : (j : ℕ) (l : Lit) → slice_get (segments f cs) j ≡ Some l → slice_get whole.lits (k + j) ≡ Some l
+  pub size : k + length (segments f cs) ≡ length whole.lits
 
 pub rest_start : (cs : List Clause) → Rest (all_beside cs) 0 0 cs
 rest_start cs = record {
@@ -143,6 +144,7 @@ rest_start cs = record {
   count = refl;
   sorts = beside_sorts cs;
   lits = λ j l e. let same : 0 + j ≡ j = omega arith in rw same (subst (λ (ls : List Lit). slice_get ls j ≡ Some l) (sym (beside_lits cs)) e);
+  size = let same = ap (λ (ls : List Lit). length ls) (beside_lits cs) in omega (arith, same);
 }
 
 module _ (whole : Clause) (f k : ℕ) (c : Clause) (cs : List Clause) (r : Rest whole f k (c ∷ cs)) where
@@ -162,4 +164,9 @@ module _ (whole : Clause) (f k : ℕ) (c : Clause) (cs : List Clause) (r : Rest 
         let many : length (map g c.lits) ≡ length c.lits = length-map c.lits g in
         let same : k + (length c.lits + j) ≡ k + length c.lits + j = omega arith in
         subst (λ n. slice_get whole.lits n ≡ Some l) same (r.lits (length c.lits + j) l (in_second (map g c.lits) (segments (f + length c.sorts) cs) j (length c.lits + j) l (omega (arith, many)) e));
+    size =
+        let g = in_lit (moved (length (all_sorts cs)) f (length c.sorts)) in
+        let many : length (map g c.lits) ≡ length c.lits = length-map c.lits g in
+        let both : length (map g c.lits ++ segments (f + length c.sorts) cs) ≡ length (map g c.lits) + length (segments (f + length c.sorts) cs) = length-append (map g c.lits) (segments (f + length c.sorts) cs) in
+        omega (arith, r.size, many, both);
   }

@@ -18,7 +18,7 @@ mod view;
 
 pub use beside::all_beside;
 pub use clause::{AtomOf, Clause, Lit, copy_clauses, copy_lits};
-pub use closing::{close, form_of_atom, form_of_lit};
+pub use closing::{close, form_of_atom, form_of_lit, forms_of_lits};
 pub use fault::FormFault;
 pub use joining::{is_end, join_flat, node, own_members, push_members, quantified, signed};
 pub use laws::{
