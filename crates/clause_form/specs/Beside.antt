@@ -1,5 +1,5 @@
 -- Clauses over one scope as one clause: where the variables and the literals of each stand.
-use Rattle.std.specs.Prelude.{ℕ, ◌+◌, ◌≡◌, ◌<◌, List, [], ◌∷◌, ◌++◌, length, map, slice_get, Some, refl}
+use Rattle.std.specs.Prelude.{ℕ, ◌+◌, ◌≡◌, List, [], ◌∷◌, ◌++◌, length, map, slice_get, Some, refl}
 use Rattle.std.specs.Option.{option_map}
 use Rattle.std.proofs.Common.{ap, sym, subst, ◌∙◌, arith, inl, inr, zero, suc, append_assoc}
 use Rattle.std.proofs.lemmas.Simd.{map-map}
@@ -15,7 +15,7 @@ use Rattle.clause_form.specs.declared.clause.Lit.{Lit}
 use Rattle.clause_form.specs.declared.clause.Clause.{Clause}
 use Rattle.clause_form.specs.Covers.{at_terms, in_lit}
 use Rattle.clause_form.specs.ClauseLaws.{lits_themselves}
-use Rattle.clause_form.specs.Paths.{beside, all_beside}
+use Rattle.clause_form.specs.Paths.{all_beside}
 
 -- Terms that are lifted twice, or by nothing.
 further_var : (f c r m total k : ℕ) → m ≡ r + c → total ≡ c + f → lifted_term f m (lifted_term c r (Var k)) ≡ lifted_term total r (Var k)

@@ -1,6 +1,5 @@
 -- What code finds by a path: the clause that is reached, and that it suits the formula.
-use Rattle.std.specs.Prelude.{ℕ, ◌+◌, ◌≡◌, ◌<◌, ◌≤◌, Bool, true, false, List, [], ◌∷◌, ◌++◌, length, map, take, get_or, sum, Option, Some, None, IfSome, slice_get, refl, if◌then◌else◌}
-use Rattle.std.specs.List.{AllByRecursion}
+use Rattle.std.specs.Prelude.{ℕ, ◌+◌, ◌≡◌, ◌<◌, ◌≤◌, Bool, true, false, List, [], ◌∷◌, ◌++◌, length, map, take, get_or, Option, Some, None, IfSome, slice_get, refl, if◌then◌else◌}
 use Rattle.std.specs.Option.{option_map}
 use Rattle.std.proofs.Common.{ap, sym, subst, ◌∙◌, arith, zero, suc}
 use Rattle.std.proofs.lemmas.List.{map-append, length-map, take_all}
@@ -15,10 +14,9 @@ use Rattle.clause_form.specs.declared.clause.AtomOf.TheVariants.{Pred, Eq as Equ
 use Rattle.clause_form.specs.declared.clause.Lit.{Lit}
 use Rattle.clause_form.specs.declared.clause.Clause.{Clause}
 use Rattle.clause_form.specs.ClauseView.{view_of, form_of_atom, signed_form, form_of_lit, open_clause, alone_lit, within}
-use Rattle.clause_form.specs.Paths.{is_plain, plain, all_beside, at_member, one_more, each_reaches, reached}
+use Rattle.clause_form.specs.Paths.{is_plain, plain, all_beside, one_more, each_reaches, reached}
 use Rattle.clause_form.specs.PathCases.{reached-Leaf, reached-Pick, reached-Each, reached-Under, none_picked, none_each, none_under, lit_back}
 use Rattle.clause_form.specs.Sizes.{norm_size_of, norm_size_of-Atom, norm_size_of-Eq, norm_size_of-Not, norm_size_of-And, norm_size_of-Or, norm_size_of-All}
-use Rattle.clause_form.specs.Beside.{all_sorts}
 use Rattle.clause_form.specs.Reached.{Suits, EachSuits, suits_and, suits_or, suits_all, member_size, segments_size, each_fits}
 use Rattle.clause_form.specs.Room.{AreOver}
 

@@ -2,6 +2,8 @@ pub mod Beside
 pub mod Cases
 pub mod ClauseLaws
 pub mod ClauseView
+pub mod ClauseWays
+pub mod Clauses
 pub mod Covers
 pub mod Found
 pub mod Images

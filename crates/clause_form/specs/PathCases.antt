@@ -1,10 +1,9 @@
 -- The equations of what a path reaches, and where it fits no formula of that kind.
-use Rattle.std.specs.Prelude.{ℕ, ◌≡◌, Bool, true, false, List, [], ◌∷◌, map, Option, Some, None, slice_get, refl}
+use Rattle.std.specs.Prelude.{ℕ, ◌≡◌, List, [], ◌∷◌, map, Option, Some, None, slice_get, refl}
 use Rattle.std.specs.Option.{option_map}
 use Rattle.std.proofs.Common.{ap, sym, ◌∙◌}
 use Rattle.fof_terms.specs.Induction.{form_induction}
-use Rattle.fof_terms.specs.declared.form.Form.{Form, Atom, Eq, Not, And, Or, Imp, Iff, All, Ex}
-use Rattle.fof_terms.specs.declared.form.Form.TheOpen as form
+use Rattle.fof_terms.specs.declared.form.Form.{Form, Not, And, Or, All}
 use Rattle.fof_terms.specs.declared.form.Form.TheViews.{out-Form, outs-Atom, outs-Eq, outs-Not, outs-And, outs-Or, outs-Imp, outs-Iff, outs-All, outs-Ex}
 use Rattle.clause_form.specs.declared.path.Path.{Path, Leaf, Pick, Each, Under}
 use Rattle.clause_form.specs.declared.path.Path.TheOpen as path
@@ -14,7 +13,7 @@ use Rattle.clause_form.specs.declared.clause.AtomOf.{AtomOf}
 use Rattle.clause_form.specs.declared.clause.AtomOf.TheVariants.{Pred, Eq as Equation, True, False}
 use Rattle.clause_form.specs.declared.clause.Lit.{Lit}
 use Rattle.clause_form.specs.declared.clause.Clause.{Clause}
-use Rattle.clause_form.specs.ClauseView.{View, view_of, view_of_and, view_of_or, denied, stated, open_clause, alone_lit, within, form_of_atom, signed_form, form_of_lit, view_of-Atom, view_of-Eq, view_of-Not, view_of-And, view_of-Or, view_of-Imp, view_of-Iff, view_of-All, view_of-Ex}
+use Rattle.clause_form.specs.ClauseView.{View, view_of, view_of_and, view_of_or, denied, stated, open_clause, alone_lit, within, form_of_atom, form_of_lit, view_of-Atom, view_of-Eq, view_of-Not, view_of-And, view_of-Or, view_of-Imp, view_of-Iff, view_of-All, view_of-Ex}
 use Rattle.clause_form.specs.Paths.{plain, all_beside, at_member, each_reaches, pick_in, each_in, under_in, path_step, reached}
 use denote.Hole.Carrier.{roll}
 
@@ -41,15 +40,15 @@ pub reached-Leaf : (a : Form) → reached Leaf a ≡ option_map open_clause (opt
 unfolding reached
 reached-Leaf a = ap (λ g. g a) fold-Leaf
 
-reached_pick : (k : ℕ) (p : Path) (a : Form) → reached (Pick k p) a ≡ pick_in k (reached p) (out-Form a)
+pub reached_pick : (k : ℕ) (p : Path) (a : Form) → reached (Pick k p) a ≡ pick_in k (reached p) (out-Form a)
 unfolding reached
 reached_pick k p a = ap (λ g. g a) (fold-Pick k p)
 
-reached_each : (ps : List Path) (a : Form) → reached (Each ps) a ≡ each_in (map reached ps) (out-Form a)
+pub reached_each : (ps : List Path) (a : Form) → reached (Each ps) a ≡ each_in (map reached ps) (out-Form a)
 unfolding reached
 reached_each ps a = ap (λ g. g a) (fold-Each ps)
 
-reached_under : (p : Path) (a : Form) → reached (Under p) a ≡ under_in (reached p) (out-Form a)
+pub reached_under : (p : Path) (a : Form) → reached (Under p) a ≡ under_in (reached p) (out-Form a)
 unfolding reached
 reached_under p a = ap (λ g. g a) (fold-Under p)
 

@@ -1,26 +1,22 @@
 -- What a path reaches, kind by kind, and what the clause that it reaches has of the formula.
-use Rattle.std.specs.Prelude.{ℕ, ◌+◌, ◌≡◌, ◌<◌, ◌≤◌, ◌&&◌, nat_lt, Bool, true, false, List, [], ◌∷◌, ◌++◌, length, map, sum, Option, Some, None, slice_get, refl}
+use Rattle.std.specs.Prelude.{ℕ, ◌+◌, ◌≡◌, ◌<◌, ◌≤◌, ◌&&◌, nat_lt, Bool, true, false, List, [], ◌∷◌, ◌++◌, length, map, sum, Some, slice_get, refl}
 use Rattle.std.specs.List.{AllByRecursion, list_all}
-use Rattle.std.specs.Option.{option_map}
 use Rattle.std.proofs.Common.{ap, sym, subst, ◌∙◌, arith, zero, suc, append_assoc}
 use Rattle.std.proofs.lemmas.Bool.Decides.{nat_tests}
-use Rattle.std.proofs.lemmas.Simd.{map-map}
 use Rattle.std.proofs.lemmas.List.{map-append, length-append, length-map}
 use Rattle.std.proofs.lemmas.List.Folds.{list_all-append}
 use Rattle.fof_terms.specs.Vocabulary.{Vocabulary}
-use Rattle.fof_terms.specs.Induction.{form_induction}
 use Rattle.fof_terms.specs.Laws.{both, each_true}
 use Rattle.fof_terms.specs.Lift.{lifted, lifted_term, lifted-Atom, lifted-Eq, lifted-Not, lifted-And, lifted-Or}
 use Rattle.fof_terms.specs.Sorts.{is_sorted, is_sorted-And, is_sorted-Or, is_sorted-All}
 use Rattle.fof_terms.specs.Scoped.{member_of}
 use Rattle.fof_terms.specs.Walks.{lifted_fits}
-use Rattle.fof_terms.specs.declared.term.Term.{Term}
-use Rattle.fof_terms.specs.declared.form.Form.{Form, Atom, Eq, Not, And, Or, Imp, Iff, All, Ex}
+use Rattle.fof_terms.specs.declared.form.Form.{Form, Not, And, Or, All}
 use Rattle.clause_form.specs.declared.clause.AtomOf.{AtomOf}
 use Rattle.clause_form.specs.declared.clause.AtomOf.TheVariants.{Pred, Eq as Equation, True, False}
 use Rattle.clause_form.specs.declared.clause.Lit.{Lit}
 use Rattle.clause_form.specs.declared.clause.Clause.{Clause}
-use Rattle.clause_form.specs.ClauseView.{form_of_atom, signed_form, form_of_lit, form_of_lits, open_clause, within}
+use Rattle.clause_form.specs.ClauseView.{form_of_atom, signed_form, form_of_lit, form_of_lits, within}
 use Rattle.clause_form.specs.Covers.{at_terms, in_lit}
 use Rattle.clause_form.specs.Paths.{all_beside}
 use Rattle.clause_form.specs.Sizes.{norm_size_of, norm_size_of-And, norm_size_of-Or, norm_size_of-All}

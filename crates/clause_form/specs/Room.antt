@@ -1,6 +1,6 @@
 -- Room for the variables of clauses that are put beside each other.
-use Rattle.std.specs.Prelude.{ℕ, ◌+◌, ◌-◌, ◌≡◌, ◌<◌, ◌≤◌, ◌^◌, nat_lt, Bool, true, false, List, [], ◌∷◌, ◌++◌, length, map, take, drop, get_or, max, slice_get, Some, refl, if◌then◌else◌}
-use Rattle.std.specs.List.{AllByRecursion, list_all}
+use Rattle.std.specs.Prelude.{ℕ, ◌+◌, ◌-◌, ◌≡◌, ◌<◌, ◌≤◌, ◌^◌, Bool, true, false, List, [], ◌∷◌, ◌++◌, length, map, take, drop, get_or, slice_get, Some, refl}
+use Rattle.std.specs.List.{AllByRecursion}
 use Rattle.std.proofs.Common.{ap, sym, subst, ◌∙◌, arith, zero, suc, append_assoc, add-one, inl, inr}
 use Rattle.std.proofs.Math.Seq.{drop-cons}
 use Rattle.std.proofs.lemmas.Bool.Decides.{nat_tests}
@@ -12,9 +12,8 @@ use Rattle.fof_terms.specs.Induction.{term_induction}
 use Rattle.fof_terms.specs.Laws.{below_or_above, stays, moves, each_true, one_found, applied_found, holds_found}
 use Rattle.fof_terms.specs.Lift.{greatest, lifted_term, lifted, lifted_term-Var, lifted_term-App, lifted-Atom, lifted-Eq, lifted-Not, lifted-And, lifted-Or, lift_term_reach, lift_reach, lift_term_reach-Var, lift_term_reach-App, lift_reach-Atom, lift_reach-Eq, lift_reach-Not, lift_reach-And, lift_reach-Or}
 use Rattle.fof_terms.specs.Sorts.{sort_of_term, is_sorted, sort_of_term-Var, sort_of_term-App, is_sorted-Atom, is_sorted-Eq, is_sorted-Not}
-use Rattle.fof_terms.specs.Scoped.{member_of}
 use Rattle.fof_terms.specs.declared.term.Term.{Term, Var, App}
-use Rattle.fof_terms.specs.declared.form.Form.{Form, Atom, Eq, Not, And, Or}
+use Rattle.fof_terms.specs.declared.form.Form.{Form}
 use Rattle.clause_form.specs.declared.clause.AtomOf.{AtomOf}
 use Rattle.clause_form.specs.declared.clause.AtomOf.TheVariants.{Pred, Eq as Equation, True, False}
 use Rattle.clause_form.specs.declared.clause.Lit.{Lit}
@@ -90,14 +89,16 @@ module _ (w : Vocabulary) (scope : List ℕ) (e f n : ℕ) where
 
   atom_reaches : (a : AtomOf) → is_sorted w scope (form_of_atom a) ≡ true → (lift_reach f n (form_of_atom a) ≤ length scope + f) × (lift_reach e 0 (lifted f n (form_of_atom a)) ≤ length scope + f + e)
   atom_reaches (Pred p ts) fits =
-      let each = holds_found (sort_of_term w scope) ts (slice_get w.symbols p) (rw is_sorted-Atom at fits) in
-      (rw lift_reach-Atom (terms_bound w scope (length scope + f) First (lift_term_reach-App f n) first_var ts each),
-      rw (lifted-Atom, lift_reach-Atom, map-map) (terms_bound w scope (length scope + f + e) Second second_app second_var ts each))
+      let each = holds_found (sort_of_term w scope) ts (slice_get w.symbols p) (rw is_sorted-Atom at fits) in (
+        rw lift_reach-Atom (terms_bound w scope (length scope + f) First (lift_term_reach-App f n) first_var ts each),
+        rw (lifted-Atom, lift_reach-Atom, map-map) (terms_bound w scope (length scope + f + e) Second second_app second_var ts each),
+      )
   atom_reaches (Equation l r) fits =
-      let sides = one_found (sort_of_term w scope l) (sort_of_term w scope r) (rw is_sorted-Eq at fits) in
-      (rw lift_reach-Eq (omega (arith, term_bound w scope (length scope + f) First (lift_term_reach-App f n) first_var l sides.0, term_bound w scope (length scope + f) First (lift_term_reach-App f n) first_var r sides.1)),
-      rw (lifted-Eq, lift_reach-Eq)
-      (omega (arith, term_bound w scope (length scope + f + e) Second second_app second_var l sides.0, term_bound w scope (length scope + f + e) Second second_app second_var r sides.1)))
+      let sides = one_found (sort_of_term w scope l) (sort_of_term w scope r) (rw is_sorted-Eq at fits) in (
+        rw lift_reach-Eq (omega (arith, term_bound w scope (length scope + f) First (lift_term_reach-App f n) first_var l sides.0, term_bound w scope (length scope + f) First (lift_term_reach-App f n) first_var r sides.1)),
+        rw (lifted-Eq, lift_reach-Eq)
+            (omega (arith, term_bound w scope (length scope + f + e) Second second_app second_var l sides.0, term_bound w scope (length scope + f + e) Second second_app second_var r sides.1)),
+      )
   atom_reaches True fits = (rw lift_reach-And (omega arith), rw (lifted-And, lift_reach-And) (omega arith))
   atom_reaches False fits = (rw lift_reach-Or (omega arith), rw (lifted-Or, lift_reach-Or) (omega arith))
 
@@ -135,9 +136,10 @@ pub segment_next : (cs : List Clause) (total before : ℕ) (rest : List Clause) 
     → more ≡ lits ++ map (in_lit (moved after before (length c.sorts))) c.lits → Segmented cs total before (c ∷ rest) lits → Segmented cs total (before + length c.sorts) rest more
 segment_next cs total before rest lits more c after e em s =
     let count : length (c.sorts ++ all_sorts rest) ≡ length c.sorts + length (all_sorts rest) = length-append c.sorts (all_sorts rest) in
-    let same : after ≡ length (all_sorts rest) = omega (arith, s.0, count, e) in
-    (omega (arith, s.0, count),
-    rw (em, same) (append_assoc lits (map (in_lit (moved (length (all_sorts rest)) before (length c.sorts))) c.lits) (segments (before + length c.sorts) rest) ∙ s.1))
+    let same : after ≡ length (all_sorts rest) = omega (arith, s.0, count, e) in (
+      omega (arith, s.0, count),
+      rw (em, same) (append_assoc lits (map (in_lit (moved (length (all_sorts rest)) before (length c.sorts))) c.lits) (segments (before + length c.sorts) rest) ∙ s.1),
+    )
 
 pub room_for : (cs : List Clause) (i : ℕ) (c : Clause) (total before : ℕ) (lits : List Lit) → drop i cs ≡ c ∷ drop (i + 1) cs → Segmented cs total before (drop i cs) lits
     → before + length c.sorts + (total - before - length c.sorts) ≡ total

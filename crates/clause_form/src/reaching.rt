@@ -78,11 +78,7 @@ fn reach(alloc: Global, form: &Form, path: &Path) -> Result<Option<Clause>, Memo
 
 // The clauses that the paths reach.
 #[cycle(reach)]
-fn reach_each(
-    alloc: Global,
-    forms: &[Form],
-    paths: &[Path],
-) -> Result<Option<List<Clause>>, Memory>
+fn reach_each(alloc: Global, forms: &[Form], paths: &[Path]) -> Result<Option<List<Clause>>, Memory>
     requires { IsRoomy (Or forms.now) }
     ensures { IfOk result (λ clauses. AreFound paths.now forms.now clauses) }
 {
@@ -116,13 +112,7 @@ fn plain_lit(lit: Option<Lit>) -> Option<Lit>
     ensures { result ≡ plain_of lit }
 {
     match lit {
-        Some(lit) => {
-            if is_plain(&lit.atom) {
-                Some(lit)
-            } else {
-                None
-            }
-        }
+        Some(lit) => { if is_plain(&lit.atom) { Some(lit) } else { None } }
         None => None,
     }
 }

@@ -166,10 +166,11 @@ arm_next ps as_ members cs whole i f k e arms p a c q made found lt ip ia ic em 
     let count : length next.earlier ≡ f + length c.sorts = next.count in
     let behind : e ≡ length (all_sorts (drop (i + 1) cs)) = omega arith in
     let inner = l.leads c (reaches_at ps as_ cs i p a c (sym found.are) lt ip ia ic) in
-    let arm : ArmAt whole as_ i a made =
-    (at_index as_ i a lt ia,
-    λ t v h room gs sa.
-    rw (et, em, behind) (member_shows t v h whole f k c (drop (i + 1) cs) r' a q room gs sa (λ g. inner.1 t v g (omega (arith, count, parts, all, room)) sa))) in
+    let arm : ArmAt whole as_ i a made = (
+      at_index as_ i a lt ia,
+      λ t v h room gs sa.
+          rw (et, em, behind) (member_shows t v h whole f k c (drop (i + 1) cs) r' a q room gs sa (λ g. inner.1 t v g (omega (arith, count, parts, all, room)) sa)),
+    ) in
     record {
       parts = parts_more (ArmAt whole as_) as_ arms made i a lt before.parts (subst (λ (x : Form). ArmAt whole as_ i x made) ia arm);
       rest = next;

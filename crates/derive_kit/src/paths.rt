@@ -112,15 +112,7 @@ fn arms(
         let part = along(alloc, &forms[number], &paths[number])?;
         let clause = &clauses[number];
         let after = whole.sorts.len() - before - clause.sorts.len();
-        let arm = widen(
-            alloc,
-            whole,
-            clause,
-            members.as_slice(),
-            after,
-            start,
-            part,
-        )?;
+        let arm = widen(alloc, whole, clause, members.as_slice(), after, start, part)?;
         made.push(arm.into_inner())?;
         before += clause.sorts.len();
         start += clause.lits.len();

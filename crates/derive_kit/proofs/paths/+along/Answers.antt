@@ -8,14 +8,22 @@ use Rattle.derive_kit.specs.Routes.{along_leaf, along_pick, along_under, along_e
 use Rattle.derive_kit.proofs.paths.+along.Goals as goal
 
 pub along-along-requires : goal.along-along-requires
-along-along-requires t c =
-    (search (rules, the_lemmas), (pick_small c.args.form.now c.index-members-place.result c.in-And.members c.as_slice-members.result.now c.in-Pick.number c.in-And.is c.as_slice-members.ensures (omega (arith, c.if-place-members.false)) c.index-members-place.is c.requires.size,
-    roomy_member c.args.form.now c.in-And.members c.as_slice-members.result.now c.in-Pick.number c.index-members-place.result c.in-And.is c.as_slice-members.ensures (omega (arith, c.if-place-members.false)) c.index-members-place.is c.requires.room))
+along-along-requires t c = (
+  search (rules, the_lemmas),
+  (
+    pick_small c.args.form.now c.index-members-place.result c.in-And.members c.as_slice-members.result.now c.in-Pick.number c.in-And.is c.as_slice-members.ensures (omega (arith, c.if-place-members.false)) c.index-members-place.is c.requires.size,
+    roomy_member c.args.form.now c.in-And.members c.as_slice-members.result.now c.in-Pick.number c.index-members-place.result c.in-And.is c.as_slice-members.ensures (omega (arith, c.if-place-members.false)) c.index-members-place.is c.requires.room,
+  ),
+)
 
 pub along-along-requires-in-All : goal.along-along-requires-in-All
-along-along-requires-in-All t c =
-    (search (rules, the_lemmas), (under_small c.args.form.now c.in-All.sort c.in-All.body c.get-in-All.result.now c.in-All.is c.get-in-All.ensures c.requires.size,
-    roomy_body c.args.form.now c.in-All.sort c.in-All.body c.get-in-All.result.now c.in-All.is c.get-in-All.ensures c.requires.room))
+along-along-requires-in-All t c = (
+  search (rules, the_lemmas),
+  (
+    under_small c.args.form.now c.in-All.sort c.in-All.body c.get-in-All.result.now c.in-All.is c.get-in-All.ensures c.requires.size,
+    roomy_body c.args.form.now c.in-All.sort c.in-All.body c.get-in-All.result.now c.in-All.is c.get-in-All.ensures c.requires.room,
+  ),
+)
 
 pub along-returns-in_ok-copy-in-Leaf : goal.along-returns-in_ok-copy-in-Leaf
 along-returns-in_ok-copy-in-Leaf t c =
@@ -40,9 +48,13 @@ pub arms-bounds-clauses-number : goal.arms-bounds-clauses-number
 arms-bounds-clauses-number t c = omega (arith, (few_paths c.args.paths.now c.args.forms.now c.args.clauses.now c.requires.found).1, c.loop-number-test.true)
 
 pub arms-along-requires : goal.arms-along-requires
-arms-along-requires t c =
-    (search (rules, the_lemmas), (each_small c.args.forms.now c.loop-number.number c.index-forms-number.result c.loop-number-test.true c.index-forms-number.is c.requires.size,
-    each_roomy c.args.forms.now c.loop-number.number c.index-forms-number.result c.loop-number-test.true c.index-forms-number.is c.requires.room))
+arms-along-requires t c = (
+  search (rules, the_lemmas),
+  (
+    each_small c.args.forms.now c.loop-number.number c.index-forms-number.result c.loop-number-test.true c.index-forms-number.is c.requires.size,
+    each_roomy c.args.forms.now c.loop-number.number c.index-forms-number.result c.loop-number-test.true c.index-forms-number.is c.requires.room,
+  ),
+)
 
 pub arms-overflow_sub-after-in-loop-number : goal.arms-overflow_sub-after-in-loop-number
 arms-overflow_sub-after-in-loop-number t c =
