@@ -3,7 +3,6 @@ use Rattle.std.specs.Prelude.{ℕ, ◌≡◌, List, [], ◌∷◌, ◌++◌, map
 use Rattle.std.specs.List.{AllByRecursion}
 use Rattle.std.specs.Option.{option_map}
 use Rattle.std.proofs.Common.{ap, sym, subst, ◌∙◌, ◌⊎◌, inl, inr, zero, suc}
-use Rattle.std.proofs.lemmas.Simd.{map-map}
 use Rattle.std.proofs.lemmas.List.Concat.{flat_map-cons}
 use Rattle.fof_terms.specs.Induction.{form_induction}
 use Rattle.fof_terms.specs.declared.term.Term.{Term}
@@ -13,15 +12,22 @@ use Rattle.clause_form.specs.declared.path.Path.{Path, Leaf, Pick, Each, Under}
 use Rattle.clause_form.specs.declared.path.Path.TheOpen as path
 use Rattle.clause_form.specs.declared.path.Path.TheViews.{roll-Path}
 use Rattle.clause_form.specs.declared.path.Path.TheFolds.{ind-Path, map-Path}
-use Rattle.clause_form.specs.declared.clause.AtomOf.{AtomOf}
-use Rattle.clause_form.specs.declared.clause.AtomOf.TheVariants.{Pred, Eq as Equation, True, False}
 use Rattle.clause_form.specs.declared.clause.Lit.{Lit}
 use Rattle.clause_form.specs.declared.clause.Clause.{Clause}
-use Rattle.clause_form.specs.ClauseView.{View, view_of, view_of_and, view_of_or, alone_lit, stated, denied, open_clause, within, view_of-Atom, view_of-Eq, view_of-Not, view_of-And, view_of-Or, view_of-Imp, view_of-Iff, view_of-All, view_of-Ex}
+use Rattle.clause_form.specs.ClauseView.{View, view_of, view_of_and, view_of_or, alone_lit, denied, open_clause, within, view_of-Atom, view_of-Eq, view_of-Not, view_of-And, view_of-Or, view_of-Imp, view_of-Iff, view_of-All, view_of-Ex}
 use Rattle.clause_form.specs.Paths.{plain, all_beside, at_member, one_more, each_reaches, pick_in, each_in, under_in, reached, IsReached}
 use Rattle.clause_form.specs.PathCases.{reached-Leaf, reached-Pick, reached-Each, reached-Under, reached_pick, reached_each, reached_under}
 use Rattle.clause_form.specs.Clauses.{Clausal, choices, joined_lists, lone_clauses, clausal, clauses_in, clausal-Atom, clausal-Eq, clausal-Not, clausal-And, clausal-Or, clausal-Imp, clausal-Iff, clausal-All, clausal-Ex}
 use denote.Hole.Carrier.{roll}
+
+listed_or : (as_ : List Form) → clauses_in (Or as_) ≡ map all_beside (choices (map (λ (x : Clausal). x.clauses) (map clausal as_)))
+listed_or as_ = ap (λ (x : Clausal). x.clauses) (clausal-Or as_)
+
+listed_and : (as_ : List Form) → clauses_in (And as_) ≡ joined_lists (map (λ (x : Clausal). x.clauses) (map clausal as_))
+listed_and as_ = ap (λ (x : Clausal). x.clauses) (clausal-And as_)
+
+listed_all : (s : ℕ) (a : Form) → clauses_in (All s a) ≡ map (within s) (clauses_in a)
+listed_all s a = ap (λ (x : Clausal). x.clauses) (clausal-All s a)
 
 -- it stands in the list
 abbrev pub IsIn : {X : Type 0} → X → List X → Type 0
@@ -42,9 +48,9 @@ in_both : {X : Type 0} (x : X) (xs ys : List X) → IsIn x (xs ++ ys) → IsIn x
 in_both x [] ys h = inr h
 in_both x (y ∷ xs) ys (inl e) = inl (inl e)
 in_both x (y ∷ xs) ys (inr h) = elim (in_both x xs ys h) [
-      | inl g ↦ inl (inr g)
-      | inr g ↦ inr g
-    ]
+  | inl g ↦ inl (inr g)
+  | inr g ↦ inr g
+]
 
 in_map : {X Y : Type 0} (f : X → Y) (x : X) (xs : List X) → IsIn x xs → IsIn (f x) (map f xs)
 in_map f x [] h = absurd h
@@ -64,9 +70,9 @@ in_flat f x y (z ∷ xs) (inr h) g = rw flat_map-cons (in_right y (f z) (flat_ma
 of_flat : {X Y : Type 0} (f : X → List Y) (y : Y) (xs : List X) → IsIn y (flat_map f xs) → (x : X) × IsIn x xs × IsIn y (f x)
 of_flat f y [] h = absurd h
 of_flat f y (x ∷ xs) h = elim (in_both y (f x) (flat_map f xs) (rw flat_map-cons at h)) [
-      | inl g ↦ (x, inl refl, g)
-      | inr g ↦ let found = of_flat f y xs g in (found.0, inr found.1, found.2)
-    ]
+  | inl g ↦ (x, inl refl, g)
+  | inr g ↦ let found = of_flat f y xs g in (found.0, inr found.1, found.2)
+]
 
 -- What holds of each kind of path holds of each path.
 record OfKinds (P : Path → Type 0) : Type 0 where
@@ -137,13 +143,13 @@ some_leaf : (a : Form) (c : Clause) → clauses_in a ≡ lone_clauses (plain (vi
 some_leaf a c same h = (Leaf, reached-Leaf a ∙ lone_reached (plain (view_of a).lit) c (subst (λ (cs : List Clause). IsIn c cs) same h))
 
 atom_clauses : (p : ℕ) (ts : List Term) → clauses_in (Atom p ts) ≡ lone_clauses (plain (view_of (Atom p ts)).lit)
-atom_clauses p ts = rw (clausal-Atom, view_of-Atom) refl
+atom_clauses p ts = ap (λ (x : Clausal). x.clauses) (clausal-Atom p ts) ∙ ap (λ (v : View). lone_clauses (plain v.lit)) (sym (view_of-Atom p ts))
 
 eq_clauses : (l r : Term) → clauses_in (Eq l r) ≡ lone_clauses (plain (view_of (Eq l r)).lit)
-eq_clauses l r = rw (clausal-Eq, view_of-Eq) refl
+eq_clauses l r = ap (λ (x : Clausal). x.clauses) (clausal-Eq l r) ∙ ap (λ (v : View). lone_clauses (plain v.lit)) (sym (view_of-Eq l r))
 
 not_clauses : (a : Form) → clauses_in (Not a) ≡ lone_clauses (plain (view_of (Not a)).lit)
-not_clauses a = rw (clausal-Not, view_of-Not) (ap lone_clauses (sym (atom_same a)))
+not_clauses a = ap (λ (x : Clausal). x.clauses) (clausal-Not a) ∙ ap lone_clauses (sym (atom_same a)) ∙ ap (λ (v : View). lone_clauses (plain v.lit)) (sym (view_of-Not a))
 
 -- What a path reaches is a clause.
 abbrev Listed : Form → Type 0
@@ -177,13 +183,13 @@ some_mapped f (Some x) c e = (x, refl, cc)
 or_listed : (as_ : List Form) → AllByRecursion Listed as_ → (ps : List Path) (c : Clause) → reached (Each ps) (Or as_) ≡ Some c → IsIn c (clauses_in (Or as_))
 or_listed as_ all ps c e =
     let found = some_mapped all_beside (each_reaches (map reached ps) as_) c (sym (reached-Each ps as_) ∙ e) in
-    rw clausal-Or (subst (λ (d : Clause). IsIn d (map all_beside (choices (map (λ (x : Clausal). x.clauses) (map clausal as_))))) found.2
+    subst (λ (cs : List Clause). IsIn c cs) (sym (listed_or as_)) (subst (λ (d : Clause). IsIn d (map all_beside (choices (map (λ (x : Clausal). x.clauses) (map clausal as_))))) found.2
     (in_map all_beside found.0 (choices (map (λ (x : Clausal). x.clauses) (map clausal as_))) (chosen_listed as_ all ps found.0 found.1)))
 
 all_listed : (s : ℕ) (a : Form) → Listed a → (p : Path) (c : Clause) → reached (Under p) (All s a) ≡ Some c → IsIn c (clauses_in (All s a))
 all_listed s a h p c e =
     let found = some_mapped (within s) (reached p a) c (sym (reached-Under p s a) ∙ e) in
-    rw clausal-All (subst (λ (d : Clause). IsIn d (map (within s) (clauses_in a))) found.2 (in_map (within s) found.0 (clauses_in a) (h p found.0 found.1)))
+    subst (λ (cs : List Clause). IsIn c cs) (sym (listed_all s a)) (subst (λ (d : Clause). IsIn d (map (within s) (clauses_in a))) found.2 (in_map (within s) found.0 (clauses_in a) (h p found.0 found.1)))
 
 pub reached_is_listed : (a : Form) → Listed a
 reached_is_listed = form_induction Listed (record {
@@ -207,7 +213,7 @@ reached_is_listed = form_induction Listed (record {
   });
   and = λ as_ all. of_kinds (λ p. (c : Clause) → reached p (And as_) ≡ Some c → IsIn c (clauses_in (And as_))) (record {
     leaf = λ c e. absurd (leaf_none (And as_) c (rw view_of-And (and_plain as_)) e);
-    pick = λ k q c e. rw clausal-And (and_listed as_ all k q c (sym (reached-Pick k q as_) ∙ e));
+    pick = λ k q c e. subst (λ (cs : List Clause). IsIn c cs) (sym (listed_and as_)) (and_listed as_ all k q c (sym (reached-Pick k q as_) ∙ e));
     each = λ ps c e. absurd (clash (reached (Each ps) (And as_)) c (reached_each ps (And as_) ∙ ap (each_in (map reached ps)) (outs-And as_)) e);
     under = λ q c e. absurd (clash (reached (Under q) (And as_)) c (reached_under q (And as_) ∙ ap (under_in (reached q)) (outs-And as_)) e);
   });
@@ -250,9 +256,9 @@ Reaching a = (c : Clause) → IsIn c (clauses_in a) → IsReached a c
 and_reaching : (as_ : List Form) → AllByRecursion Reaching as_ → (c : Clause) → IsIn c (joined_lists (map (λ (x : Clausal). x.clauses) (map clausal as_))) → (k : ℕ) × (p : Path) × (at_member (reached p) (slice_get as_ k) ≡ Some c)
 and_reaching [] all c h = absurd h
 and_reaching (a ∷ as_) all c h = elim (in_both c (clauses_in a) (joined_lists (map (λ (x : Clausal). x.clauses) (map clausal as_))) h) [
-      | inl g ↦ let own = all.0 c g in (0, own.0, own.1)
-      | inr g ↦ let found = and_reaching as_ all.1 c g in (suc found.0, found.1, found.2)
-    ]
+  | inl g ↦ let own = all.0 c g in (0, own.0, own.1)
+  | inr g ↦ let found = and_reaching as_ all.1 c g in (suc found.0, found.1, found.2)
+]
 
 both_more : (o : Option Clause) (rest : Option (List Clause)) (c : Clause) (ds cs : List Clause) → o ≡ Some c → rest ≡ Some ds → cs ≡ c ∷ ds → one_more o rest ≡ Some cs
 both_more o rest c ds cs e f g = rw (e, f, g) refl
@@ -270,7 +276,7 @@ chosen_reaching (a ∷ as_) all cs h =
 
 or_reaching : (as_ : List Form) → AllByRecursion Reaching as_ → Reaching (Or as_)
 or_reaching as_ all c h =
-    let found = of_map all_beside c (choices (map (λ (x : Clausal). x.clauses) (map clausal as_))) (rw clausal-Or at h) in
+    let found = of_map all_beside c (choices (map (λ (x : Clausal). x.clauses) (map clausal as_))) (subst (λ (cs : List Clause). IsIn c cs) (listed_or as_) h) in
     let ways = chosen_reaching as_ all found.0 found.1 in
     (Each ways.0, reached-Each ways.0 as_ ∙ ap (option_map all_beside) ways.1 ∙ ap Some (sym found.2))
 
@@ -279,13 +285,13 @@ listed_is_reached = form_induction Reaching (record {
   atom = λ p ts c h. some_leaf (Atom p ts) c (atom_clauses p ts) h;
   eq = λ l r c h. some_leaf (Eq l r) c (eq_clauses l r) h;
   not = λ a ih c h. some_leaf (Not a) c (not_clauses a) h;
-  and = λ as_ all c h. let found = and_reaching as_ all c (rw clausal-And at h) in (Pick found.0 found.1, reached-Pick found.0 found.1 as_ ∙ found.2);
+  and = λ as_ all c h. let found = and_reaching as_ all c (subst (λ (cs : List Clause). IsIn c cs) (listed_and as_) h) in (Pick found.0 found.1, reached-Pick found.0 found.1 as_ ∙ found.2);
   or = or_reaching;
-  imp = λ a b ih jh c h. absurd (rw clausal-Imp at h);
-  iff = λ a b ih jh c h. absurd (rw clausal-Iff at h);
+  imp = λ a b ih jh c h. absurd (subst (λ (cs : List Clause). IsIn c cs) (ap (λ (x : Clausal). x.clauses) (clausal-Imp a b)) h);
+  iff = λ a b ih jh c h. absurd (subst (λ (cs : List Clause). IsIn c cs) (ap (λ (x : Clausal). x.clauses) (clausal-Iff a b)) h);
   all = λ s a ih c h.
-      let found = of_map (within s) c (clauses_in a) (rw clausal-All at h) in
+      let found = of_map (within s) c (clauses_in a) (subst (λ (cs : List Clause). IsIn c cs) (listed_all s a) h) in
       let way = ih found.0 found.1 in
       (Under way.0, reached-Under way.0 s a ∙ ap (option_map (within s)) way.1 ∙ ap Some (sym found.2));
-  ex = λ s a ih c h. absurd (rw clausal-Ex at h);
+  ex = λ s a ih c h. absurd (subst (λ (cs : List Clause). IsIn c cs) (ap (λ (x : Clausal). x.clauses) (clausal-Ex s a)) h);
 })

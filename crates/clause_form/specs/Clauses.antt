@@ -1,6 +1,6 @@
 -- The clauses of a normal form: each existential variable is replaced by a new symbol applied to the universal variables
 -- around it, and each way of choosing members of conjunctions gives a clause.
-use Rattle.std.specs.Prelude.{ℕ, ◌+◌, ◌≡◌, List, [], ◌∷◌, ◌++◌, map, flat_map, Option, Some, None}
+use Rattle.std.specs.Prelude.{ℕ, ◌+◌, ◌≡◌, List, [], ◌∷◌, ◌++◌, map, flat_map, Option, Some, None, true}
 use Rattle.std.specs.Option.{option_map}
 use Rattle.std.proofs.Common.{zero, suc}
 use Rattle.fof_terms.specs.Trees.{fold-Atom, fold-Eq, fold-Not, fold-And, fold-Or, fold-Imp, fold-Iff, fold-All, fold-Ex}

@@ -48,5 +48,4 @@ pub fn empty_instance()
 pub fn clauses_by_paths()
     ensures listed { (a : Formula) (p : Way) (c : Disjunction) → reached p a ≡ Some c → IsIn c (clauses_in a) }
     ensures reached { (a : Formula) (c : Disjunction) → IsIn c (clauses_in a) → IsReached a c }
-{
-}
+{}
