@@ -1,7 +1,11 @@
+pub mod Beside
 pub mod Cases
 pub mod ClauseLaws
 pub mod ClauseView
+pub mod ClauseWays
+pub mod Clauses
 pub mod Covers
+pub mod Found
 pub mod Images
 pub mod Joined
 pub mod Kinds
@@ -9,7 +13,10 @@ pub mod Norm
 pub mod NormCases
 pub mod NormSize
 pub mod NormSorts
+pub mod PathCases
 pub mod Paths
+pub mod Reached
+pub mod Room
 pub mod SizeLaws
 pub mod Sizes
 pub mod Strip

@@ -38,8 +38,8 @@ fn form_of_lits(alloc: Global, lits: &[Lit]) -> Result<Boxed<Form>, Memory>
     Ok(Boxed::new(alloc, Form::Or(members))?)
 }
 
-// The formulas that the literals stand for.
-fn forms_of_lits(alloc: Global, lits: &[Lit]) -> Result<List<Form>, Memory>
+/// The formulas that the literals stand for.
+pub fn forms_of_lits(alloc: Global, lits: &[Lit]) -> Result<List<Form>, Memory>
     ensures { IfOk result (λ forms. forms ≡ map lit_form lits.now) }
 {
     let mut forms = List::new(alloc);

@@ -5,6 +5,10 @@ ghost use Rattle.fof_terms.specs.declared.term.Term.{Term as Inner};
 ghost use Rattle.fof_terms.specs.Vocabulary.{Vocabulary};
 ghost use Rattle.clause_form.specs.declared.clause.Clause.{Clause as Disjunction};
 ghost use Rattle.clause_form.specs.ClauseView.{clause_of, closed, IsLoneFalsehood};
+ghost use Rattle.clause_form.specs.declared.path.Path.{Path as Way};
+ghost use Rattle.clause_form.specs.Clauses.{clauses_in};
+ghost use Rattle.clause_form.specs.ClauseWays.{IsIn};
+ghost use Rattle.clause_form.specs.Paths.{reached, IsReached};
 ghost use Rattle.clause_form.specs.Norm.{norm_of};
 ghost use Rattle.clause_form.specs.Sizes.{norm_size_of};
 ghost use Rattle.clause_form.specs.Images.{image};
@@ -38,4 +42,10 @@ pub fn cover_of_instance()
 /// An instance is empty only where the clause is.
 pub fn empty_instance()
     ensures { (v : Vocabulary) (c e : Disjunction) → IsInstance v c e → e.lits ≡ [] → c.lits ≡ [] }
+{}
+
+/// The clauses of a formula are those that its paths reach, and no others.
+pub fn clauses_by_paths()
+    ensures listed { (a : Formula) (p : Way) (c : Disjunction) → reached p a ≡ Some c → IsIn c (clauses_in a) }
+    ensures reached { (a : Formula) (c : Disjunction) → IsIn c (clauses_in a) → IsReached a c }
 {}

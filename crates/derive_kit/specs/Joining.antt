@@ -63,7 +63,7 @@ module _ (t : Statements) (v : List ℕ) (h : List Form) (f : ℕ → Proof) whe
       let same : k + 0 ≡ k = omega arith in
       (rw same at (each 0 a refl), numbered_all (k + 1) ms (λ j b e. let next : k + suc j ≡ k + 1 + j = omega arith in rw next at (each (suc j) b e)))
 
-  numbered_each : (c : Form) (k : ℕ) (ms : List Form) → ((j : ℕ) (a : Form) → slice_get ms j ≡ Some a → Proves t v (a ∷ h) (f (k + j)) c) → ProveEach t v h (numbered f k (length ms)) ms c
+  pub numbered_each : (c : Form) (k : ℕ) (ms : List Form) → ((j : ℕ) (a : Form) → slice_get ms j ≡ Some a → Proves t v (a ∷ h) (f (k + j)) c) → ProveEach t v h (numbered f k (length ms)) ms c
   numbered_each c k [] each = tt
   numbered_each c k (a ∷ ms) each =
       let same : k + 0 ≡ k = omega arith in

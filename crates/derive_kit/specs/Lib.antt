@@ -1,3 +1,4 @@
+pub mod Alongside
 pub mod Bound
 pub mod Built
 pub mod Connectives
@@ -7,8 +8,10 @@ pub mod Joining
 pub mod Links
 pub mod Made
 pub mod Norms
+pub mod Numbering
 pub mod Placed
 pub mod Places
 pub mod Recursion
+pub mod Routes
 pub mod Settled
 pub mod Steps

@@ -94,7 +94,7 @@ all_own : (P : ℕ → Form → Proof → Type 0) (t : Statements) (v : List ℕ
     → ProveAll t v h ps as_
 all_own P t v h each as_ ps parts = rw (map_itself as_) at (all_parts P (λ a. a) t v h each 0 as_ ps parts)
 
-each_own : (P : ℕ → Form → Proof → Type 0) (t : Statements) (v : List ℕ) (h : List Form) (c : Form) → ((k : ℕ) (a : Form) (p : Proof) → P k a p → Proves t v (a ∷ h) p c) → (as_ : List Form) (ps : List Proof) → PartsFrom P 0 as_ ps
+pub each_own : (P : ℕ → Form → Proof → Type 0) (t : Statements) (v : List ℕ) (h : List Form) (c : Form) → ((k : ℕ) (a : Form) (p : Proof) → P k a p → Proves t v (a ∷ h) p c) → (as_ : List Form) (ps : List Proof) → PartsFrom P 0 as_ ps
     → ProveEach t v h ps as_ c
 each_own P t v h c each as_ ps parts = rw (map_itself as_) at (each_part P (λ a. a) t v h c each 0 as_ ps parts)
 

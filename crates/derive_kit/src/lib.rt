@@ -10,7 +10,9 @@ mod joins;
 mod links;
 mod nodes;
 mod norms;
+mod paths;
 mod steps;
+mod widening;
 
 pub use builders::{cases, cut_under, instance_of, rewrite_in};
 pub use nodes::{
@@ -18,6 +20,7 @@ pub use nodes::{
     not_e, not_i, or_e, or_i, raa, subst,
 };
 pub use norms::{norm_back, norm_forth};
+pub use paths::path_proof;
 
 #[cfg(test)]
 mod tests;

@@ -1,5 +1,10 @@
+ghost use Rattle.std.specs.Prelude.{◌≤◌, []};
+ghost use Rattle.fof_terms.specs.Sorts.{Sorted};
+ghost use Rattle.clause_form.specs.Sizes.{norm_size_of};
+
 use super::*;
-use fof_terms::{Form, Kind, Signature, SortId, Symbol, Term, equal};
+use clause_form::{Path, clause_of_path, norm_size};
+use fof_terms::{Form, Kind, Signature, SortId, Symbol, Term, equal, well_sorted};
 use kernel::{Entry, Theory};
 use std::alloc::Global;
 use std::test::Fail;
@@ -58,6 +63,7 @@ fn form(alloc: Global, text: &str) -> Result<Boxed<Form>, Memory> {
             b'q' => atom(alloc, 1)?,
             b'&' | b'|' | b'>' => connected(alloc, *byte, &mut stack)?,
             b'!' => Boxed::new(alloc, Form::All(0, stack.pop().ok_or(Memory)?))?,
+            b'?' => Boxed::new(alloc, Form::Ex(0, stack.pop().ok_or(Memory)?))?,
             b'e' => Boxed::new(alloc, Form::Eq(term(alloc, b'c'), term(alloc, b'd')))?,
             other => applied(alloc, other)?,
         };
@@ -186,6 +192,82 @@ fn sides_of_equations(rt: HostRuntime) -> Result<(), Fail> {
         let fact = and_e(alloc, 1, hyp(alloc, 0)?)?;
         let made = rewrite_in(alloc, 0, form(alloc, hole)?.into_inner(), equation, fact)?;
         assert!(rt; shows(alloc, text, premise, made)?, "{text}");
+    }
+    Ok(())
+}
+
+// The path of a text in which the rest stands before the first step: L at a literal, a number picks a member, E takes
+// two, U goes under a quantifier.
+fn path(alloc: Global, text: &str) -> Result<Boxed<Path>, Memory> {
+    let mut stack: List<Boxed<Path>> = List::new(alloc);
+    for byte in text.as_bytes() {
+        let next = match *byte {
+            b'L' => Path::Leaf,
+            b'U' => Path::Under(stack.pop().ok_or(Memory)?),
+            b'E' => {
+                let right = stack.pop().ok_or(Memory)?;
+                let left = stack.pop().ok_or(Memory)?;
+                let mut both = List::new(alloc);
+                both.push(left.into_inner())?;
+                both.push(right.into_inner())?;
+                Path::Each(both)
+            }
+            digit => Path::Pick(
+                digit.saturating_sub(b'0') as u32,
+                stack.pop().ok_or(Memory)?,
+            ),
+        };
+        stack.push(Boxed::new(alloc, next)?)?;
+    }
+    stack.pop().ok_or(Memory)
+}
+
+// Whether the kernel concludes the formula of the text by the path's proof, the premise implying the path's clause.
+fn leads(alloc: Global, text: &str, premise: &str, way: &str) -> Result<bool, Fail> {
+    let signature = signature(alloc)?;
+    let norm = form(alloc, premise)?;
+    let norm = norm.get();
+    if norm_size(norm) > 100000 || !well_sorted(&signature, &[], norm) {
+        return Ok(false);
+    }
+    match reach_in(alloc, &signature, norm, path(alloc, way)?.get())? {
+        Some(made) => shows(alloc, text, premise, imp_e(alloc, made, hyp(alloc, 0)?)?),
+        None => Ok(false),
+    }
+}
+
+// The path's proof, where the path fits the formula.
+fn reach_in(
+    alloc: Global,
+    signature: &Signature,
+    norm: &Form,
+    way: &Path,
+) -> Result<Option<Part>, Memory>
+    requires size { norm_size_of norm.now ≤ 100000 }
+    requires sorted { Sorted signature.now [] norm.now }
+{
+    match clause_of_path(alloc, norm, way)? {
+        Some(_) => Ok(Some(path_proof(alloc, norm, way)?)),
+        None => Ok(None),
+    }
+}
+
+#[test]
+fn clauses_of_paths(rt: HostRuntime) -> Result<(), Fail> {
+    let alloc = rt.alloc();
+    let rows = "0!0!|10|!!> 0!0!| LULUE
+0!p|q0|!&0p|!> 0!p|q0|!& LULE0
+pq&0!|q0|!> pq&0!| L1LUE
+pc|pc|> pc| LLE
+pq&0!c|&c0|!> 0!c|pq&& L
+0?p|0p|!> 0?p| LULE";
+    let wants = [true, true, true, true, false, false];
+    for (row, want) in rows.lines().zip(wants) {
+        let mut words = row.split(' ');
+        let text = words.next().ok_or(Memory)?;
+        let premise = words.next().ok_or(Memory)?;
+        let way = words.next().ok_or(Memory)?;
+        assert!(rt; leads(alloc, text, premise, way)? == want, "{row}");
     }
     Ok(())
 }

@@ -1,0 +1,5 @@
+use Rattle.derive_kit.specs.Routes.{ArmsUpTo}
+use Rattle.derive_kit.proofs.paths.+along.Given as goal
+
+abbrev pub invariant-arms-loop-number : goal.invariant-arms-loop-number
+invariant-arms-loop-number l = ArmsUpTo l.whole l.forms l.clauses l.before l.start l.number l.made
