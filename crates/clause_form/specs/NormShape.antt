@@ -1,15 +1,10 @@
 -- The shape of a normal form: negations stand at atoms and equations alone, and there are no implications.
-use Rattle.std.specs.Prelude.{ℕ, ◌+◌, ◌*◌, ◌≡◌, ◌&&◌, Bool, true, false, not, List, [], ◌∷◌, ◌++◌, length, map, flat_map, sum, Option, Some, None, refl}
+use Rattle.std.specs.Prelude.{ℕ, ◌+◌, ◌≡◌, Bool, true, false, not, List, [], ◌∷◌, map, refl}
 use Rattle.std.specs.List.{AllByRecursion, list_all}
-use Rattle.std.specs.Option.{option_map}
-use Rattle.std.proofs.Common.{ap, sym, subst, ◌∙◌, ◌⊎◌, inl, inr, arith, zero, suc}
-use Rattle.std.proofs.lemmas.Simd.{map-map}
-use Rattle.std.proofs.lemmas.List.{length-append, length-map}
-use Rattle.std.proofs.lemmas.List.Concat.{flat_map-cons}
-use Rattle.std.proofs.lemmas.List.Folds.{list_all-map}
+use Rattle.std.proofs.Common.{ap, sym, ◌∙◌, ◌⊎◌, inl, inr}
 use Rattle.fof_terms.specs.Trees.{fold-Atom, fold-Eq, fold-Not, fold-And, fold-Or, fold-Imp, fold-Iff, fold-All, fold-Ex}
 use Rattle.fof_terms.specs.Induction.{form_induction}
-use Rattle.fof_terms.specs.Laws.{both, each_true}
+use Rattle.fof_terms.specs.Laws.{both}
 use Rattle.fof_terms.specs.Variables.{has_variable}
 use Rattle.fof_terms.specs.Walks.{FormWalk, placing}
 use Rattle.fof_terms.specs.declared.term.Term.{Term, Var}

@@ -53,5 +53,4 @@ pub fn clauses_by_paths()
 /// A formula has as many clauses as its normal form counts.
 pub fn clauses_are_counted()
     ensures { (a : Formula) (next : ℕ) → length (clauses_of a next) ≡ clause_count_of (norm_of true a) }
-{
-}
+{}
