@@ -108,6 +108,42 @@ abbrev pub clauses_of : Form → ℕ → List Clause
 clauses_of a next = clauses_in (skolemized (norm_of true a) next)
 
 -- The equations of these words.
+pub skolem_made-Atom : (p : ℕ) (ts : List Term) → skolem_made (Atom p ts) ≡ skolem_step (form.Atom p ts)
+unfolding skolem_made
+skolem_made-Atom p ts = fold-Atom Maker skolem_step p ts
+
+pub skolem_made-Eq : (l r : Term) → skolem_made (Eq l r) ≡ skolem_step (form.Eq l r)
+unfolding skolem_made
+skolem_made-Eq l r = fold-Eq Maker skolem_step l r
+
+pub skolem_made-Not : (a : Form) → skolem_made (Not a) ≡ skolem_step (form.Not (skolem_made a))
+unfolding skolem_made
+skolem_made-Not a = fold-Not Maker skolem_step a
+
+pub skolem_made-And : (as_ : List Form) → skolem_made (And as_) ≡ skolem_step (form.And (map skolem_made as_))
+unfolding skolem_made
+skolem_made-And as_ = fold-And Maker skolem_step as_
+
+pub skolem_made-Or : (as_ : List Form) → skolem_made (Or as_) ≡ skolem_step (form.Or (map skolem_made as_))
+unfolding skolem_made
+skolem_made-Or as_ = fold-Or Maker skolem_step as_
+
+pub skolem_made-Imp : (a b : Form) → skolem_made (Imp a b) ≡ skolem_step (form.Imp (skolem_made a) (skolem_made b))
+unfolding skolem_made
+skolem_made-Imp a b = fold-Imp Maker skolem_step a b
+
+pub skolem_made-Iff : (a b : Form) → skolem_made (Iff a b) ≡ skolem_step (form.Iff (skolem_made a) (skolem_made b))
+unfolding skolem_made
+skolem_made-Iff a b = fold-Iff Maker skolem_step a b
+
+pub skolem_made-All : (q : ℕ) (a : Form) → skolem_made (All q a) ≡ skolem_step (form.All q (skolem_made a))
+unfolding skolem_made
+skolem_made-All q a = fold-All Maker skolem_step q a
+
+pub skolem_made-Ex : (q : ℕ) (a : Form) → skolem_made (Ex q a) ≡ skolem_step (form.Ex q (skolem_made a))
+unfolding skolem_made
+skolem_made-Ex q a = fold-Ex Maker skolem_step q a
+
 pub clausal-Atom : (p : ℕ) (ts : List Term) → clausal (Atom p ts) ≡ clausal_step (form.Atom p ts)
 unfolding clausal
 clausal-Atom p ts = fold-Atom Clausal clausal_step p ts

@@ -1,5 +1,6 @@
 pub mod Beside
 pub mod Cases
+pub mod ClauseCount
 pub mod ClauseLaws
 pub mod ClauseView
 pub mod ClauseWays
@@ -11,6 +12,7 @@ pub mod Joined
 pub mod Kinds
 pub mod Norm
 pub mod NormCases
+pub mod NormShape
 pub mod NormSize
 pub mod NormSorts
 pub mod PathCases

@@ -1,16 +1,16 @@
 //! Laws of clauses and of their instances, shown by functions that do nothing.
-ghost use Rattle.std.specs.Prelude.{◌≡◌, ◌≤◌, ℕ, Bool, [], Some};
+ghost use Rattle.std.specs.Prelude.{◌≡◌, ◌≤◌, ℕ, Bool, [], Some, length, true};
 ghost use Rattle.fof_terms.specs.declared.form.Form.{Form as Formula};
 ghost use Rattle.fof_terms.specs.declared.term.Term.{Term as Inner};
 ghost use Rattle.fof_terms.specs.Vocabulary.{Vocabulary};
 ghost use Rattle.clause_form.specs.declared.clause.Clause.{Clause as Disjunction};
 ghost use Rattle.clause_form.specs.ClauseView.{clause_of, closed, IsLoneFalsehood};
 ghost use Rattle.clause_form.specs.declared.path.Path.{Path as Way};
-ghost use Rattle.clause_form.specs.Clauses.{clauses_in};
+ghost use Rattle.clause_form.specs.Clauses.{clauses_in, clauses_of};
 ghost use Rattle.clause_form.specs.ClauseWays.{IsIn};
 ghost use Rattle.clause_form.specs.Paths.{reached, IsReached};
 ghost use Rattle.clause_form.specs.Norm.{norm_of};
-ghost use Rattle.clause_form.specs.Sizes.{norm_size_of};
+ghost use Rattle.clause_form.specs.Sizes.{norm_size_of, clause_count_of};
 ghost use Rattle.clause_form.specs.Images.{image};
 ghost use Rattle.clause_form.specs.Covers.{AreSorted, Covers, IsInstance, IsTrivial, scope_of};
 
@@ -48,4 +48,9 @@ pub fn empty_instance()
 pub fn clauses_by_paths()
     ensures listed { (a : Formula) (p : Way) (c : Disjunction) → reached p a ≡ Some c → IsIn c (clauses_in a) }
     ensures reached { (a : Formula) (c : Disjunction) → IsIn c (clauses_in a) → IsReached a c }
+{}
+
+/// A formula has as many clauses as its normal form counts.
+pub fn clauses_are_counted()
+    ensures { (a : Formula) (next : ℕ) → length (clauses_of a next) ≡ clause_count_of (norm_of true a) }
 {}

@@ -22,8 +22,8 @@ pub use closing::{close, form_of_atom, form_of_lit, forms_of_lits};
 pub use fault::FormFault;
 pub use joining::{is_end, join_flat, node, own_members, push_members, quantified, signed};
 pub use laws::{
-    clauses_by_paths, cover_of_instance, empty_instance, image_of_image, instance_of_trivial,
-    norm_no_larger, view_of_closed,
+    clauses_are_counted, clauses_by_paths, cover_of_instance, empty_instance, image_of_image,
+    instance_of_trivial, norm_no_larger, view_of_closed,
 };
 pub use normal::{MAX_NORM_SIZE, norm, norm_all, norm_signed};
 pub use path::{Parent, Path};
