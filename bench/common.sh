@@ -32,3 +32,19 @@ peak() {
 calculate() {
     awk "BEGIN { printf \"%.1f\", $1 }"
 }
+
+# Measures a command of `tptp` on problems of about 10 MB and 20 MB: its speed, how its time grows, and its peak memory. The
+# larger problem is left in whole.p, and the seconds for it in $whole.
+measure() {
+    tptp=$(program_of tptp_tool verify data/pq.p data/pq.s)
+    problem 10000000 "$folder/half.p"
+    problem 20000000 "$folder/whole.p"
+    bytes=$(wc -c < "$folder/whole.p")
+    half=$(seconds "$tptp" "$1" "$folder/half.p")
+    whole=$(seconds "$tptp" "$1" "$folder/whole.p")
+    memory=$(peak "$tptp" "$1" "$folder/whole.p")
+    echo "text         $bytes bytes"
+    echo "speed        $(calculate "$bytes / 1000000 / $whole") MB/s"
+    echo "growth       $(calculate "$whole / $half") times the time for twice the text"
+    echo "peak memory  $(calculate "$memory / $bytes") bytes a byte of text"
+}

@@ -11,7 +11,7 @@ mod words;
 mod write;
 
 pub use law::{one_reading, one_text, read_again, read_only};
-pub use printed::{print, print_formula, print_general};
+pub use printed::{print, print_formula, print_general, print_name};
 pub use write::write_name;
 
 #[cfg(test)]

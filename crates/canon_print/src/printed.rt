@@ -1,12 +1,14 @@
 //! What is printed.
 ghost use Rattle.std.specs.Prelude.{◌≡◌, IfOk};
 ghost use Rattle.canon_print.specs.Canonical.{formula_text, general_text, canonical_text};
+ghost use Rattle.canon_print.specs.Words.{name_text};
 
 use crate::formulas::put_formula;
 use crate::general::put_general;
 use crate::items::put_item;
+use crate::words::put_name;
 use std::alloc::Global;
-use tptp_base::{GTerm, Item, Memory, Surface, Text};
+use tptp_base::{GTerm, Item, Memory, Name, Surface, Text};
 
 /// The canonical text of the items, each of which ends with a line feed.
 pub fn print(alloc: Global, items: &[Item]) -> Result<Text, Memory>
@@ -34,5 +36,14 @@ pub fn print_general(alloc: Global, term: &GTerm) -> Result<Text, Memory>
 {
     let mut text = Vec::new(alloc);
     put_general(term, &mut text)?;
+    Ok(Text::from_vec(text))
+}
+
+/// The name's part of that text.
+pub fn print_name(alloc: Global, name: &Name) -> Result<Text, Memory>
+    ensures { IfOk result (λ text. text ≡ name_text name.now) }
+{
+    let mut text = Vec::new(alloc);
+    put_name(&mut text, name)?;
     Ok(Text::from_vec(text))
 }

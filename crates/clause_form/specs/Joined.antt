@@ -100,7 +100,7 @@ module _ (P : Form → Type 0) (m : Memberwise P) (g : Bool) where
   joined_lists [] bs h k = k
   joined_lists (a ∷ as_) bs h k = (h.0, joined_lists as_ bs h.1 k)
 
-  of_all : (as_ : List Form) → AllByRecursion P as_ → AllByRecursion P (flat_map (members_of g) as_)
+  pub of_all : (as_ : List Form) → AllByRecursion P as_ → AllByRecursion P (flat_map (members_of g) as_)
   of_all [] h = tt
   of_all (a ∷ as_) h = rw (flat_map-cons (members_of g) a as_) (joined_lists (members_of g a) (flat_map (members_of g) as_) (of_members a h.0) (of_all as_ h.1))
 

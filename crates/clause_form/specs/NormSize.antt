@@ -70,7 +70,7 @@ sums_append (x ∷ xs) ys =
     let rest = sums_append xs ys in
     rw (sum_cons (norm_size_of x) (map norm_size_of (xs ++ ys)), sum_cons (norm_size_of x) (map norm_size_of xs)) (omega arith)
 
-flat_size : (g : Bool) (as_ : List Form) → sum (map norm_size_of (flat_map (members_of g) as_)) ≤ sum (map norm_size_of as_)
+pub flat_size : (g : Bool) (as_ : List Form) → sum (map norm_size_of (flat_map (members_of g) as_)) ≤ sum (map norm_size_of as_)
 flat_size g [] = omega arith
 flat_size g (a ∷ as_) =
     let here = members_size g a in
@@ -105,7 +105,7 @@ quantified_size g s a =
 abbrev Small : Form → Type 0
 Small a = (g : Bool) → norm_size_of (norm_of g a) ≤ norm_size_of a
 
-norms_size : (g : Bool) (as_ : List Form) → AllByRecursion Small as_ → sum (map norm_size_of (map (norm_of g) as_)) ≤ sum (map norm_size_of as_)
+pub norms_size : (g : Bool) (as_ : List Form) → AllByRecursion Small as_ → sum (map norm_size_of (map (norm_of g) as_)) ≤ sum (map norm_size_of as_)
 norms_size g [] all = omega arith
 norms_size g (a ∷ as_) all =
     let here = all.0 g in

@@ -1,4 +1,4 @@
-ghost use Rattle.std.specs.Prelude.{◌≡◌, ◌<◌, ◌^◌, ◌++◌, ◌∷◌, [], IfOk, OnOk, not};
+ghost use Rattle.std.specs.Prelude.{◌≡◌, ◌<◌, ◌^◌, ◌++◌, ◌∷◌, [], IfOk, OnOk, MatchOption, not};
 ghost use Rattle.std.specs.List.{list_any};
 ghost use Rattle.fof_terms.specs.Sorts.{binder_depth};
 ghost use Rattle.clause_form.specs.Norm.{node as node_of, members_of, ends, alone as alone_of, joined_flat, signed as signed_of, quantified as quantified_of};
@@ -86,6 +86,36 @@ pub fn push_members(flat: &mut List<Form>, positive: bool, form: Form) -> Result
     Ok(())
 }
 
+/// The members of a node of that sign; None for another formula.
+#[tactic(auto, using(crate::specs::Kinds::members_equations))]
+pub fn own_members(positive: bool, form: &Form) -> Option<&[Form]>
+    ensures { MatchOption result (members_of positive form.now ≡ form.now ∷ []) (λ inner. (form.now ≡ node_of positive inner.now) × (members_of positive form.now ≡ inner.now)) }
+{
+    match form {
+        Form::And(inner) => {
+            if positive {
+                Some(inner.as_slice())
+            } else {
+                None
+            }
+        }
+        Form::Or(inner) => {
+            if positive {
+                None
+            } else {
+                Some(inner.as_slice())
+            }
+        }
+        Form::Atom(_, _) => None,
+        Form::Eq(_, _) => None,
+        Form::Not(_) => None,
+        Form::Imp(_, _) => None,
+        Form::Iff(_, _) => None,
+        Form::All(_, _) => None,
+        Form::Ex(_, _) => None,
+    }
+}
+
 // Whether one of the formulas is falsehood, or under minus truth.
 fn one_ends(positive: bool, forms: &[Form]) -> bool
     ensures { result ≡ list_any (ends positive) forms.now }
@@ -98,9 +128,9 @@ fn one_ends(positive: bool, forms: &[Form]) -> bool
     false
 }
 
-// Whether the formula is falsehood, or under minus truth.
+/// Whether the formula is falsehood, or under minus truth.
 #[tactic(auto, using(crate::specs::Kinds::ends_equations))]
-fn is_end(positive: bool, form: &Form) -> bool
+pub fn is_end(positive: bool, form: &Form) -> bool
     ensures { result ≡ ends positive form.now }
 {
     match form {

@@ -17,7 +17,7 @@ mod view;
 pub use clause::{AtomOf, Clause, Lit, copy_clauses, copy_lits};
 pub use closing::{close, form_of_atom, form_of_lit};
 pub use fault::FormFault;
-pub use joining::{join_flat, node, push_members, quantified, signed};
+pub use joining::{is_end, join_flat, node, own_members, push_members, quantified, signed};
 pub use laws::{
     cover_of_instance, empty_instance, image_of_image, instance_of_trivial, norm_no_larger,
     view_of_closed,

@@ -1,2 +1,14 @@
+pub mod Bound
 pub mod Built
+pub mod Connectives
+pub mod Gathered
 pub mod Instances
+pub mod Joining
+pub mod Links
+pub mod Made
+pub mod Norms
+pub mod Placed
+pub mod Places
+pub mod Recursion
+pub mod Settled
+pub mod Steps

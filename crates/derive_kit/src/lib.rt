@@ -2,14 +2,22 @@
 //! show theirs.
 #![tactic(auto)]
 
+mod bounds;
 mod builders;
+mod connecting;
+mod connectives;
+mod joins;
+mod links;
 mod nodes;
+mod norms;
+mod steps;
 
 pub use builders::{cases, cut_under, instance_of, rewrite_in};
 pub use nodes::{
     Part, all_e, all_i, and_e, and_i, ex_e, ex_i, hyp, iff_i, iff_l, iff_r, imp_e, imp_i, inhabit,
     not_e, not_i, or_e, or_i, raa, subst,
 };
+pub use norms::{norm_back, norm_forth};
 
 #[cfg(test)]
 mod tests;

@@ -1,3 +1,7 @@
+mod Entered
+mod Places
+mod Finding
+mod Gains
 pub mod Lists
 pub mod SortLists
 mod Reversed

@@ -1,4 +1,6 @@
 pub mod Count
+pub mod Directory
+pub mod Found
 pub mod Induction
 pub mod Instance
 pub mod Laws
@@ -12,6 +14,7 @@ pub mod Scope
 pub mod Scoped
 pub mod SortLaws
 pub mod Sorts
+pub mod Standing
 pub mod Trees
 pub mod Unused
 pub mod Variables

@@ -1,6 +1,7 @@
 //! Formulas with bound variables as distances, and the signature that they speak of.
 #![tactic(auto)]
 
+mod directory;
 mod equality;
 mod form;
 mod instances;
@@ -9,6 +10,7 @@ mod lifting;
 mod occurrence;
 mod signature;
 mod sorting;
+mod symbols;
 mod term;
 mod variables;
 
@@ -22,5 +24,9 @@ pub use signature::{Kind, MAX_SORTS, MAX_SYMBOLS, SigFault, Signature, Symbol};
 pub use sorting::{
     MAX_BINDERS, MAX_VARIABLES, Scope, have_sorts, is_within, sort_of, well_sorted, well_sorted_in,
 };
+pub use symbols::{symbols_of, symbols_of_all, symbols_of_term, symbols_of_terms};
 pub use term::{SymId, Term, copy_terms, weight};
 pub use variables::{has_in_one, has_in_term, has_in_terms, has_variable};
+
+#[cfg(test)]
+mod tests;

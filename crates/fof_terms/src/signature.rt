@@ -1,11 +1,12 @@
-ghost use Rattle.std.specs.Prelude.{◌≡◌, ◌↔◌, ◌<◌, ◌≤◌, ◌++◌, [], ◌∷◌, length, codes, slice_get, position, nat_eq, IfSome, IfOk, OnOk, OnErr, IsErrOf};
+ghost use Rattle.std.specs.Prelude.{◌≡◌, ◌↔◌, ◌<◌, ◌≤◌, ◌++◌, [], ◌∷◌, length, codes, slice_get, IfOk, OnOk, OnErr, IsErrOf};
 ghost use Rattle.std.specs.Option.{option_copied};
-ghost use Rattle.std.specs.Cmp.Lexicographic.{pointwise};
 ghost use Rattle.tptp_base.specs.declared.limit.LimitName.{LimitName as limit_name};
 ghost use Rattle.tptp_base.specs.declared.limit.LimitName.TheVariants.{Symbols, Sorts};
 ghost use Rattle.fof_terms.specs.declared.signature.SigFault.TheVariants.{Memory as wanting};
-ghost use Rattle.fof_terms.specs.Vocabulary.{IsDeclared, is_symbol, found_symbol, found_sort};
+ghost use Rattle.fof_terms.specs.Found.{FindsSymbols, FindsSorts};
+ghost use Rattle.fof_terms.specs.Vocabulary.{IsDeclared, found_symbol, found_sort};
 
+use crate::directory::Directory;
 use crate::form::SortId;
 use crate::term::SymId;
 use std::alloc::{AllocError, Global};
@@ -80,20 +81,27 @@ impl From<Memory> for SigFault {
 }
 
 /// The sorts and the symbols that formulas speak of, by number, both counted from 0. Sort 0 is `$i`.
+/// Directories tell the number of each name.
 #[derive(Drop)]
 pub struct Signature {
+    alloc: Global,
     sorts: List<Text>,
     symbols: List<Symbol>,
+    sort_numbers: Directory,
+    functions: Directory,
+    predicates: Directory,
 }
 
 impl Model for Signature {
+    ghost use Rattle.fof_terms.specs.Found.{IsIndexed};
     ghost use Rattle.fof_terms.specs.Vocabulary.{Vocabulary, IsVocabulary};
 
     ghost Value = { Vocabulary };
 
     ghost view = { λ s. record { sorts = s.sorts; symbols = s.symbols } };
 
-    ghost invariant = { λ s. IsVocabulary (record { sorts = s.sorts; symbols = s.symbols }) };
+    ghost invariant = { λ s. IsVocabulary (record { sorts = s.sorts; symbols = s.symbols })
+        × IsIndexed (record { sorts = s.sorts; symbols = s.symbols }) s.sort_numbers s.functions s.predicates };
 }
 
 impl Signature {
@@ -104,8 +112,12 @@ impl Signature {
         let mut sorts = List::new(alloc);
         sorts.push(Text::from_slice(alloc, b"$i")?)?;
         Ok(Signature {
+            alloc,
             sorts,
             symbols: List::new(alloc),
+            sort_numbers: Directory::new(alloc),
+            functions: Directory::new(alloc),
+            predicates: Directory::new(alloc),
         })
     }
 
@@ -122,8 +134,7 @@ impl Signature {
         if number >= MAX_SORTS {
             return Err(SigFault::Limit(LimitName::Sorts));
         }
-        self.sorts.push(name)?;
-        Ok(number as SortId)
+        Ok(put_sort(self.alloc, name, &mut self.sorts, &mut self.sort_numbers)?)
     }
 
     /// Adds a symbol, and answers its number. `Limit(Symbols)` exactly where 16,777,216 symbols are there. After
@@ -140,8 +151,20 @@ impl Signature {
         if number >= MAX_SYMBOLS {
             return Err(SigFault::Limit(LimitName::Symbols));
         }
-        self.symbols.push(symbol)?;
-        Ok(number as SymId)
+        match symbol.kind {
+            Kind::Function => Ok(put_symbol(
+                self.alloc,
+                symbol,
+                &mut self.symbols,
+                &mut self.functions,
+            )?),
+            Kind::Predicate => Ok(put_symbol(
+                self.alloc,
+                symbol,
+                &mut self.symbols,
+                &mut self.predicates,
+            )?),
+        }
     }
 
     /// The symbol of that number; None exactly where the number isn't there.
@@ -155,9 +178,9 @@ impl Signature {
     pub fn find(&self, name: &[u8], kind: Kind, arity: usize) -> Option<SymId>
         ensures { result ≡ found_symbol self.now name.now kind arity }
     {
-        match place_of_symbol(self.symbols.as_slice(), name, kind, arity) {
-            Some(at) => Some(at as SymId),
-            None => None,
+        match kind {
+            Kind::Function => self.functions.find(name, arity),
+            Kind::Predicate => self.predicates.find(name, arity),
         }
     }
 
@@ -172,10 +195,7 @@ impl Signature {
     pub fn find_sort(&self, name: &[u8]) -> Option<SortId>
         ensures { result ≡ found_sort self.now name.now }
     {
-        match place_of_sort(&self.sorts.as_slice()[1..], name) {
-            Some(at) => Some(at as SortId + 1),
-            None => None,
-        }
+        self.sort_numbers.find(name, 0)
     }
 
     /// How many sorts there are: at least sort 0, and at most 65,536.
@@ -196,33 +216,64 @@ impl Signature {
     }
 }
 
-fn place_of_symbol(symbols: &[Symbol], name: &[u8], kind: Kind, arity: usize) -> Option<usize>
-    ensures value { result ≡ position (is_symbol name.now kind arity) symbols.now }
-    ensures within { IfSome result (λ at. at < length symbols.now) }
+// Adds a sort behind the others, and answers its number. The directory tells the sorts before and after.
+fn put_sort(
+    alloc: Global,
+    name: Text,
+    sorts: &mut List<Text>,
+    directory: &mut Directory,
+) -> Result<SortId, Memory>
+    requires few { length sorts.old < 65536 }
+    requires some { 0 < length sorts.old }
+    requires finds { FindsSorts sorts.old directory.old }
+    ensures number { IfOk result (λ number. number ≡ length sorts.old) }
+    ensures added { OnOk result (sorts.new ≡ sorts.old ++ name ∷ []) }
+    ensures err { OnErr result (sorts.new ≡ sorts.old) }
+    ensures finds { FindsSorts sorts.new directory.new }
 {
-    symbols
-        .iter()
-        .position(|symbol| is_this(symbol, name, kind, arity))
-}
-
-fn place_of_sort(sorts: &[Text], name: &[u8]) -> Option<usize>
-    ensures value { result ≡ position (λ sort. pointwise nat_eq sort name.now) sorts.now }
-    ensures within { IfSome result (λ at. at < length sorts.now) }
-{
-    sorts.iter().position(|sort| sort.as_slice() == name)
-}
-
-// Whether the symbol has this name, this kind and so many arguments.
-fn is_this(symbol: &Symbol, name: &[u8], kind: Kind, arity: usize) -> bool
-    ensures { result ≡ is_symbol name.now kind arity symbol.now }
-{
-    if symbol.name.as_slice() != name || symbol.args.len() != arity {
-        return false;
+    let number = sorts.len() as u32;
+    if directory.find(name.as_slice(), 0).is_some() {
+        sorts.push(name)?;
+        return Ok(number);
     }
-    match (symbol.kind, kind) {
-        (Kind::Function, Kind::Function) => true,
-        (Kind::Function, Kind::Predicate) => false,
-        (Kind::Predicate, Kind::Function) => false,
-        (Kind::Predicate, Kind::Predicate) => true,
+    let key = Vec::from_slice(alloc, name.as_slice())?;
+    sorts.push(name)?;
+    match directory.enter(alloc, key, 0, number) {
+        Ok(()) => Ok(number),
+        Err(_) => {
+            sorts.pop();
+            Err(Memory)
+        }
+    }
+}
+
+// Adds a symbol behind the others, and answers its number. The directory tells the symbols of its kind before and after.
+fn put_symbol(
+    alloc: Global,
+    symbol: Symbol,
+    symbols: &mut List<Symbol>,
+    directory: &mut Directory,
+) -> Result<SymId, Memory>
+    requires few { length symbols.old < 16777216 }
+    requires finds { FindsSymbols symbol.kind symbols.old directory.old }
+    ensures number { IfOk result (λ number. number ≡ length symbols.old) }
+    ensures added { OnOk result (symbols.new ≡ symbols.old ++ symbol ∷ []) }
+    ensures err { OnErr result (symbols.new ≡ symbols.old) }
+    ensures finds { FindsSymbols symbol.kind symbols.new directory.new }
+{
+    let number = symbols.len() as u32;
+    let arity = symbol.args.len();
+    if directory.find(symbol.name.as_slice(), arity).is_some() {
+        symbols.push(symbol)?;
+        return Ok(number);
+    }
+    let key = Vec::from_slice(alloc, symbol.name.as_slice())?;
+    symbols.push(symbol)?;
+    match directory.enter(alloc, key, arity, number) {
+        Ok(()) => Ok(number),
+        Err(_) => {
+            symbols.pop();
+            Err(Memory)
+        }
     }
 }

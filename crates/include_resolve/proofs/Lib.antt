@@ -1,4 +1,5 @@
 pub mod Causing
+pub mod Counts
 pub mod Faults
 pub mod Finding
 pub mod Joins

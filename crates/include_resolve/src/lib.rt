@@ -16,3 +16,6 @@ mod spelling;
 pub use fault::{IncludeFault, TextFault};
 pub use problem::{MAX_DEPTH, Problem, TOTAL_SIZE};
 pub use resolving::resolve;
+
+#[cfg(test)]
+mod tests;

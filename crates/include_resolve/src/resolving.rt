@@ -249,6 +249,7 @@ pub fn resolve<S: Store>(
     ensures answers { spec.Answers (S.files store.old) (option_copied root.entry) name.now result }
     // Whatever the store tells:
     ensures read { IfOk result (λ problem. problem.read ≤ total_size) }
+    ensures few { IfOk result (λ problem. length problem.items ≤ problem.read) }
     // A missing file and a fault of the store have their cause in this call.
     ensures missing { (written : List ℕ) → IsErrOf result (IncludeFault.Missing written) → Rose (S.absents store.old) (S.absents store.new) }
     ensures store_fault { IsErrOf result IncludeFault.Store → Rose (S.faults store.old) (S.faults store.new) }

@@ -3,3 +3,4 @@ pub mod Concluded
 pub mod ConcludedOver
 pub mod ConcludedLists
 pub mod Added
+pub mod Marked

@@ -7,4 +7,5 @@ pub mod Hypotheses
 pub mod Proves
 pub mod Rules
 pub mod Statements
+pub mod Uses
 pub mod Weakening

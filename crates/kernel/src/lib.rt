@@ -5,6 +5,7 @@ mod closing;
 mod context;
 mod deduction;
 mod entry;
+mod marks;
 mod proof;
 mod quantifiers;
 mod rules;
@@ -16,3 +17,6 @@ pub use deduction::conclude;
 pub use entry::{AdmitFault, Decl, Entry};
 pub use proof::Proof;
 pub use theory::Theory;
+
+#[cfg(test)]
+mod tests;

@@ -15,22 +15,29 @@ use crate::closing::{choice_of, naming_of};
 use crate::context::Context;
 use crate::deduction::conclude;
 use crate::entry::{AdmitFault, Decl, Entry};
+use crate::marks::mark;
 use crate::proof::Proof;
-use fof_terms::{Form, Kind, Signature, SymId, Symbol, occurs, occurs_in_one, well_sorted};
+use fof_terms::{
+    Form, Kind, Signature, SymId, Symbol, occurs, symbols_of, symbols_of_all, well_sorted,
+};
+use indexmap::IndexSet;
 use std::alloc::Global;
 use std::marker::Model;
 use tptp_base::{List, Memory, Text};
 
-/// A signature, and the formulas that hold over it. Each formula is closed and well-sorted.
+/// A signature, and the formulas that hold over it. Each formula is closed and well-sorted. A set keeps the symbols
+/// that they use.
 #[derive(Drop)]
 pub struct Theory {
     alloc: Global,
     signature: Signature,
     formulas: List<Form>,
+    used: IndexSet<SymId>,
 }
 
 impl Model for Theory {
     ghost use Rattle.kernel.specs.Statements.{Statements, AreClosed};
+    ghost use Rattle.kernel.specs.Uses.{HasUsed};
     ghost use Rattle.std.specs.Coded.{codes};
     ghost use Rattle.fof_terms.specs.contracts.form.Form as form;
 
@@ -40,7 +47,7 @@ impl Model for Theory {
 
     ghost view = { λ t. record { vocabulary = t.signature; formulas = t.formulas } };
 
-    ghost invariant = { λ t. AreClosed (record { vocabulary = t.signature; formulas = t.formulas }) };
+    ghost invariant = { λ t. AreClosed (record { vocabulary = t.signature; formulas = t.formulas }) × HasUsed t.used t.formulas };
 }
 
 impl Theory {
@@ -49,10 +56,16 @@ impl Theory {
         requires { Each (Sorted signature []) given }
         ensures { IfOk result (λ theory. theory ≡ record { vocabulary = signature; formulas = given }) }
     {
+        let mut symbols = List::new(alloc);
+        symbols_of_all(given.as_slice(), &mut symbols)?;
+        let mut used = IndexSet::new(alloc);
+        used.reserve(symbols.len())?;
+        mark(&mut used, symbols.as_slice());
         Ok(Theory {
             alloc,
             signature,
             formulas: given,
+            used,
         })
     }
 
@@ -93,7 +106,7 @@ impl Theory {
     pub fn uses(&self, symbol: SymId) -> bool
         ensures { result ≡ list_any (occurs_in symbol) self.now.formulas }
     {
-        occurs_in_one(symbol, self.formulas.as_slice())
+        self.used.contains(&symbol)
     }
 
     /// The formula of that number, counted from 0; None exactly where the number isn't there.
@@ -162,7 +175,11 @@ impl Theory {
     {
         match form {
             Some(form) => {
+                let mut symbols = List::new(self.alloc);
+                symbols_of(&form, &mut symbols)?;
+                self.used.reserve(symbols.len())?;
                 self.formulas.push(form)?;
+                mark(&mut self.used, symbols.as_slice());
                 Ok(())
             }
             None => Err(AdmitFault::Illegal),

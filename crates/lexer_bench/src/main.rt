@@ -3,6 +3,11 @@
 //! The words are the file's name and how often it is cut. `bench/lex.sh` runs it.
 #![tactic(auto)]
 
+ghost use Rattle.std.specs.Prelude.{◌≡◌, Ok, length, IfSome};
+ghost use Rattle.tptp_lexer.specs.Answer.{Answers};
+ghost use Rattle.tptp_lexer.specs.declared.style.Style.TheVariants.{Problem};
+ghost use Rattle.tptp_lexer.specs.declared.token.Tokens.{Tokens};
+
 use std::alloc::Global;
 use std::env;
 use std::process::ExitCode;
@@ -35,7 +40,9 @@ fn measured<R: Env + Files + AllocGlobal>(rt: &R) -> Option<usize> {
 }
 
 // How many tokens the text has.
-fn counted(alloc: Global, text: &Text) -> Option<usize> {
+fn counted(alloc: Global, text: &Text) -> Option<usize>
+    ensures { IfSome result (λ count. (found : Tokens) × Answers 0 text.now (record { start = 0; end = length text.now }) Problem (Ok found) × (count ≡ length found.items)) }
+{
     let whole = Region {
         start: 0,
         end: text.len() as u64,

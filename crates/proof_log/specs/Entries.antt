@@ -1,5 +1,5 @@
 -- The text of entries, one line each, and of a whole log.
-use Rattle.std.specs.Prelude.{◌≡◌, ⊤, ℕ, ◌<◌, ◌==◌, ◌||◌, ◌&&◌, nat_le, Bool, List, [], ◌∷◌, ◌++◌, length, codes, if◌then◌else◌}
+use Rattle.std.specs.Prelude.{◌≡◌, ⊤, ℕ, ◌<◌, ◌==◌, ◌||◌, ◌&&◌, nat_le, ◌≤◌, Bool, List, [], ◌∷◌, ◌++◌, length, map, codes, if◌then◌else◌}
 use Rattle.std.specs.List.{flat_map, AllPass}
 use Rattle.fof_terms.specs.declared.signature.Kind.{Kind}
 use Rattle.fof_terms.specs.declared.signature.Kind.TheVariants.{Function, Predicate}
@@ -7,12 +7,17 @@ use Rattle.kernel.specs.declared.entry.Decl.{Decl}
 use Rattle.kernel.specs.declared.entry.Decl.TheVariants.{Sort, Symbol as SymbolOf}
 use Rattle.kernel.specs.declared.entry.Entry.{Entry}
 use Rattle.kernel.specs.declared.entry.Entry.TheVariants.{Declare, Lemma, Name, Choice}
-use Rattle.proof_log.specs.LogText.{word, number, numbers_text, form_text, proof_text}
+use Rattle.first_fault.specs.Nesting.{Nested}
+use Rattle.proof_log.specs.Words.{word, small, list_of, AreInRange, at_level, nested}
+use Rattle.proof_log.specs.LogText.{number, numbers_text, form_words, form_text, proof_words, proof_text}
 use Rattle.proof_log.specs.declared.write.TheConstants.{HEADER}
+
+abbrev pub is_special : ℕ → Bool
+is_special byte = byte == 39 || byte == 92
 
 -- a character of a quoted word: a quote and a backslash have a backslash before them
 abbrev pub escaped : ℕ → List ℕ
-escaped byte = if byte == 39 || byte == 92 then 92 ∷ byte ∷ [] else byte ∷ []
+escaped byte = if is_special byte then 92 ∷ byte ∷ [] else byte ∷ []
 
 -- a name as a single-quoted word
 abbrev pub quoted : List ℕ → List ℕ
@@ -62,3 +67,39 @@ IsWritable (Declare decl) = IsWritableDecl decl
 IsWritable (Lemma proof) = ⊤
 IsWritable (Name symbol body) = ⊤
 IsWritable (Choice symbol body) = ⊤
+
+-- ---- the numbers
+
+abbrev pub IsSmall : ℕ → Type 0
+IsSmall n = n ≤ 4294967295
+
+abbrev pub AreSmall : List ℕ → Type 0
+AreSmall numbers = AreInRange (list_of (map (λ n. small n ∷ []) numbers))
+
+abbrev pub AreNumbersInRange : Entry → Type 0
+AreNumbersInRange (Declare (Sort name)) = ⊤
+AreNumbersInRange (Declare (SymbolOf symbol)) = AreSmall symbol.args × IsSmall symbol.result
+AreNumbersInRange (Lemma proof) = AreInRange (proof_words proof)
+AreNumbersInRange (Name symbol body) = IsSmall symbol × AreInRange (form_words body)
+AreNumbersInRange (Choice symbol body) = IsSmall symbol × AreInRange (form_words body)
+
+-- The entry stands in logs: it can be read back, and its numbers fit their types.
+pub record IsLogged (entry : Entry) : Type 0 where
+  pub writable : IsWritable entry
+  pub in_range : AreNumbersInRange entry
+
+abbrev pub AreLogged : List Entry → Type 0
+AreLogged [] = ⊤
+AreLogged (entry ∷ entries) = IsLogged entry × AreLogged entries
+
+-- ---- the bytes with their nesting
+
+-- The names of trees are nested as deep as the trees; all other bytes are not nested.
+abbrev pub nested_entry : Entry → List (Nested ℕ)
+nested_entry (Declare decl) = at_level 0 (entry_text (Declare decl))
+nested_entry (Lemma proof) = at_level 0 (codes "L") ++ (nested 0 (proof_words proof) ++ at_level 0 (10 ∷ []))
+nested_entry (Name symbol body) = at_level 0 (codes "N") ++ (nested 0 (small symbol ∷ form_words body) ++ at_level 0 (10 ∷ []))
+nested_entry (Choice symbol body) = at_level 0 (codes "C") ++ (nested 0 (small symbol ∷ form_words body) ++ at_level 0 (10 ∷ []))
+
+unfoldable pub nested_log : List Entry → List (Nested ℕ)
+nested_log entries = at_level 0 HEADER.now ++ flat_map nested_entry entries

@@ -1,11 +1,26 @@
-//! The text of a log: how kernel entries are written, one line an entry.
+//! The text of a log: how kernel entries are written, one line an entry, and read back.
 #![tactic(auto)]
 
+mod checking;
+mod cursor;
+mod entry_reader;
+mod form_reader;
 mod forms;
+mod laws;
 mod line;
+mod name;
+mod proof_reader;
 mod proofs;
+mod quoted;
+mod reader;
+mod stop;
+mod term_reader;
+mod words;
 mod write;
 
+pub use checking::{CheckFault, check_entries};
+pub use laws::{a_log_begins_a_log, one_text_is_of_one_log};
+pub use reader::{LogFault, MAX_NESTING, read_log};
 pub use write::{HEADER, write_entry, write_header};
 
 #[cfg(test)]

@@ -12,17 +12,19 @@ use Rattle.plain_cnf.specs.declared.syntax.Clause.{Clause}
 use Rattle.plain_cnf.specs.declared.syntax.Step.{Step}
 use Rattle.plain_cnf.proofs.Counts.{few_literals, few_step_literals}
 use Rattle.tptp_tool.specs.Answer.{with_log, IsAnswerWithLog}
-use Rattle.tptp_tool.specs.Ending.{Ending, says, AfterFile, AfterText, EndsReported, EndsVerify, EndsTask, Ends, IsClosed}
+use Rattle.tptp_tool.specs.Ending.{Ending, says, AfterFile, AfterText, EndsReported, EndsVerify, IsClosed}
+use Rattle.tptp_tool.specs.Ends.{EndsTask, Ends}
 use Rattle.tptp_tool.specs.Outcome.{IsProblem, IsRefutation}
 use Rattle.tptp_tool.specs.Line.{lines_of}
 use Rattle.tptp_tool.specs.ProblemTheory.{theory_of, declarations}
 use Rattle.tptp_tool.specs.Report.{Verdict, Failed, NoFalse, NotJustified, Verified}
 use Rattle.tptp_tool.specs.Run.{Progress, begun, derivation_of}
-use Rattle.tptp_tool.specs.Words.{Task, Verify, IsForm}
+use Rattle.tptp_tool.specs.Words.{Task, Verify, Format, Parse, Check, AskFor}
 use Rattle.tptp_tool.specs.declared.run.TheConstants.{TOTAL_SIZE}
 use Rattle.tptp_tool.specs.declared.stop.Answer.{Answer}
 use Rattle.tptp_tool.proofs.Admitted.{answers_admit, refutes_with}
 use Rattle.tptp_tool.proofs.Beginning.{run_declares, step_words}
+use Rattle.tptp_tool.proofs.Requests.{one_task}
 use Rattle.tptp_tool.proofs.Stages.{Steps, Clauses, if_map}
 
 -- an ending of status 0 is no refusal
@@ -74,23 +76,37 @@ verify_refutes files problem derivation ending old new zero taken ends =
     closed_refutes files problem spelled.0 (record { text = first.0; file = first.1; spelled = spelled.1 }) r.end r.entries ending r.verdict old new zero
     (run_admits problem spelled.0 spells.0 ending first.0 second.0 spelled.1 spells.1 r) taken r.closed
 
--- the problem of a task is the second of its words
-problem_is : (words : List (List ℕ)) (problem derivation : List ℕ) (log : Option (List ℕ)) → IsForm words (Verify problem derivation log) → problem ≡ get_or words 1 []
-problem_is words problem derivation None form = ap (λ (ws : List (List ℕ)). get_or ws 1 []) form.words_are
-problem_is words problem derivation (Some log) form = ap (λ (ws : List (List ℕ)). get_or ws 1 []) form.words_are
+abbrev problem_of : Task → List ℕ
+problem_of (Verify problem derivation log) = problem
+problem_of (Format file) = file
+problem_of (Parse file) = file
+problem_of (Check problem log) = problem
 
-task_refutes : (files : Files) (words : List (List ℕ)) (task : Task) (problem derivation : List ℕ) (named : Option (List ℕ)) (ending : Ending) (old new : Option (List ℕ)) → ending.status ≡ 0 → Takes old new ending.log → IsForm words task → EndsTask files task ending
-    → IsForm words (Verify problem derivation named) → IsRefutation files problem old new
-task_refutes files words (Verify own other log) problem derivation named ending old new zero taken form ends asked =
-    subst (λ (name : List ℕ). IsRefutation files name old new) (problem_is words own other log form ∙ sym (problem_is words problem derivation named asked)) (verify_refutes files own other ending old new zero taken ends)
+format_no_verify : (file problem derivation : List ℕ) (log : Option (List ℕ)) → Format file ≡ Verify problem derivation log → ⊥
+format_no_verify file problem derivation log e = cc
 
-ends_refutes : (files : Files) (words : List (List ℕ)) (problem derivation : List ℕ) (named : Option (List ℕ)) (ending : Ending) (old new : Option (List ℕ)) → ending.status ≡ 0 → Takes old new ending.log → Ends files words ending → IsForm words (Verify problem derivation named) → IsRefutation files problem old new
-ends_refutes files words problem derivation named ending old new zero taken (inl none) asked = absurd (none.0 (Verify problem derivation named) asked)
-ends_refutes files words problem derivation named ending old new zero taken (inr (task, form, ends)) asked = task_refutes files words task problem derivation named ending old new zero taken form ends asked
+parse_no_verify : (file problem derivation : List ℕ) (log : Option (List ℕ)) → Parse file ≡ Verify problem derivation log → ⊥
+parse_no_verify file problem derivation log e = cc
+
+check_no_verify : (own other problem derivation : List ℕ) (log : Option (List ℕ)) → Check own other ≡ Verify problem derivation log → ⊥
+check_no_verify own other problem derivation log e = cc
+
+task_refutes : (files : Files) (root : Option (List ℕ)) (task : Task) (problem derivation : List ℕ) (named : Option (List ℕ)) (ending : Ending) (old new : Option (List ℕ)) → ending.status ≡ 0 → Takes old new ending.log → EndsTask files root task ending
+    → task ≡ Verify problem derivation named → IsRefutation files problem old new
+task_refutes files root (Verify own other log) problem derivation named ending old new zero taken ends is =
+    subst (λ (name : List ℕ). IsRefutation files name old new) (ap problem_of is) (verify_refutes files own other ending old new zero taken ends)
+task_refutes files root (Format file) problem derivation named ending old new zero taken ends is = absurd (format_no_verify file problem derivation named is)
+task_refutes files root (Parse file) problem derivation named ending old new zero taken ends is = absurd (parse_no_verify file problem derivation named is)
+task_refutes files root (Check own other) problem derivation named ending old new zero taken ends is = absurd (check_no_verify own other problem derivation named is)
+
+ends_refutes : (files : Files) (words : List (List ℕ)) (problem derivation : List ℕ) (named : Option (List ℕ)) (ending : Ending) (old new : Option (List ℕ)) → ending.status ≡ 0 → Takes old new ending.log → Ends files words ending → AskFor words (Verify problem derivation named) → IsRefutation files problem old new
+ends_refutes files words problem derivation named ending old new zero taken (inl none) asked = absurd (none.0 asked.0 asked.1)
+ends_refutes files words problem derivation named ending old new zero taken (inr (request, form, ends)) asked =
+    task_refutes files request.root request.task problem derivation named ending old new zero taken ends (one_task words request asked.0 form asked.1 ∙ asked.2)
 
 -- the headline
 pub success_refutes : (told : Option Files) (words : List (List ℕ)) (answer : Answer) (old new : Option (List ℕ)) → IfSome told (λ files. IsAnswerWithLog (Ends files words) answer old new) → answer.status ≡ 0
-    → IfSome told (λ files. (problem derivation : List ℕ) (named : Option (List ℕ)) → IsForm words (Verify problem derivation named) → IsRefutation files problem old new)
+    → IfSome told (λ files. (problem derivation : List ℕ) (named : Option (List ℕ)) → AskFor words (Verify problem derivation named) → IsRefutation files problem old new)
 success_refutes told words answer old new ends zero =
-    if_map told (λ files. IsAnswerWithLog (Ends files words) answer old new) (λ files. (problem derivation : List ℕ) (named : Option (List ℕ)) → IsForm words (Verify problem derivation named) → IsRefutation files problem old new) ends
+    if_map told (λ files. IsAnswerWithLog (Ends files words) answer old new) (λ files. (problem derivation : List ℕ) (named : Option (List ℕ)) → AskFor words (Verify problem derivation named) → IsRefutation files problem old new) ends
     (λ files is problem derivation named asked. ends_refutes files words problem derivation named (with_log answer is.0) old new zero is.1 is.2 asked)

@@ -14,9 +14,9 @@ use Rattle.kernel.specs.declared.proof.Proof.{Proof}
 use Rattle.kernel.specs.declared.entry.Entry.{Entry}
 use Rattle.kernel.specs.declared.entry.Entry.TheVariants.{Lemma}
 use Rattle.proof_log.specs.Entries.{entry_text}
-use Rattle.elaborate.specs.StepAnswer.{IsDerivation, IsStepAnswer, AreLemmas}
-use Rattle.elaborate.specs.declared.answer.Rule.{Rule}
-use Rattle.elaborate.specs.declared.answer.StepAnswer.TheVariants as step
+use Rattle.plain_steps.specs.StepAnswer.{IsDerivation, IsStepAnswer, AreLemmas}
+use Rattle.plain_steps.specs.declared.answer.Rule.{Rule}
+use Rattle.plain_steps.specs.declared.answer.StepAnswer.TheVariants as step
 use Rattle.tptp_tool.specs.declared.report.LineAnswer.TheVariants.{Accepted}
 use Rattle.tptp_tool.proofs.OneConclusion.{one_admitted}
 use Rattle.plain_cnf.specs.declared.syntax.Step.{Step}

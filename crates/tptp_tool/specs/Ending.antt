@@ -16,9 +16,8 @@ use Rattle.plain_cnf.specs.declared.syntax.Step.{Step}
 use Rattle.tptp_tool.specs.Claim.{no_claim}
 use Rattle.tptp_tool.specs.Report.{Verdict, Failed, NoFalse, NotJustified, Verified, IsVerdict, line, report_text}
 use Rattle.tptp_tool.specs.Run.{Progress, IsRun, derivation_of}
-use Rattle.tptp_tool.specs.Words.{Task, Verify, IsForm, HaveNoForm}
 use Rattle.tptp_tool.specs.declared.report.LineAnswer.{LineAnswer}
-use Rattle.tptp_tool.specs.declared.run.TheConstants.{TOTAL_SIZE, USAGE}
+use Rattle.tptp_tool.specs.declared.run.TheConstants.{TOTAL_SIZE}
 
 pub record Ending : Type 0 where
   pub status : ℕ
@@ -91,11 +90,3 @@ EndsVerify files problem derivation =
     AfterFile files derivation (TOTAL_SIZE - length problem_text) (λ derivation_text.
     AfterText (λ steps. SpellsDerivation clauses steps derivation_text) derivation (λ steps.
     EndsReported problem clauses steps))))
-
--- how each task ends
-abbrev pub EndsTask : Files → Task → Ending → Type 0
-EndsTask files (Verify problem derivation log) ending = EndsVerify files problem derivation ending
-
--- how a run on these words ends
-abbrev pub Ends : Files → List (List ℕ) → Ending → Type 0
-Ends files words ending = (HaveNoForm words × (ending ≡ says 2 USAGE.now)) ⊎ ((task : Task) × IsForm words task × EndsTask files task ending)

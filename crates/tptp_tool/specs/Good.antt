@@ -3,8 +3,8 @@
 use Rattle.std.specs.Prelude.{◌≡◌, ℕ, List, slice_get, filter_map, Some}
 use Rattle.std.specs.declared.option.Option.{Option}
 use Rattle.fof_terms.specs.declared.form.Form.{Form}
-use Rattle.elaborate.specs.ByRule.{ByRule}
-use Rattle.elaborate.specs.declared.answer.Rule.{Rule}
+use Rattle.plain_steps.specs.ByRule.{ByRule}
+use Rattle.plain_steps.specs.declared.answer.Rule.{Rule}
 use Rattle.plain_cnf.specs.declared.syntax.Clause.{Clause}
 use Rattle.plain_cnf.specs.declared.syntax.Step.{Step}
 use Rattle.plain_cnf.specs.declared.syntax.Parent.{Parent}

@@ -1,5 +1,5 @@
 -- What a whole run answers and writes: its end, or how far it came where the outside fails or memory is wanting.
-use Rattle.std.specs.Prelude.{◌≡◌, ◌⊎◌, ℕ, ◌≤◌, List, Some}
+use Rattle.std.specs.Prelude.{⊤, ◌≡◌, ◌⊎◌, ℕ, ◌≤◌, List, None, Some}
 use Rattle.std.specs.declared.option.Option.{Option}
 use Rattle.tptp_base.specs.Sink.{Takes, TakesPrefix}
 use Rattle.tptp_base.specs.Store.{Files, file_at}
@@ -10,9 +10,10 @@ use Rattle.proof_log.specs.Entries.{log_text, entry_text}
 use Rattle.std.specs.List.{flat_map}
 use Rattle.plain_cnf.specs.Spelling.{SpellsProblem}
 use Rattle.plain_cnf.specs.declared.syntax.Clause.{Clause}
-use Rattle.tptp_tool.specs.Ending.{Ending, Ends}
+use Rattle.tptp_tool.specs.Ending.{Ending}
+use Rattle.tptp_tool.specs.Ends.{Ends}
 use Rattle.tptp_tool.specs.ProblemTheory.{theory_of}
-use Rattle.tptp_tool.specs.Words.{Task, Verify, IsForm}
+use Rattle.tptp_tool.specs.Words.{Task, Verify, Format, Parse, Check, Request, IsForm}
 
 -- a status that is an answer, and no fault of the outside or want of memory
 abbrev pub IsAnswer : ℕ → Type 0
@@ -58,10 +59,24 @@ TakesSomeOfProblemLog files problem old new = (new ≡ old) ⊎ ((clauses : List
 -- nothing was taken, or so much of a log from the problem of the task
 abbrev pub TakesSomeOfTaskLog : Files → Task → Option (List ℕ) → Option (List ℕ) → Type 0
 TakesSomeOfTaskLog files (Verify problem derivation log) old new = TakesSomeOfProblemLog files problem old new
+TakesSomeOfTaskLog files (Format file) old new = new ≡ old
+TakesSomeOfTaskLog files (Parse file) old new = new ≡ old
+TakesSomeOfTaskLog files (Check problem log) old new = new ≡ old
+
+-- status 3 says of the task that a file is missing: always where a derivation is verified, and where the file to be
+-- formatted or parsed, or the problem of a log, is not among the files that the store tells
+abbrev pub SaysMissing : Option Files → Task → Type 0
+SaysMissing told (Verify problem derivation log) = ⊤
+SaysMissing None (Format file) = ⊥
+SaysMissing (Some files) (Format file) = file_at files file ≡ None
+SaysMissing None (Parse file) = ⊥
+SaysMissing (Some files) (Parse file) = file_at files file ≡ None
+SaysMissing None (Check problem log) = ⊥
+SaysMissing (Some files) (Check problem log) = file_at files problem ≡ None
 
 -- nothing was taken, or so much of a log from the problem of the task that the words ask for
 abbrev pub TakesSomeOfRunLog : Files → List (List ℕ) → Option (List ℕ) → Option (List ℕ) → Type 0
-TakesSomeOfRunLog files words old new = (new ≡ old) ⊎ ((task : Task) × IsForm words task × TakesSomeOfTaskLog files task old new)
+TakesSomeOfRunLog files words old new = (new ≡ old) ⊎ ((request : Request) × IsForm words request × TakesSomeOfTaskLog files request.task old new)
 
 -- What the sinks took, by the status.
 pub record IsOutcome (files : Files) (words : List (List ℕ)) (status : ℕ) (out_old out_new log_old log_new : Option (List ℕ)) : Type 0 where

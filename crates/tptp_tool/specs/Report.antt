@@ -2,10 +2,10 @@
 use Rattle.std.specs.Prelude.{◌≡◌, ℕ, ◌+◌, ◌<◌, Bool, true, false, List, [], ◌∷◌, ◌++◌, length, codes, decimal, count_by, slice_get, Some}
 use Rattle.fof_terms.specs.declared.form.Form.{Form, Or}
 use Rattle.tptp_tool.specs.Claim.{Claim, IsJustified, status_word}
-use Rattle.elaborate.specs.declared.answer.Rule.{Rule}
-use Rattle.elaborate.specs.declared.answer.Rule.TheVariants.{Resolution}
-use Rattle.elaborate.specs.declared.answer.Reason.{Reason}
-use Rattle.elaborate.specs.declared.answer.Reason.TheVariants.{NotYet}
+use Rattle.plain_steps.specs.declared.answer.Rule.{Rule}
+use Rattle.plain_steps.specs.declared.answer.Rule.TheVariants.{Resolution}
+use Rattle.plain_steps.specs.declared.answer.Reason.{Reason}
+use Rattle.plain_steps.specs.declared.answer.Reason.TheVariants.{NotYet}
 use Rattle.tptp_tool.specs.declared.report.LineAnswer.{LineAnswer}
 use Rattle.tptp_tool.specs.declared.report.LineAnswer.TheVariants.{Accepted, Unverified, Skipped}
 

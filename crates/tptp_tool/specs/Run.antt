@@ -6,8 +6,8 @@ use Rattle.fof_terms.specs.declared.form.Form.{Form}
 use Rattle.kernel.specs.Statements.{Statements}
 use Rattle.kernel.specs.Entries.{Admits}
 use Rattle.kernel.specs.declared.entry.Entry.{Entry}
-use Rattle.elaborate.specs.StepAnswer.{IsStepAnswer}
-use Rattle.elaborate.specs.declared.answer.StepAnswer.TheVariants as step
+use Rattle.plain_steps.specs.StepAnswer.{IsStepAnswer}
+use Rattle.plain_steps.specs.declared.answer.StepAnswer.TheVariants as step
 use Rattle.plain_cnf.specs.Denotation.{denoted_clauses}
 use Rattle.plain_cnf.specs.declared.syntax.Clause.{Clause}
 use Rattle.plain_cnf.specs.declared.syntax.Step.{Step}

@@ -14,7 +14,7 @@ ghost use Rattle.tptp_tool.specs.Stop.{HasCause};
 
 use crate::report::LineAnswer;
 use crate::stop::Stop;
-use elaborate::{StepAnswer, step as answer_step};
+use plain_steps::{StepAnswer, step as answer_step};
 use fof_terms::Form;
 use kernel::{AdmitFault, Entry, Theory};
 use plain_cnf::{Parent, Step};

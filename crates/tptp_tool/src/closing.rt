@@ -9,13 +9,13 @@ ghost use Rattle.tptp_tool.specs.Report.{is_unverified, is_skipped, lines_text, 
 ghost use Rattle.tptp_tool.specs.Stop.{HasCause};
 
 use crate::report::{LineAnswer, put_line};
-use crate::stop::{Answer, Stop};
+use crate::stop::{Answer, Stop, ended};
 use fof_terms::Form;
 use kernel::{Entry, Proof, Theory};
 use plain_cnf::Step;
 use proof_log::write_entry;
 use std::alloc::{AllocError, Global};
-use tptp_base::{Sink, Text};
+use tptp_base::Sink;
 
 /// The report on the lines. Where all of them are accepted and one is falsehood, the log takes a last entry, a lemma
 /// that shows falsehood.
@@ -57,17 +57,6 @@ pub fn close_report<L: Sink>(
     report.extend_from_slice(verified_text(alloc, problem, answers.len())?.as_bytes())?;
     write_entry(alloc, &Entry::Lemma(Proof::Line(number)), log)?;
     Ok(ended(0, report))
-}
-
-// An answer with the report.
-fn ended(status: u8, report: Vec<u8>) -> Answer
-    ensures status { result.status ≡ status }
-    ensures text { result.text ≡ report.items }
-{
-    Answer {
-        status,
-        text: Text::from_vec(report),
-    }
 }
 
 // What is printed of the lines.

@@ -1,14 +1,22 @@
 //! The program `tptp`.
 #![tactic(auto)]
 
+mod check;
 mod checking;
 mod closing;
 mod declarations;
 mod denotation;
+mod denoted;
 mod derivation;
+mod format;
+mod given;
+mod parse;
 mod refusals;
 mod report;
+mod resolved;
 mod run;
+mod saying;
+mod spelled;
 mod stop;
 #[cfg(test)]
 mod tests;
@@ -59,7 +67,8 @@ fn words_of<R: Env + AllocGlobal>(rt: &R) -> io::Result<Vec<String>> {
 
 // The name of the log, if there is one.
 fn log_name(words: &[String]) -> Option<&str> {
-    match read_words(words)? {
+    match read_words(words)?.job {
         Job::Verify(_, _, log) => log,
+        Job::Format(_) | Job::Parse(_) | Job::Check(_, _) => None,
     }
 }

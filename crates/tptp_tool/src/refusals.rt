@@ -8,10 +8,11 @@ ghost use Rattle.tptp_tool.specs.Ending;
 ghost use Rattle.tptp_tool.specs.Ending.{IsReadRefusal};
 ghost use Rattle.tptp_tool.specs.Stop.{HasCause, IfRefused, IfStopped};
 
+use crate::saying::{no_such_file, over_limit};
 use crate::stop::{Answer, Halt, Stop};
 use plain_cnf::{Clause, PlainFault, Step, parse_derivation, parse_problem};
 use std::alloc::{AllocError, Global};
-use tptp_base::{FILE_SIZE, LimitName, List, ReadFault, Store, Text, read_whole};
+use tptp_base::{FILE_SIZE, List, ReadFault, Store, Text, read_whole};
 
 /// The bytes of a file. A file that is missing or over a limit is refused.
 pub fn read_text<S: Store>(
@@ -33,8 +34,12 @@ pub fn read_text<S: Store>(
 {
     match read_whole(alloc, store, name, budget) {
         Ok(text) => Ok(text),
-        Err(ReadFault::Absent) => Err(Halt::Refused(no_such_file(alloc, name)?)),
-        Err(ReadFault::Limit(limit)) => Err(Halt::Refused(over_limit(alloc, name, limit)?)),
+        Err(ReadFault::Absent) => Err(Halt::Refused(no_such_file(alloc, name.as_bytes())?)),
+        Err(ReadFault::Limit(limit)) => Err(Halt::Refused(over_limit(
+            alloc,
+            name.as_bytes(),
+            limit,
+        )?)),
         Err(ReadFault::Failed) => Err(Halt::Stopped(Stop::Store)),
         Err(ReadFault::Memory) => Err(Halt::Stopped(Stop::Memory)),
     }
@@ -69,39 +74,6 @@ pub fn read_derivation(
         Err(PlainFault::NotYet) => Err(Halt::Refused(not_built(alloc, name)?)),
         Err(PlainFault::Memory) => Err(Halt::Stopped(Stop::Memory)),
     }
-}
-
-// The name of a limit, as it is printed.
-fn limit_text(limit: LimitName) -> &'static str
-    ensures { result.now ≡ Ending.limit_text limit }
-{
-    match limit {
-        LimitName::FileSize => "file size",
-        LimitName::TotalSize => "total size",
-        LimitName::IncludeDepth => "include depth",
-        LimitName::Nesting => "nesting",
-        LimitName::Variables => "variables",
-        LimitName::Lines => "lines",
-        LimitName::Symbols => "symbols",
-        LimitName::Sorts => "sorts",
-    }
-}
-
-// A file that is missing.
-fn no_such_file(alloc: Global, name: &str) -> Result<Answer, AllocError>
-    ensures { IfOk result (λ answer. ending_of answer ≡ Ending.no_such_file name.now) }
-{
-    let text = format!(in alloc; "{name}: no such file\n")?;
-    Ok(Answer::new(3, text))
-}
-
-// A file that is over a limit.
-fn over_limit(alloc: Global, name: &str, limit: LimitName) -> Result<Answer, AllocError>
-    ensures { IfOk result (λ answer. ending_of answer ≡ Ending.over_limit name.now limit) }
-{
-    let reason = limit_text(limit);
-    let text = format!(in alloc; "{name}: limit {reason}\n")?;
-    Ok(Answer::new(7, text))
 }
 
 // A text that is not read yet.

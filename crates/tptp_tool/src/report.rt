@@ -3,7 +3,7 @@ ghost use Rattle.std.specs.Prelude.{◌≡◌, ◌++◌, OnOk, IfOk};
 ghost use Rattle.tptp_tool.specs.Report;
 ghost use Rattle.tptp_tool.specs.Report.{rule_name, reason_name, line_text};
 
-use elaborate::{Reason, Rule};
+use plain_steps::{Reason, Rule};
 use std::alloc::AllocError;
 
 /// What is answered of a line.

@@ -4,11 +4,14 @@ ghost use Rattle.std.specs.declared.option.Option.{Option};
 ghost use Rattle.tptp_base.specs.Count.{Rose};
 ghost use Rattle.tptp_tool.specs.Answer.{ending_of, IsAnswerWithLog};
 ghost use Rattle.tptp_tool.specs.Ending;
-ghost use Rattle.tptp_tool.specs.Ending.{Ends};
-ghost use Rattle.tptp_tool.specs.Outcome.{IsAnswer, IsOutcome, IsRefutation, TakesSomeOfRunLog};
+ghost use Rattle.tptp_tool.specs.Ends.{Ends};
+ghost use Rattle.tptp_tool.specs.Outcome.{IsAnswer, IsOutcome, IsRefutation, SaysMissing, TakesSomeOfRunLog};
 ghost use Rattle.tptp_tool.specs.Stop.{HasCause, IfAnswer, IfStopped};
-ghost use Rattle.tptp_tool.specs.Words.{texts, Verify, IsForm};
+ghost use Rattle.tptp_tool.specs.Words.{Task, texts, Verify, AskFor};
 
+use crate::check::check;
+use crate::format::format;
+use crate::parse::parse;
 use crate::stop::{Answer, Halt, Stop};
 use crate::verify::verify;
 use crate::words::{Job, read_words};
@@ -23,8 +26,8 @@ pub const USAGE: &str =
     "usage: tptp [--root D] [--limit N] COMMAND\n  parse FILE\n  format FILE\n  verify PROBLEM DERIVATION [LOG]\n  check PROBLEM LOG\n  make N\n";
 
 /// Runs the command that the words ask for, and answers its status: 0 where it succeeded, 1 where the derivation is
-/// not verified, 2 where the words ask for nothing, 3 where a file is missing, 4 where the store failed, 5 where a sink
-/// failed, 6 where memory is wanting, 7 where a limit is passed, 8 where a text is not read yet. All that it reads
+/// not verified, 2 where the words ask for nothing, 3 where a file is missing or its text is not spelled, 4 where the
+/// store failed, 5 where a sink failed, 6 where memory is wanting, 7 where a limit is passed, 8 where a text is not read yet. All that it reads
 /// comes from the store, and all that it writes goes to the two sinks.
 pub fn run_tptp<S: Store, O: Sink, L: Sink>(
     alloc: Global,
@@ -39,11 +42,11 @@ pub fn run_tptp<S: Store, O: Sink, L: Sink>(
 
     // The log of a success is a list of legal entries that leads from the problem to falsehood.
     ensures sound { result ≡ 0 → IfSome (S.files store.old) (λ files. (problem derivation : List ℕ) (named : Option (List ℕ))
-        → IsForm (texts words.now) (Verify problem derivation named) → IsRefutation files problem (L.taken log.old) (L.taken log.new)) }
+        → AskFor (texts words.now) (Verify problem derivation named) → IsRefutation files problem (L.taken log.old) (L.taken log.new)) }
 
     // Over any store: an answer, or a fault of the outside in this call, or want of memory.
     ensures status { IsAnswer result ⊎ ((4 ≤ result) × (result ≤ 6)) }
-    ensures missing { result ≡ 3 → Rose (S.absents store.old) (S.absents store.new) }
+    ensures missing { result ≡ 3 → (task : Task) → AskFor (texts words.now) task → SaysMissing (S.files store.old) task → Rose (S.absents store.old) (S.absents store.new) }
     ensures store_fault { result ≡ 4 → Rose (S.faults store.old) (S.faults store.new) }
     ensures sink_fault { result ≡ 5 → Rose (O.faults out.old) (O.faults out.new) ⊎ Rose (L.faults log.old) (L.faults log.new) }
 {
@@ -69,7 +72,7 @@ fn answer_words<S: Store, L: Sink>(
     ensures ends { IfOk result (λ answer. IfSome (S.files store.old) (λ files.
         IsAnswerWithLog (Ends files (texts words.now)) answer (L.taken log.old) (L.taken log.new))) }
     ensures status { IfOk result (λ answer. IsAnswer answer.status) }
-    ensures missing { IfOk result (λ answer. answer.status ≡ 3 → Rose (S.absents store.old) (S.absents store.new)) }
+    ensures missing { IfOk result (λ answer. answer.status ≡ 3 → (task : Task) → AskFor (texts words.now) task → SaysMissing (S.files store.old) task → Rose (S.absents store.old) (S.absents store.new)) }
     ensures cause { IfErr result (λ stop. HasCause stop
         ((L.taken log.new ≡ L.taken log.old) × Rose (S.faults store.old) (S.faults store.new))
         (Rose (L.faults log.old) (L.faults log.new))) }
@@ -92,15 +95,20 @@ fn run_words<S: Store, L: Sink>(
     ensures ends { IfAnswer result (λ answer. IfSome (S.files store.old) (λ files.
         IsAnswerWithLog (Ends files (texts words.now)) answer (L.taken log.old) (L.taken log.new))) }
     ensures status { IfAnswer result (λ answer. IsAnswer answer.status) }
-    ensures missing { IfAnswer result (λ answer. answer.status ≡ 3 → Rose (S.absents store.old) (S.absents store.new)) }
+    ensures missing { IfAnswer result (λ answer. answer.status ≡ 3 → (task : Task) → AskFor (texts words.now) task → SaysMissing (S.files store.old) task → Rose (S.absents store.old) (S.absents store.new)) }
     ensures cause { IfStopped result (λ stop. HasCause stop
         ((L.taken log.new ≡ L.taken log.old) × Rose (S.faults store.old) (S.faults store.new))
         (Rose (L.faults log.old) (L.faults log.new))) }
     ensures log { IfSome (S.files store.old) (λ files. TakesSomeOfRunLog files (texts words.now) (L.taken log.old) (L.taken log.new)) }
 {
-    match read_words(words) {
-        Some(Job::Verify(problem, derivation, _)) => verify(alloc, store, log, problem, derivation),
-        None => usage(alloc),
+    let Some(command) = read_words(words) else {
+        return usage(alloc);
+    };
+    match command.job {
+        Job::Verify(problem, derivation, _) => verify(alloc, store, log, problem, derivation),
+        Job::Format(file) => format(alloc, store, file),
+        Job::Parse(file) => parse(alloc, store, command.root, file),
+        Job::Check(problem, log) => check(alloc, store, command.root, problem, log),
     }
 }
 

@@ -27,6 +27,17 @@ impl Answer {
     }
 }
 
+/// An answer with a printed text, as bytes.
+pub fn ended(status: u8, text: Vec<u8>) -> Answer
+    ensures status { result.status ≡ status }
+    ensures text { result.text ≡ text.items }
+{
+    Answer {
+        status,
+        text: Text::from_vec(text),
+    }
+}
+
 /// A fault of the outside, or want of memory.
 #[derive(Clone, Copy, Debug, PartialEq, Eq)]
 pub enum Stop {
@@ -73,6 +84,14 @@ impl From<AllocError> for Halt {
     ghost from_gives = { λ _ halt. halt ≡ Stopped StopMemory };
 
     fn from(_: AllocError) -> Self {
+        Halt::Stopped(Stop::Memory)
+    }
+}
+
+impl From<Memory> for Halt {
+    ghost from_gives = { λ _ halt. halt ≡ Stopped StopMemory };
+
+    fn from(_: Memory) -> Self {
         Halt::Stopped(Stop::Memory)
     }
 }

@@ -1,3 +1,6 @@
+mod checking;
+mod parsing;
+
 use super::run::{USAGE, run_tptp};
 use std::alloc::{AllocError, Global};
 use std::test::Fail;
@@ -11,6 +14,16 @@ const REPORT: &str = "c ok resolution\n% SZS status Unsatisfiable for pq.p\nveri
 // The lemma: the negation and the atom, formulas 1 and 0 of the theory, contradict each other, and falsehood is a
 // disjunction without cases. Then the last entry.
 const LOG: &str = "tptp-log 1\nL ore | 0 note line 1 line 0 0\nL line 2\n";
+
+// A first line of an atom that the problem lacks. It is declared before the lemma, whose goal is that atom.
+const WIDER: &str =
+    "cnf(c,plain,q,inference(res,[status(thm)],[a,b])).\ncnf(d,plain,$false,inference(res,[status(thm)],[a,b])).\n";
+
+const WIDER_REPORT: &str =
+    "c ok resolution\nd ok resolution\n% SZS status Unsatisfiable for pq.p\nverified: 2 lines\n";
+
+const WIDER_LOG: &str =
+    "tptp-log 1\nD p 'q' 0\nL ore a 1 0 note line 1 line 0 0\nL ore | 0 note line 1 line 0 0\nL line 3\n";
 
 fn text(alloc: Global, text: &str) -> Result<Text, AllocError> {
     Text::from_slice(alloc, text.as_bytes())
@@ -34,17 +47,31 @@ fn words_of(alloc: Global, line: &str) -> Result<Vec<String>, AllocError> {
 #[test]
 fn words_and_files(rt: HostRuntime) -> Result<(), Fail> {
     let alloc = rt.alloc();
-    for (line, status, printed, logged) in [
-        ("verify pq.p pq.s", 0, REPORT, LOG),
-        ("verify pq.p pq.s pq.log", 0, REPORT, LOG),
-        ("verify no.p pq.s", 3, "no.p: no such file\n", ""),
-        ("verify pq.p no.s", 3, "no.s: no such file\n", ""),
-        ("verify pq.p", 2, USAGE, ""),
-        ("--limit 01 parse pq.p", 2, USAGE, ""),
-        ("", 2, USAGE, ""),
+    for (line, derivation, status, printed, logged) in [
+        ("verify pq.p pq.s", PROOF, 0, REPORT, LOG),
+        ("verify pq.p pq.s pq.log", PROOF, 0, REPORT, LOG),
+        ("verify pq.p pq.s", WIDER, 0, WIDER_REPORT, WIDER_LOG),
+        ("--root t --limit 5 verify pq.p pq.s", PROOF, 0, REPORT, LOG),
+        ("verify no.p pq.s", PROOF, 3, "no.p: no such file\n", ""),
+        ("verify pq.p no.s", PROOF, 3, "no.s: no such file\n", ""),
+        (
+            "--limit 100000 format no.p",
+            PROOF,
+            3,
+            "no.p: no such file\n",
+            "",
+        ),
+        ("verify pq.p", PROOF, 2, USAGE, ""),
+        ("format", PROOF, 2, USAGE, ""),
+        ("format pq.p pq.s", PROOF, 2, USAGE, ""),
+        ("--limit 01 format pq.p", PROOF, 2, USAGE, ""),
+        ("--limit 100001 format pq.p", PROOF, 2, USAGE, ""),
+        ("--limit 5 --root t format pq.p", PROOF, 2, USAGE, ""),
+        ("--root", PROOF, 2, USAGE, ""),
+        ("", PROOF, 2, USAGE, ""),
     ] {
         let words = words_of(alloc, line)?;
-        let mut store = SteadyStore::new(alloc, files(alloc, PROBLEM, PROOF)?)?;
+        let mut store = SteadyStore::new(alloc, files(alloc, PROBLEM, derivation)?)?;
         let mut out = SteadySink::new(alloc);
         let mut log = SteadySink::new(alloc);
         let answer = run_tptp(alloc, &words, &mut store, &mut out, &mut log);
@@ -126,5 +153,78 @@ fn faults_of_the_outside(rt: HostRuntime) -> Result<(), Fail> {
         let printed = if status == 0 { REPORT } else { "" };
         assert_eq!(rt; out.bytes(), printed.as_bytes());
     }
+    Ok(())
+}
+
+#[test]
+fn formats(rt: HostRuntime) -> Result<(), Fail> {
+    let alloc = rt.alloc();
+    for (problem, status, printed) in [
+        ("", 0, ""),
+        (
+            "fof(a,axiom,! [X] : p(X) & q(X)).",
+            0,
+            "fof(a,axiom,\n    ! [X] : p(X) & q(X)).\n",
+        ),
+        (
+            "fof('a',axiom,'cat' = dog).",
+            0,
+            "fof(a,axiom,\n    cat = dog).\n",
+        ),
+        (
+            "fof(a,axiom,(p | q) | r).",
+            0,
+            "fof(a,axiom,\n    (p | q) | r).\n",
+        ),
+        (
+            "fof('a',axiom,'cat' = dog)",
+            3,
+            "pq.p:1:27: unexpected end\n",
+        ),
+        (
+            "fof('a',axiom,'ca",
+            3,
+            "pq.p:1:15: unfinished quote or comment\n",
+        ),
+        ("fo", 3, "pq.p:1:1: unexpected token\n"),
+        (
+            "fof(a,axiom,\na => b => c).",
+            3,
+            "pq.p:2:8: unexpected token\n",
+        ),
+        ("cnf(a,axiom,p(1)).", 3, "pq.p:1:15: not in this profile\n"),
+        (
+            "fof(a,axiom,p @ q).",
+            3,
+            "pq.p:1:15: no token begins here\n",
+        ),
+    ] {
+        let words = words_of(alloc, "format pq.p")?;
+        let mut store = SteadyStore::new(alloc, files(alloc, problem, "")?)?;
+        let mut out = SteadySink::new(alloc);
+        let mut log = SteadySink::new(alloc);
+        let answer = run_tptp(alloc, &words, &mut store, &mut out, &mut log);
+        assert_eq!(rt; answer, status, "{problem}");
+        assert_eq!(rt; out.bytes(), printed.as_bytes(), "{problem}");
+        assert_eq!(rt; log.bytes(), b"".as_slice(), "{problem}");
+    }
+    Ok(())
+}
+
+#[test]
+fn too_deep(rt: HostRuntime) -> Result<(), Fail> {
+    let alloc = rt.alloc();
+    let mut problem = String::from_str(alloc, "fof(a,axiom,")?;
+    for _ in 0..251u8 {
+        problem.push_str("~")?;
+    }
+    problem.push_str("p).")?;
+    let words = words_of(alloc, "format pq.p")?;
+    let mut store = SteadyStore::new(alloc, files(alloc, problem.as_str(), "")?)?;
+    let mut out = SteadySink::new(alloc);
+    let mut log = SteadySink::new(alloc);
+    let answer = run_tptp(alloc, &words, &mut store, &mut out, &mut log);
+    assert_eq!(rt; answer, 7);
+    assert_eq!(rt; out.bytes(), b"pq.p:1:263: limit nesting\n".as_slice());
     Ok(())
 }

@@ -1,7 +1,9 @@
 pub mod Lined
 pub mod Orders
 pub mod Places
+pub mod Queues
 pub mod Readers
 pub mod Resolving
+pub mod Settling
 pub mod Texts
 pub mod Wholes

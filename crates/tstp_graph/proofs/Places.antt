@@ -1,5 +1,5 @@
 -- The places of names, a name at a time.
-use Rattle.std.proofs.Common.{◌≡◌, ℕ, zero, suc, ◌+◌, ◌<◌, ◌≤◌, Bool, true, false, cond, List, [], ◌∷◌, ◌++◌, length, take, get_or, Option, None, Some, refl, sym, ◌∙◌, ap, subst, arith, length-append, append_assoc}
+use Rattle.std.proofs.Common.{◌≡◌, ℕ, suc, ◌+◌, ◌<◌, ◌≤◌, Bool, true, false, cond, List, [], ◌∷◌, ◌++◌, length, take, get_or, Option, None, Some, refl, sym, ◌∙◌, ap, subst, arith, length-append}
 use Rattle.std.proofs.lemmas.List.{append-nil, take_more, take_all}
 use Rattle.tptp_base.specs.declared.name.Name.{Name}
 use Rattle.tptp_base.specs.declared.name.Name.TheVariants.{Word, Integer}
@@ -8,7 +8,7 @@ use Rattle.tptp_base.specs.declared.item.Item.{Item}
 use Rattle.tstp_graph.specs.declared.names.TextTable.{TextTable}
 use Rattle.tstp_graph.specs.declared.names.NameTable.{NameTable}
 use Rattle.tstp_graph.specs.declared.scope.Scope.{Scope}
-use Rattle.tstp_graph.specs.Meaning.{Means, means_in, means_of}
+use Rattle.tstp_graph.specs.Meaning.{means_in, means_of}
 use Rattle.tstp_graph.specs.Tables.{same_name, places_from, found, found_text, Adds, Holds, IsAdded, IsEmpty}
 use Rattle.tstp_graph.specs.Lines.{formula_of, with_name, names_in}
 

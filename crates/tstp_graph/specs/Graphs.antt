@@ -1,6 +1,6 @@
 -- The graph of a derivation, and why items have none: the answer is determined by the items and the names of the given
 -- formulas.
-use Rattle.std.specs.Prelude.{ℕ, ◌≡◌, ◌⊎◌, List, [], Option, None, Some, Result, Ok, Err, slice_get}
+use Rattle.std.specs.Prelude.{ℕ, ◌≡◌, ◌⊎◌, List, [], None, Some, Ok, Err, slice_get}
 use Rattle.tptp_base.specs.declared.name.Name.{Name}
 use Rattle.tptp_base.specs.declared.limit.LimitName.TheVariants.{Lines}
 use Rattle.tptp_base.specs.declared.item.Annotated.{Annotated}

@@ -5,6 +5,7 @@ pub mod Meaning
 pub mod Nodes
 pub mod Order
 pub mod Outcomes
+pub mod Queue
 pub mod Readings
 pub mod RefSets
 pub mod Sources

@@ -1,5 +1,5 @@
 -- The lines of a derivation: its formulas but for those of role type, which declare a symbol.
-use Rattle.std.specs.Prelude.{ℕ, ◌≡◌, ◌<◌, Bool, true, false, List, [], ◌∷◌, ◌++◌, map, count_by, Option, None, Some, if◌then◌else◌}
+use Rattle.std.specs.Prelude.{◌<◌, Bool, true, false, List, [], ◌∷◌, count_by, Option, None, Some, if◌then◌else◌}
 use Rattle.std.specs.Bool.{beq}
 use Rattle.tptp_base.specs.declared.name.Name.{Name}
 use Rattle.tptp_base.specs.declared.item.Role.{Role}

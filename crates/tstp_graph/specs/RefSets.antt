@@ -1,5 +1,5 @@
 -- Sets of parents, as contracts see them.
-use Rattle.std.specs.Prelude.{ℕ, ◌≡◌, nat_eq, Bool, true, List, if◌then◌else◌}
+use Rattle.std.specs.Prelude.{◌≡◌, nat_eq, Bool, true, List, if◌then◌else◌}
 use Rattle.std.specs.List.{list_any}
 use Rattle.indexmap.specs.IndexSet.{contains}
 use Rattle.tstp_graph.specs.declared.shape.Ref.{Ref}

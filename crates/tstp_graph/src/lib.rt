@@ -9,6 +9,7 @@ mod member;
 mod names;
 mod node;
 mod order;
+mod queue;
 mod record;
 mod refs;
 mod scope;

@@ -2,7 +2,7 @@ use super::*;
 use std::alloc::Global;
 use std::test::Fail;
 use tptp_base::{
-    Annotated, Body, Boxed, GTerm, Item, Lang, List, Name, Place, Role, Surface, Text,
+    Annotated, Body, Boxed, GTerm, Include, Item, Lang, List, Name, Place, Role, Surface, Text,
 };
 
 const PLACE: Place = Place {
@@ -166,23 +166,124 @@ fn other_sources(rt: HostRuntime) -> Result<(), Fail> {
     Ok(())
 }
 
+// Lines of these names, each from a record of these parents.
+fn lines(alloc: Global, rows: &[(&[u8], &[&[u8]])]) -> Result<List<Item>, Fail> {
+    let mut items = List::new(alloc);
+    for row in rows {
+        let source = inference(alloc, words(alloc, row.1)?)?;
+        items.push(line(alloc, row.0, Some(source))?)?;
+    }
+    Ok(items)
+}
+
+// The order of these lines; none where they have no graph.
+fn order_of(alloc: Global, items: List<Item>) -> Result<List<u32>, Fail> {
+    match whole(alloc, items)? {
+        Ok(graph) => Ok(graph.order),
+        Err(_) => Ok(List::new(alloc)),
+    }
+}
+
 // Line c from d and e, d, and e from b: checked in the order d, e, c.
 #[test]
 fn an_order(rt: HostRuntime) -> Result<(), Fail> {
     let alloc = rt.alloc();
-    let mut items = List::new(alloc);
-    items.push(line(
-        alloc,
-        b"c",
-        Some(inference(alloc, words(alloc, &[b"d", b"e"])?)?),
-    )?)?;
+    let mut items = lines(alloc, &[(b"c", &[b"d", b"e"])])?;
     items.push(line(alloc, b"d", Some(word(alloc, b"a")?))?)?;
     items.push(line(alloc, b"e", Some(GTerm::List(words(alloc, &[b"b"])?)))?)?;
-    let order = match whole(alloc, items)? {
-        Ok(graph) => graph.order,
-        Err(_) => List::new(alloc),
+    assert_eq!(rt; order_of(alloc, items)?.as_slice(), [1, 2, 0].as_slice());
+    Ok(())
+}
+
+// A line that is ready early is taken before those behind it, also where it waited.
+#[test]
+fn other_orders(rt: HostRuntime) -> Result<(), Fail> {
+    let alloc = rt.alloc();
+    let waits = lines(alloc, &[(b"p", &[b"q"]), (b"q", &[b"a"]), (b"r", &[b"a"])])?;
+    assert_eq!(rt; order_of(alloc, waits)?.as_slice(), [1, 0, 2].as_slice());
+    let reverse = lines(
+        alloc,
+        &[
+            (b"p", &[b"q", b"r"]),
+            (b"q", &[b"r", b"s"]),
+            (b"r", &[b"s"]),
+            (b"s", &[b"a"]),
+        ],
+    )?;
+    assert_eq!(rt;
+        order_of(alloc, reverse)?.as_slice(),
+        [3, 2, 1, 0].as_slice()
+    );
+    Ok(())
+}
+
+// Whether the fault is a cycle at the line of this name.
+fn is_cycle_at(outcome: &Result<Graph, GraphFault>, name: &[u8]) -> bool {
+    match outcome {
+        Err(GraphFault::Cycle(_, Name::Word(text))) => text.as_slice() == name,
+        _ => false,
+    }
+}
+
+// The first line that is never taken stands behind a chain, and another line behind the cycle.
+#[test]
+fn a_cycle_behind_a_chain(rt: HostRuntime) -> Result<(), Fail> {
+    let alloc = rt.alloc();
+    let items = lines(
+        alloc,
+        &[
+            (b"o", &[b"a"]),
+            (b"p", &[b"o"]),
+            (b"q", &[b"p"]),
+            (b"r", &[b"q", b"t"]),
+            (b"s", &[b"r"]),
+            (b"t", &[b"s"]),
+            (b"u", &[b"p"]),
+        ],
+    )?;
+    assert!(rt; is_cycle_at(&whole(alloc, items)?, b"r"));
+    Ok(())
+}
+
+#[test]
+fn what_is_introduced(rt: HostRuntime) -> Result<(), Fail> {
+    let alloc = rt.alloc();
+    let bare = func(alloc, b"introduced", words(alloc, &[b"k"])?)?;
+    assert!(rt; read_as(alloc, Some(bare), false, false, &[])?);
+    let mut args = words(alloc, &[b"k", b"i"])?;
+    args.push(GTerm::List(words(alloc, &[b"y", b"b"])?))?;
+    let all = [Ref::Line(1), Ref::Given(1), Ref::Given(2)];
+    assert!(rt;
+        read_as(
+            alloc,
+            Some(func(alloc, b"introduced", args)?),
+            false,
+            false,
+            &all
+        )?
+    );
+    Ok(())
+}
+
+// A name of a type line and a file without a name give nothing.
+#[test]
+fn silent_members(rt: HostRuntime) -> Result<(), Fail> {
+    let alloc = rt.alloc();
+    let mut parents = words(alloc, &[b"t"])?;
+    parents.push(func(alloc, b"file", words(alloc, &[b"f", b"unknown"])?)?)?;
+    parents.push(word(alloc, b"y")?)?;
+    let mut items = List::new(alloc);
+    items.push(line(alloc, b"x", Some(inference(alloc, parents)?))?)?;
+    items.push(formula(alloc, b"t", Role::Typing, None)?)?;
+    items.push(line(alloc, b"y", None)?)?;
+    let found = match whole(alloc, items)? {
+        Ok(graph) => match graph.nodes.get(0) {
+            Some(node) => node.parents.as_slice() == [Ref::Line(1)].as_slice(),
+            None => false,
+        },
+        Err(_) => false,
     };
-    assert_eq!(rt; order.as_slice(), [1, 2, 0].as_slice());
+    assert!(rt; found);
     Ok(())
 }
 
@@ -242,5 +343,48 @@ fn faults(rt: HostRuntime) -> Result<(), Fail> {
     twice.push(line(alloc, b"x", None)?)?;
     twice.push(line(alloc, b"x", Some(word(alloc, b"z")?))?)?;
     assert_eq!(rt; answer(whole(alloc, twice)?), b'd');
+    Ok(())
+}
+
+// A record with a word and these arguments, of which the last is a list of a word.
+fn with_list(alloc: Global, name: &[u8], texts: &[&[u8]]) -> Result<GTerm, Fail> {
+    let mut args = words(alloc, texts)?;
+    args.push(GTerm::List(words(alloc, &[b"y"])?))?;
+    func(alloc, name, args)
+}
+
+#[test]
+fn bad_sources(rt: HostRuntime) -> Result<(), Fail> {
+    let alloc = rt.alloc();
+    let no_lists = func(alloc, b"inference", words(alloc, &[b"r", b"i", b"y"])?)?;
+    assert_eq!(rt; answer(one(alloc, Some(no_lists))?), b'b');
+    let one_list = with_list(alloc, b"inference", &[b"r", b"i"])?;
+    assert_eq!(rt; answer(one(alloc, Some(one_list))?), b'b');
+    let three = func(alloc, b"file", words(alloc, &[b"f", b"a", b"i"])?)?;
+    assert_eq!(rt; answer(one(alloc, Some(three))?), b'b');
+    let no_name = with_list(alloc, b"file", &[b"f"])?;
+    assert_eq!(rt; answer(one(alloc, Some(no_name))?), b'b');
+    let no_list = func(alloc, b"introduced", words(alloc, &[b"k", b"i", b"y"])?)?;
+    assert_eq!(rt; answer(one(alloc, Some(no_list))?), b'b');
+    Ok(())
+}
+
+#[test]
+fn faults_within(rt: HostRuntime) -> Result<(), Fail> {
+    let alloc = rt.alloc();
+    let mut nested = List::new(alloc);
+    nested.push(with_list(alloc, b"file", &[b"f"])?)?;
+    assert_eq!(rt; answer(one(alloc, Some(inference(alloc, nested)?))?), b'b');
+    let mut absent = List::new(alloc);
+    absent.push(func(alloc, b"file", words(alloc, &[b"f", b"z"])?)?)?;
+    assert_eq!(rt; answer(one(alloc, Some(inference(alloc, absent)?))?), b'u');
+    let include = Include {
+        place: PLACE,
+        file: Text::from_slice(alloc, b"f")?,
+        names: None,
+    };
+    let mut items = List::new(alloc);
+    items.push(Item::Include(include))?;
+    assert_eq!(rt; answer(whole(alloc, items)?), b'i');
     Ok(())
 }

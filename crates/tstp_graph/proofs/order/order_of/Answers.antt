@@ -1,33 +1,35 @@
+use Rattle.std.proofs.Common.{◌≡◌, true, slice_set, Some, refl, ◌∙◌}
 use Rattle.std.proofs.lemmas.List.{length-set}
-use Rattle.std.proofs.Common.{rules, ◌≡◌, ◌<◌, ◌+◌, Bool, true, slice_set, length, drop, min, Some, None, refl, sym, ◌∙◌, ap, arith}
-use Rattle.tstp_graph.specs.Order.{first_ready, first_left, is_taken}
+use Rattle.tstp_graph.specs.Order.{first_ready}
 use Rattle.tstp_graph.specs.Flags.{flag_at}
-use Rattle.tstp_graph.proofs.Orders.{goes_on_with, left_falls_with, next_from, ends, left_is}
+use Rattle.tstp_graph.specs.Queue.{no_number, IsQueue}
+use Rattle.tstp_graph.proofs.Orders.{goes_on, ends}
+use Rattle.tstp_graph.proofs.Queues.{within_flags, loose_after_with, taken_after_with, fewer_left, first_of_queue, none_of_queue}
 use Rattle.tstp_graph.proofs.order.order_of.Goals as goal
 
+pub free-requires-clause-loose : goal.free-requires-clause-loose
+free-requires-clause-loose c =
+    loose_after_with c.args.nodes.now c.take.taken.items c.deref-in-Some.result.now c.take.queue.ready c.take.queue.waiting.items c.next.new.self.waiting.items c.in-Some.number
+    c.take.invariant.len c.take.invariant.queue c.in-Some.ensures.some c.deref-in-Some.ensures.value c.in-Some.ensures.waiting
+
+pub free-requires-clause-queue : goal.free-requires-clause-queue
+free-requires-clause-queue c =
+    taken_after_with c.args.nodes.now c.take.taken.items c.deref-in-Some.result.now c.take.queue.ready c.next.new.self.ready c.take.queue.waiting.items c.next.new.self.waiting.items c.in-Some.number
+    c.take.invariant.len c.take.invariant.queue c.in-Some.ensures.some c.in-Some.ensures.rest c.deref-in-Some.ensures.value c.in-Some.ensures.waiting
+
 pub take-smaller : goal.take-smaller
-take-smaller c =
-    let found : Some c.in-Some.number ≡ first_ready (flag_at c.take.taken.items) c.take.from (drop c.take.from c.args.nodes.now) = rw c.deref.ensures.value at c.in-Some.ensures.value in
-    let within : c.in-Some.number < length c.take.taken.items = omega (arith, c.in-Some.ensures.within, c.take.invariant.len) in
-    left_falls_with c.args.nodes.now c.take.taken.items (slice_set c.take.taken.items c.in-Some.number true) c.take.order c.take.from c.in-Some.number c.take.invariant.so_far within found refl
+take-smaller c = fewer_left c.args.nodes.now c.take.taken.items c.take.queue.ready c.take.queue.waiting.items c.in-Some.number c.take.invariant.len c.take.invariant.queue c.in-Some.ensures.some
 
 pub take-preserved : goal.take-preserved
 take-preserved c =
-    let found : Some c.in-Some.number ≡ first_ready (flag_at c.take.taken.items) c.take.from (drop c.take.from c.args.nodes.now) = rw c.deref.ensures.value at c.in-Some.ensures.value in
-    let within : c.in-Some.number < length c.take.taken.items = omega (arith, c.in-Some.ensures.within, c.take.invariant.len) in
-    let in_users : c.in-Some.number < length c.in_ok-users.users.items = omega (arith, c.in-Some.ensures.within, c.in_ok-users.ensures.len) in
+    let first : first_ready (flag_at c.take.taken.items) 0 c.args.nodes.now ≡ Some c.in-Some.number = first_of_queue c.args.nodes.now (flag_at c.take.taken.items) c.take.queue.ready c.take.queue.waiting.items c.in-Some.number c.take.invariant.queue c.in-Some.ensures.some c.in-Some.ensures.least in
+    let within = within_flags c.args.nodes.now c.take.taken.items c.take.queue.ready c.take.queue.waiting.items c.in-Some.number c.take.invariant.len c.take.invariant.queue c.in-Some.ensures.some in
+    let queue : IsQueue c.args.nodes.now (flag_at c.deref-in-Some.result.now) no_number c.free.new.self.ready c.free.new.self.waiting.items = c.in_ok-free.ensures in
     record {
-      so_far = goes_on_with c.args.nodes.now c.take.taken.items (slice_set c.take.taken.items c.in-Some.number true) c.take.order c.push.new.self c.in_ok-users.users.items c.take.from c.least-from.result c.in-Some.number c.take.invariant.so_far c.in_ok-users.ensures.users in_users within found refl c.in_ok-push.ensures.ok
-          (next_from c.in_ok-users.users.items c.in-Some.number c.index.result.now c.least-from.result in_users c.index.ensures c.least-from.ensures);
-      len = first_of (search rules, omega (arith, length-set {A = Bool}, c.take.invariant.len));
+      so_far = goes_on c.args.nodes.now c.take.taken.items (slice_set c.take.taken.items c.in-Some.number true) c.take.order c.push.new.self c.in-Some.number c.take.invariant.so_far within first refl c.in_ok-push.ensures.ok;
+      len = length-set c.take.taken.items c.in-Some.number true ∙ c.take.invariant.len;
+      queue = rw c.deref-in-Some.ensures.value at queue;
     }
 
 pub returns-clause-order : goal.returns-clause-order
-returns-clause-order c =
-    let found : None ≡ first_ready (flag_at c.take.taken.items) c.take.from (drop c.take.from c.args.nodes.now) = rw c.deref.ensures.value at c.in_default.ensures.value in
-    ends c.args.nodes.now c.take.taken.items c.take.order c.take.from c.take.invariant.so_far found
-
-pub returns-clause-left : goal.returns-clause-left
-returns-clause-left c =
-    let left : c.next_left.result ≡ first_left (flag_at c.take.taken.items) 0 c.args.nodes.now = rw c.deref-2.ensures.value at c.next_left.ensures in
-    left_is c.args.nodes.now c.take.taken.items c.take.order c.take.from c.next_left.result c.take.invariant.so_far left
+returns-clause-order c = ends c.args.nodes.now c.take.taken.items c.take.order c.take.invariant.so_far (none_of_queue c.args.nodes.now (flag_at c.take.taken.items) c.take.queue.ready c.take.queue.waiting.items c.take.invariant.queue c.in_default.ensures.none)

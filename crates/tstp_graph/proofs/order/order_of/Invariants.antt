@@ -1,11 +1,14 @@
 use Rattle.std.proofs.Common.{◌≡◌, length}
+use Rattle.tstp_graph.specs.Flags.{flag_at}
+use Rattle.tstp_graph.specs.Queue.{no_number, IsQueue}
 use Rattle.tstp_graph.proofs.Orders.{SoFar, left}
 use Rattle.tstp_graph.proofs.order.order_of.Given as goal
 
 abbrev pub invariant-take : goal.invariant-take
 invariant-take l = record {
-  so_far : SoFar l.nodes l.taken.items l.order l.from;
+  so_far : SoFar l.nodes l.taken.items l.order;
   len : length l.taken.items ≡ length l.nodes;
+  queue : IsQueue l.nodes (flag_at l.taken.items) no_number l.queue.ready l.queue.waiting.items;
 }
 
 abbrev pub decreases-take : goal.decreases-take

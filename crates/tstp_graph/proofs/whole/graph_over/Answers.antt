@@ -1,4 +1,3 @@
-use Rattle.std.proofs.Common.{sym}
 use Rattle.tstp_graph.specs.Meaning.{means_in}
 use Rattle.tstp_graph.proofs.Lined.{are_lines}
 use Rattle.tstp_graph.proofs.Wholes.{whole_graph, whole_cycle, item_fault}

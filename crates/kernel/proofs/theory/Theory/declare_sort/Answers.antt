@@ -12,4 +12,4 @@ returns-in_err-add_sort-clause-illegal c = λ e few.
     omega (arith, full, room)
 
 pub invariant_of-self-2 : goal.invariant_of-self-2
-invariant_of-self-2 c = rw c.in_ok-add_sort.ensures.added (closed_grow c.self.inside.signature _ c.self.inside.formulas (more_sorts_grow c.self.inside.signature c.in_ok-name.name) c.self.invariant)
+invariant_of-self-2 c = rw c.in_ok-add_sort.ensures.added (closed_grow c.self.inside.signature _ c.self.inside.formulas (more_sorts_grow c.self.inside.signature c.in_ok-name.name) c.self.invariant.0, c.self.invariant.1)

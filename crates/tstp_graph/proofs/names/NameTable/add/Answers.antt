@@ -1,4 +1,4 @@
-use Rattle.std.proofs.Common.{refl, arith}
+use Rattle.std.proofs.Common.{refl}
 use Rattle.tstp_graph.proofs.Places.{added_with}
 use Rattle.tstp_graph.proofs.names.NameTable.add.Goals as goal
 

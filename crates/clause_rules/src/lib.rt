@@ -1,0 +1,32 @@
+//! The rules by which a line follows from its parents that are recognised by their shape: from each, a justification
+//! with the literals, places and substitutions that show it, or none exactly where the rule does not hold.
+#![tactic(auto)]
+
+mod apart;
+mod eqfactor_rule;
+mod heads;
+mod joint;
+mod just;
+mod laws;
+mod norm_rule;
+mod numbers;
+mod position;
+mod ready;
+mod resolution_rule;
+mod scopes;
+mod search;
+mod sides;
+mod tautology_rule;
+mod ways;
+
+pub use eqfactor_rule::eqfactor_step;
+pub use just::Just;
+pub use laws::what_is_shown_holds;
+pub use norm_rule::norm_step;
+pub use position::Position;
+pub use ready::{MAX_QUANTIFIERS, are_ready, is_ready};
+pub use resolution_rule::resolution_step;
+pub use tautology_rule::tautology_step;
+
+#[cfg(test)]
+mod tests;

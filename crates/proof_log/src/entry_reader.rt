@@ -1,0 +1,95 @@
+// Entries are read. The room is how deep trees may nest.
+ghost use Rattle.proof_log.specs.Names.{decl_name, decl_names, entry_name, entry_names};
+ghost use Rattle.proof_log.specs.ReadWords.{number, listed, head, name as a_name};
+ghost use Rattle.proof_log.specs.ReadTrees.{behind};
+ghost use Rattle.proof_log.specs.ReadEntries as spec;
+ghost use Rattle.proof_log.specs.Outcomes.{Reads};
+
+use crate::cursor::Cursor;
+use crate::form_reader::form;
+use crate::name::{DECL_NAMES, DeclName, ENTRY_NAMES, EntryName};
+use crate::proof_reader::proof;
+use crate::quoted::quoted;
+use crate::stop::Stop;
+use crate::words::{head, large, name, small};
+use fof_terms::{Kind, Symbol};
+use kernel::{Decl, Entry};
+use std::alloc::Global;
+use tptp_base::{Boxed, List};
+
+// How many numbers there are, and the numbers.
+#[tactic(auto, unfolding(crate::specs::ReadWords::listed))]
+fn numbers(alloc: Global, text: &mut Cursor<'_>) -> Result<List<u32>, Stop>
+    ensures { Reads (listed (number 4294967295) text.old) result text.new }
+{
+    let count = large(text)?;
+    let mut found = List::new(alloc);
+    for _ in 0..count {
+        found.push(small(text)?)?;
+    }
+    Ok(found)
+}
+
+// What is declared.
+#[tactic(auto, unfolding(crate::specs::ReadEntries::declaration))]
+fn declaration(alloc: Global, text: &mut Cursor<'_>) -> Result<Decl, Stop>
+    ensures { Reads (spec.declaration text.old) result text.new }
+{
+    match head(text, &DECL_NAMES)? {
+        DeclName::Sort => Ok(Decl::Sort(quoted(alloc, text)?)),
+        DeclName::Function => {
+            let name = quoted(alloc, text)?;
+            let args = numbers(alloc, text)?;
+            let result = small(text)?;
+            Ok(Decl::Symbol(Symbol {
+                name,
+                kind: Kind::Function,
+                args,
+                result,
+            }))
+        }
+        DeclName::Predicate => {
+            let name = quoted(alloc, text)?;
+            let args = numbers(alloc, text)?;
+            Ok(Decl::Symbol(Symbol {
+                name,
+                kind: Kind::Predicate,
+                args,
+                result: 0,
+            }))
+        }
+    }
+}
+
+// An entry without its line feed.
+fn entry_before(alloc: Global, text: &mut Cursor<'_>, room: usize) -> Result<Entry, Stop>
+    ensures { Reads (behind (a_name entry_name entry_names) (spec.entry_by room) text.old) result text.new }
+{
+    match name(text, &ENTRY_NAMES)? {
+        EntryName::Declare => Ok(Entry::Declare(declaration(alloc, text)?)),
+        EntryName::Lemma => {
+            let found = proof(alloc, text, room)?;
+            Ok(Entry::Lemma(found.into_inner()))
+        }
+        EntryName::Name => {
+            let symbol = small(text)?;
+            let body = form(alloc, text, room)?;
+            Ok(Entry::Name(symbol, body.into_inner()))
+        }
+        EntryName::Choice => {
+            let symbol = small(text)?;
+            let body = form(alloc, text, room)?;
+            Ok(Entry::Choice(symbol, body.into_inner()))
+        }
+    }
+}
+
+/// An entry with its line feed.
+#[tactic(auto, unfolding(crate::specs::ReadEntries::entry))]
+pub fn entry(alloc: Global, text: &mut Cursor<'_>, room: usize) -> Result<Boxed<Entry>, Stop>
+    ensures { Reads (spec.entry room text.old) result text.new }
+{
+    let found = Boxed::new(alloc, entry_before(alloc, text, room)?)?;
+    text.expect(b'\n')?;
+    Ok(found)
+}

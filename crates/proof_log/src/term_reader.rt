@@ -1,0 +1,72 @@
+// Terms are read. The room is how deep trees may still nest. Each function has few values of its own, since as many
+// calls of it may be open as trees may nest.
+ghost use Rattle.first_fault.specs.Reading.{mapped};
+ghost use Rattle.proof_log.specs.ReadWords.{number, listed, head};
+ghost use Rattle.proof_log.specs.Names.{term_name, term_names};
+ghost use Rattle.proof_log.specs.ReadTrees as spec;
+ghost use Rattle.proof_log.specs.Outcomes.{Reads};
+
+use crate::cursor::Cursor;
+use crate::name::{TERM_NAMES, TermName};
+use crate::stop::Stop;
+use crate::words::{deep_head, head, large, small};
+use fof_terms::Term;
+use std::alloc::Global;
+use tptp_base::{Boxed, List};
+
+/// A term.
+#[cycle(term)]
+#[tactic(auto, unfolding(crate::specs::ReadTrees::term))]
+pub fn term(alloc: Global, text: &mut Cursor<'_>, room: usize) -> Result<Boxed<Term>, Stop>
+    ensures { Reads (spec.term room text.old) result text.new }
+{
+    if room == 0 {
+        Err(deep_head(text, &TERM_NAMES))
+    } else {
+        term_within(alloc, text, room - 1)
+    }
+}
+
+// A term whose parts have this room.
+#[cycle(term)]
+fn term_within(alloc: Global, text: &mut Cursor<'_>, room: usize) -> Result<Boxed<Term>, Stop>
+    ensures { Reads (spec.behind (head term_name term_names) (spec.term_by (spec.term room)) text.old) result text.new }
+{
+    match head(text, &TERM_NAMES)? {
+        TermName::Var => variable(alloc, text),
+        TermName::App => application(alloc, text, room),
+    }
+}
+
+// A variable, behind its name.
+fn variable(alloc: Global, text: &mut Cursor<'_>) -> Result<Boxed<Term>, Stop>
+    ensures { Reads (mapped (λ k. Term.Var k) (number 4294967295 text.old)) result text.new }
+{
+    let number = small(text)?;
+    Ok(Boxed::new(alloc, Term::Var(number))?)
+}
+
+// An application, behind its name.
+#[cycle(term)]
+fn application(alloc: Global, text: &mut Cursor<'_>, room: usize) -> Result<Boxed<Term>, Stop>
+    ensures { Reads (spec.term_by (spec.term room) TermName.App text.old) result text.new }
+{
+    let symbol = small(text)?;
+    let args = terms(alloc, text, room)?;
+    Ok(Boxed::new(alloc, Term::App(symbol, args))?)
+}
+
+/// How many terms there are, and the terms.
+#[cycle(term)]
+#[tactic(auto, unfolding(crate::specs::ReadWords::listed))]
+pub fn terms(alloc: Global, text: &mut Cursor<'_>, room: usize) -> Result<List<Term>, Stop>
+    ensures { Reads (listed (spec.term room) text.old) result text.new }
+{
+    let count = large(text)?;
+    let mut found = List::new(alloc);
+    for _ in 0..count {
+        let next = term(alloc, text, room)?;
+        found.push(next.into_inner())?;
+    }
+    Ok(found)
+}

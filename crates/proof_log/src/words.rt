@@ -1,0 +1,175 @@
+// The words of a log are read.
+ghost use Rattle.std.specs.Prelude.{◌≡◌, ◌≤◌, ◌+◌, ◌*◌, ◌-◌, length, Ok, IfOk};
+ghost use Rattle.first_fault.specs.Reading.{next, tail};
+ghost use Rattle.proof_log.specs.ReadWords as spec;
+ghost use Rattle.proof_log.specs.Outcomes.{Reads, Fails};
+
+use crate::cursor::Cursor;
+use crate::name::Spelled;
+use crate::stop::Stop;
+
+// How many bytes a text and a name begin with together.
+fn shared(text: &[u8], name: &[u8]) -> usize
+    ensures same { result ≡ spec.shared text.now name.now }
+    ensures most { result ≤ length name.now }
+{
+    if let [first, others @ ..] = name {
+        if let [byte, rest @ ..] = text {
+            if *byte == *first {
+                return shared(rest, others) + 1;
+            }
+        }
+    }
+    0
+}
+
+// The first name that the text begins with.
+fn find<N: Spelled + Copy>(all: &[N], text: &[u8]) -> Option<N>
+    ensures { result ≡ spec.find N.spell all.now text.now }
+{
+    for name in all {
+        let spelling = name.spelling();
+        if shared(text, spelling) == spelling.len() {
+            return Some(*name);
+        }
+    }
+    None
+}
+
+// How far the text begins as one of the names.
+fn reach<N: Spelled>(all: &[N], text: &[u8]) -> usize
+    ensures { result ≡ spec.reach N.spell all.now text.now }
+{
+    let mut most = 0;
+    for name in all {
+        let count = shared(text, name.spelling());
+        if count > most {
+            most = count;
+        }
+    }
+    most
+}
+
+/// One of the names.
+#[tactic(auto, unfolding(crate::specs::ReadWords::name))]
+pub fn name<N: Spelled + Copy>(text: &mut Cursor<'_>, all: &[N]) -> Result<N, Stop>
+    ensures { Reads (spec.name N.spell all.now text.old) result text.new }
+{
+    match find(all, text.text()) {
+        Some(found) => {
+            text.advance(found.spelling().len());
+            Ok(found)
+        }
+        None => {
+            let count = reach(all, text.text());
+            text.advance(count);
+            Err(Stop::Unexpected)
+        }
+    }
+}
+
+/// One of the names, with a blank before it.
+#[tactic(auto, unfolding(crate::specs::ReadWords::head))]
+pub fn head<N: Spelled + Copy>(text: &mut Cursor<'_>, all: &[N]) -> Result<N, Stop>
+    ensures { Reads (spec.head N.spell all.now text.old) result text.new }
+{
+    text.expect(b' ')?;
+    name(text, all)
+}
+
+/// Why none of the names, with a blank before it, is read where it would be nested too deep.
+#[tactic(auto, unfolding(crate::specs::ReadWords::deep_head, crate::specs::ReadWords::deep_name))]
+pub fn deep_head<N: Spelled>(text: &mut Cursor<'_>, all: &[N]) -> Stop
+    ensures { Fails (spec.deep_head N.spell all.now text.old) result text.new }
+{
+    match text.expect(b' ') {
+        Ok(()) => {
+            if reach(all, text.text()) == 0 {
+                Stop::Unexpected
+            } else {
+                Stop::TooDeep
+            }
+        }
+        Err(stop) => stop,
+    }
+}
+
+// The number with the next digit behind it, where that stays small enough.
+fn next_digit(text: &Cursor<'_>, most: u64, number: u64) -> Option<u64>
+    requires { 9 ≤ most }
+    ensures { result ≡ spec.with_digit most number (next text.now) }
+{
+    match text.peek() {
+        Some(byte) => {
+            if !byte.is_ascii_digit() {
+                return None;
+            }
+            let digit = u64::from(byte - b'0');
+            if number <= (most - digit) / 10 {
+                Some(10 * number + digit)
+            } else {
+                None
+            }
+        }
+        None => None,
+    }
+}
+
+// The digits that follow a number, as long as it stays small enough.
+fn more_digits(text: &mut Cursor<'_>, most: u64, first: u64) -> u64
+    requires { 9 ≤ most }
+    ensures { spec.more_digits most first text.old ≡ Ok (result, text.new) }
+{
+    let mut number = first;
+    'digits: while let Some(longer) = next_digit(text, most, number) {
+        number = longer;
+        text.skip();
+    }
+    number
+}
+
+// A zero alone, or digits of which the first is none.
+fn digits(text: &mut Cursor<'_>, most: u64) -> Result<u64, Stop>
+    requires { 9 ≤ most }
+    ensures { Reads (spec.digits most text.old) result text.new }
+{
+    match text.peek() {
+        Some(byte) => {
+            if byte == b'0' {
+                text.skip();
+                Ok(0)
+            } else if byte.is_ascii_digit() {
+                text.skip();
+                Ok(more_digits(text, most, u64::from(byte - b'0')))
+            } else {
+                Err(Stop::Unexpected)
+            }
+        }
+        None => Err(Stop::Unexpected),
+    }
+}
+
+// A number with a blank before it.
+#[tactic(auto, unfolding(crate::specs::ReadWords::number))]
+fn number(text: &mut Cursor<'_>, most: u64) -> Result<u64, Stop>
+    requires { 9 ≤ most }
+    ensures { Reads (spec.number most text.old) result text.new }
+{
+    text.expect(b' ')?;
+    digits(text, most)
+}
+
+/// A number of 64 bits.
+pub fn large(text: &mut Cursor<'_>) -> Result<u64, Stop>
+    ensures { Reads (spec.number 18446744073709551615 text.old) result text.new }
+{
+    number(text, u64::MAX)
+}
+
+/// A number of 32 bits.
+pub fn small(text: &mut Cursor<'_>) -> Result<u32, Stop>
+    ensures { Reads (spec.number 4294967295 text.old) result text.new }
+{
+    let number = number(text, 4_294_967_295)?;
+    Ok(number as u32)
+}

@@ -1,0 +1,16 @@
+pub mod Alike
+pub mod Closings
+pub mod Declaring
+pub mod FormSorts
+pub mod GivenLoops
+pub mod GivenSorts
+pub mod Inducing
+pub mod LineLoops
+pub mod LineSorts
+pub mod Loops
+pub mod NameLists
+pub mod Noting
+pub mod Parts
+pub mod Scopes
+pub mod Stepping
+pub mod TermSorts

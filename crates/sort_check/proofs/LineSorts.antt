@@ -1,0 +1,340 @@
+-- The formulas of the lines of a text are closed and well-sorted.
+use Rattle.std.proofs.Common.{◌≡◌, ℕ, ◌+◌, ◌<◌, ◌≤◌, ◌==◌, ◌||◌, ◌&&◌, Bool, true, false, cond, List, [], ◌∷◌, ◌++◌, length, map, Option, Some, None, Result, Ok, Err, IfOk, OnOk, refl, ◌∙◌, subst, arith}
+use Rattle.std.specs.List.{AllByRecursion, list_any}
+use Rattle.std.specs.Str.{bytes_eq}
+use Rattle.std.proofs.lemmas.List.{length-append}
+use Rattle.std.proofs.lemmas.List.Elements.{All-from_recursion}
+use Rattle.std.proofs.lemmas.Bool.Decides.{nat_tests}
+use Rattle.tptp_base.specs.declared.limit.LimitName.TheVariants.{Symbols, Sorts}
+use Rattle.tptp_base.specs.declared.surface.STerm.{STerm}
+use Rattle.tptp_base.specs.declared.surface.Surface.{Surface}
+use Rattle.tptp_base.specs.declared.surface.SortName.{SortName}
+use Rattle.tptp_base.specs.declared.surface.SortName.TheVariants as name
+use Rattle.tptp_base.specs.declared.surface.Quant.TheVariants as q
+use Rattle.tptp_base.specs.declared.item.Lang.{Lang}
+use Rattle.tptp_base.specs.declared.item.Lang.TheVariants as lang
+use Rattle.tptp_base.specs.declared.item.Shape.{Shape}
+use Rattle.tptp_base.specs.declared.item.Shape.TheVariants as shape
+use Rattle.tptp_base.specs.declared.item.Body.{Body}
+use Rattle.tptp_base.specs.declared.item.Body.TheVariants as body
+use Rattle.tptp_base.specs.declared.item.Annotated.{Annotated}
+use Rattle.tptp_base.specs.declared.item.Item.{Item}
+use Rattle.tptp_base.specs.declared.item.Item.TheVariants as it
+use Rattle.fof_terms.specs.Vocabulary.{Vocabulary, found_sort, found_symbol}
+use Rattle.fof_terms.specs.Sorts.{Sorted, is_sorted, binder_depth}
+use Rattle.fof_terms.specs.SortLaws.{Grows, grown_sorted, more_sorts_grow, more_symbols_grow}
+use Rattle.fof_terms.specs.declared.signature.Symbol.{Symbol}
+use Rattle.fof_terms.specs.declared.form.Form.{Form}
+use Rattle.sort_check.specs.declared.fault.SortRule.{SortRule}
+use Rattle.sort_check.specs.declared.fault.SortRule.TheVariants.{FreeVariable, Variables, Redeclared, TwoConjectures, Limit}
+use Rattle.sort_check.specs.declared.fault.SortFault.{SortFault}
+use Rattle.sort_check.specs.declared.line.Line.{Line}
+use Rattle.sort_check.specs.declared.line.TextKind.{TextKind}
+use Rattle.sort_check.specs.declared.scope.Variable.{Variable}
+use Rattle.sort_check.specs.Outcomes.{Outcome, and_then, mapped, each}
+use Rattle.sort_check.specs.Symbols.{Text, named_sort, with_symbol, known, with_name}
+use Rattle.sort_check.specs.Denotation.{Setting, State, denoted_form, closed, noted, in_turn, variables_of_term, variables_of, without_count, sentence, clause, formula}
+use Rattle.sort_check.specs.VariableEquations.{of_term-Var, of_term-App, of-True, of-False, of-Atom, of-Eq, of-Neq, of-Not, of-And, of-Or, of-Binary, of-Bind}
+use Rattle.sort_check.specs.Texts.{Declared, sort_at, declared_sort, symbol_named, symbol_of, result_named, result_kind, differs, placed, declared_symbol, declaring, typed, typed_body, is_type, at_line, type_item, type_lines, Reading, is_conjecture, is_single, line_of, reading, body_form, line_form, line, line_item, with_line, lines_from, only_vocabulary, denoted, Gives}
+use Rattle.sort_check.specs.Sorting.{AreSorted}
+use Rattle.sort_check.proofs.Inducing.{term_induction, form_induction}
+use Rattle.sort_check.proofs.Stepping.{at_ok, then_ok, mapped_ok}
+use Rattle.sort_check.proofs.TermSorts.{grows_not, grows_on}
+use Rattle.sort_check.proofs.FormSorts.{forms_fit, closed_fits, closed_depth}
+
+-- ---- the variables of a clause are individuals, and at most 250
+
+pub record AreIndividuals (found : List Variable) : Type 0 where
+  pub sorts : AllByRecursion (λ (x : Variable). x.sort ≡ 0) found
+  pub few : length found ≤ 250
+
+abbrev Noting : (List Variable → List Variable) → Type 0
+Noting f = (found : List Variable) → AreIndividuals found → AreIndividuals (f found)
+
+all_last : (found : List Variable) (x : Variable) → AllByRecursion (λ (y : Variable). y.sort ≡ 0) found → x.sort ≡ 0 → AllByRecursion (λ (y : Variable). y.sort ≡ 0) (found ++ x ∷ [])
+all_last [] x all e = (e, tt)
+all_last (y ∷ found) x all e = (all.0, all_last found x all.1 e)
+
+noted_fits : (name : Text) → Noting (noted name)
+noted_fits name found good = by (list_any (λ (x : Variable). bytes_eq x.name name) found) (length found == 250) refl
+  where
+    new : Variable
+    new = record { name = name; sort = 0 }
+
+    one_more : AllByRecursion (λ (y : Variable). y.sort ≡ 0) (found ++ record { name = name; sort = 0 } ∷ [])
+    one_more = all_last found (record { name = name; sort = 0 }) good.sorts refl
+
+    by : (a b : Bool) → (length found == 250) ≡ b → AreIndividuals (cond (a || b) found (found ++ record { name = name; sort = 0 } ∷ []))
+    by true b e = good
+    by false true e = good
+    by false false e =
+        let open_ : length found ≡ 250 → ⊥ = λ full. grind (arith, nat_tests) in
+        let room : length found < 250 = omega (arith, good.few, open_) in
+        record { sorts = one_more; few = rw length-append (omega (arith, room)) }
+
+turns_fit : {X : Type 0} (f : X → List Variable → List Variable) (xs : List X) → AllByRecursion (λ x. Noting (f x)) xs → Noting (in_turn (map f xs))
+turns_fit f [] all found good = good
+turns_fit f (x ∷ xs) all found good = turns_fit f xs all.1 (f x found) (all.0 found good)
+
+term_notes : (t : STerm) → Noting (variables_of_term t)
+term_notes = term_induction (λ t. Noting (variables_of_term t)) (record {
+  var = λ name found good. rw of_term-Var (noted_fits name found good);
+  app = λ f ts all found good. rw of_term-App (turns_fit variables_of_term ts all found good);
+})
+
+terms_note : (ts : List STerm) → AllByRecursion (λ t. Noting (variables_of_term t)) ts
+terms_note [] = tt
+terms_note (t ∷ ts) = (term_notes t, terms_note ts)
+
+form_notes : (a : Surface) → Noting (variables_of a)
+form_notes = form_induction (λ a. Noting (variables_of a)) (record {
+  truth = λ found good. rw of-True good;
+  falsity = λ found good. rw of-False good;
+  atom = λ p ts found good. rw of-Atom (turns_fit variables_of_term ts (terms_note ts) found good);
+  eq = λ l r found good. rw of-Eq (term_notes r (variables_of_term l found) (term_notes l found good));
+  neq = λ l r found good. rw of-Neq (term_notes r (variables_of_term l found) (term_notes l found good));
+  not = λ a one found good. rw of-Not (one found good);
+  and = λ as_ all found good. rw of-And (turns_fit variables_of as_ all found good);
+  or = λ as_ all found good. rw of-Or (turns_fit variables_of as_ all found good);
+  binary = λ o a b one two found good. rw of-Binary (two (variables_of a found) (one found good));
+  bind = λ quant xs a one found good. rw of-Bind (one found good);
+})
+
+individuals_known : (v : Vocabulary) (found : List Variable) → 0 < length v.sorts → AllByRecursion (λ (x : Variable). x.sort ≡ 0) found → AllByRecursion (λ (x : Variable). x.sort < length v.sorts) found
+individuals_known v [] some all = tt
+individuals_known v (x ∷ found) some all = (omega (arith, some, all.0), individuals_known v found some all.1)
+
+-- ---- whole formulas
+
+-- The formula is closed and well-sorted, and the vocabulary only grew.
+pub record IsWhole (v w : Vocabulary) (a : Form) : Type 0 where
+  pub grows : Grows v w
+  pub sorted : Sorted w [] a
+
+whole : (v w : Vocabulary) (a : Form) → Grows v w → binder_depth a ≤ 500 → is_sorted w [] a ≡ true → IsWhole v w a
+whole v w a grows depth fits = record {
+  grows = grows;
+  sorted = record { scope_fits = record { few_variables = omega arith; sorts_exist = tt }; few_binders = omega (arith, depth); fits = fits };
+}
+
+counted_ok : (o : Outcome SortRule State Form) (a : Form) (w : Vocabulary) → without_count o ≡ Ok (a, w) → (t : State) × (o ≡ Ok (a, t)) × (t.vocabulary ≡ w)
+counted_ok (Err x) a w e = absurd (cc)
+counted_ok (Ok p) a w e = at_ok {E = SortRule} (λ b u. (t : State) × (◌≡◌ {A = Outcome SortRule State Form} (Ok p) (Ok (b, t))) × (t.vocabulary ≡ u)) p.0 a p.1.vocabulary w e (p.1, refl, refl)
+
+sentence_fits : (names : List Text) (f : Surface) (v w : Vocabulary) (a : Form) → 0 < length v.sorts → sentence names f v ≡ Ok (a, w) → IsWhole v w a
+sentence_fits names f v w a some e =
+    let here : Setting = record { declared = names; outside = FreeVariable } in
+    let start : State = record { vocabulary = v; bound = 0 } in
+    let inner = counted_ok (denoted_form here f [] start) a w e in
+    let good = forms_fit f here [] start inner.0 a some inner.1 in
+    let few : inner.0.bound ≤ 250 = good.few (omega arith) in
+    subst (λ (u : Vocabulary). IsWhole v u a) inner.2 (whole v inner.0.vocabulary a good.grows (omega (arith, good.depth, few)) good.fits)
+
+clause_fits : (names : List Text) (f : Surface) (v w : Vocabulary) (a : Form) → 0 < length v.sorts → clause names f v ≡ Ok (a, w) → IsWhole v w a
+clause_fits names f v w a some e =
+    let here : Setting = record { declared = names; outside = Variables } in
+    let start : State = record { vocabulary = v; bound = 0 } in
+    let scope = variables_of f [] in
+    let vars = form_notes f [] (record { sorts = tt; few = omega arith }) in
+    let last = mapped_ok (closed q.All scope) (without_count (denoted_form here f scope start)) a w e in
+    let inner = counted_ok (denoted_form here f scope start) last.0 w last.1 in
+    let good = forms_fit f here scope start inner.0 last.0 some inner.1 in
+    let few : inner.0.bound ≤ 250 = good.few (omega arith) in
+    let deep : binder_depth (closed q.All scope last.0) ≤ 500 = omega (arith, closed_depth q.All scope last.0, good.depth, few, vars.few) in
+    let known = individuals_known inner.0.vocabulary scope (omega (arith, some, good.grows.more_sorts)) vars.sorts in
+    let fits : is_sorted inner.0.vocabulary [] (closed q.All scope last.0) ≡ true = closed_fits q.All scope [] inner.0.vocabulary last.0 known good.fits in
+    subst (λ (u : Vocabulary). IsWhole v u a) inner.2 (subst (IsWhole v inner.0.vocabulary) last.2 (whole v inner.0.vocabulary (closed q.All scope last.0) good.grows deep fits))
+
+formula_fits : (l : Lang) (names : List Text) (f : Surface) (v w : Vocabulary) (a : Form) → 0 < length v.sorts → formula l names f v ≡ Ok (a, w) → IsWhole v w a
+formula_fits lang.Cnf names f v w a some e = clause_fits names f v w a some e
+formula_fits lang.Fof names f v w a some e = sentence_fits names f v w a some e
+formula_fits lang.Tff names f v w a some e = sentence_fits names f v w a some e
+
+-- ---- the lines of other roles
+
+abbrev IsLineFit : Vocabulary → Option Line → Type 0
+IsLineFit v None = Unit {0}
+IsLineFit v (Some l) = Sorted v [] l.form
+
+-- What an item gives is well-sorted.
+pub record IsItemFit (v w : Vocabulary) (found : Option Line) : Type 0 where
+  pub grows : Grows v w
+  pub fits : IsLineFit w found
+
+abbrev ReadingOutcome : Type 0
+ReadingOutcome = Outcome SortRule Reading Form
+
+body_fits : (names : List Text) (l : Annotated) (b : Body) (v w : Vocabulary) (a : Form) → 0 < length v.sorts → body_form names l b v ≡ Ok (a, w) → IsWhole v w a
+body_fits names l (body.Logic f) v w a some e = formula_fits l.lang names f v w a some e
+body_fits names l (body.Typing t) v w a some e = absurd (cc)
+
+reading_ok : (conjectured : Bool) (o : Outcome SortRule Vocabulary Form) (a : Form) (t : Reading) → reading conjectured o ≡ Ok (a, t) → o ≡ Ok (a, t.vocabulary)
+reading_ok conjectured (Err x) a t e = absurd (cc)
+reading_ok conjectured (Ok p) a t e = at_ok {E = SortRule} (λ b (u : Reading). ◌≡◌ {A = Outcome SortRule Vocabulary Form} (Ok p) (Ok (b, u.vocabulary))) p.0 a (record { vocabulary = p.1; conjectured = conjectured }) t e refl
+
+line_form_fits : (kind : TextKind) (names : List Text) (l : Annotated) (s t : Reading) (a : Form) → 0 < length s.vocabulary.sorts → line_form kind names l s ≡ Ok (a, t) → IsWhole s.vocabulary t.vocabulary a
+line_form_fits kind names l s t a some e = by (is_single kind && (is_conjecture l.role && s.conjectured)) e
+  where
+    by : (b : Bool) → cond b (Err TwoConjectures) (reading (is_conjecture l.role || s.conjectured) (body_form names l l.body s.vocabulary)) ≡ Ok (a, t) → IsWhole s.vocabulary t.vocabulary a
+    by true k = absurd (cc)
+    by false k = body_fits names l l.body s.vocabulary t.vocabulary a some (reading_ok (is_conjecture l.role || s.conjectured) (body_form names l l.body s.vocabulary) a t k)
+
+at_line_ok : {S A : Type 0} (l : Annotated) (o : Outcome SortRule S A) (x : A) (t : S) → at_line l o ≡ Ok (x, t) → o ≡ Ok (x, t)
+at_line_ok {S = S} {A = A} l (Ok p) x t e = at_ok {E = SortFault} (λ y u. ◌≡◌ {A = Outcome SortRule S A} (Ok p) (Ok (y, u))) p.0 x p.1 t e refl
+at_line_ok l (Err r) x t e = absurd (cc)
+
+line_fits : (kind : TextKind) (names : List Text) (number : ℕ) (l : Annotated) (s t : Reading) (found : Option Line) → 0 < length s.vocabulary.sorts → line kind names number l s ≡ Ok (found, t) → IsItemFit s.vocabulary t.vocabulary found
+line_fits kind names number l s t found some e = by (is_type l.role) e
+  where
+    nothing : IsItemFit s.vocabulary s.vocabulary None
+    nothing = record { grows = grows_not s.vocabulary; fits = tt }
+
+    by : (b : Bool) → ◌≡◌ {A = Outcome SortFault Reading (Option Line)} (cond b (Ok (None, s)) (at_line l (mapped (λ form. Some (line_of number l form)) (line_form kind names l s)))) (Ok (found, t)) → IsItemFit s.vocabulary t.vocabulary found
+    by true k = at_ok {E = SortFault} (λ x (u : Reading). IsItemFit s.vocabulary u.vocabulary x) None found s t k nothing
+    by false k =
+        let some_line : Form → Option Line = λ form. Some (line_of number l form) in
+        let inner = mapped_ok some_line (line_form kind names l s) found t (at_line_ok l (mapped some_line (line_form kind names l s)) found t k) in
+        let good = line_form_fits kind names l s t inner.0 some inner.1 in
+        subst (IsItemFit s.vocabulary t.vocabulary) inner.2 (record { grows = good.grows; fits = good.sorted })
+
+item_fits : (kind : TextKind) (names : List Text) (number : ℕ) (i : Item) (s t : Reading) (found : Option Line) → 0 < length s.vocabulary.sorts → line_item kind names number i s ≡ Ok (found, t) → IsItemFit s.vocabulary t.vocabulary found
+item_fits kind names number (it.Formula l) s t found some e = line_fits kind names number l s t found some e
+item_fits kind names number (it.Comment text) s t found some e = at_ok {E = SortFault} (λ x (u : Reading). IsItemFit s.vocabulary u.vocabulary x) None found s t e (record { grows = grows_not s.vocabulary; fits = tt })
+item_fits kind names number (it.Include i) s t found some e = at_ok {E = SortFault} (λ x (u : Reading). IsItemFit s.vocabulary u.vocabulary x) None found s t e (record { grows = grows_not s.vocabulary; fits = tt })
+
+abbrev LinesFit : Vocabulary → List Line → Type 0
+LinesFit v lines = AllByRecursion (λ (l : Line). Sorted v [] l.form) lines
+
+-- What items give is well-sorted.
+pub record AreItemsFit (v w : Vocabulary) (lines : List Line) : Type 0 where
+  pub grows : Grows v w
+  pub fits : LinesFit w lines
+
+with_fits : (v w : Vocabulary) → Grows v w → (found : Option Line) (lines : List Line) → IsLineFit v found → LinesFit w lines → LinesFit w (with_line found lines)
+with_fits v w grows None lines one all = all
+with_fits v w grows (Some l) lines one all = (grown_sorted v w grows 2147483647 [] l.form one, all)
+
+lines_fit : (kind : TextKind) (names : List Text) (number : ℕ) (items : List Item) (s t : Reading) (lines : List Line) → 0 < length s.vocabulary.sorts → lines_from kind names number items s ≡ Ok (lines, t) → AreItemsFit s.vocabulary t.vocabulary lines
+lines_fit kind names number [] s t lines some e = at_ok {E = SortFault} (λ (ls : List Line) (u : Reading). AreItemsFit s.vocabulary u.vocabulary ls) [] lines s t e (record { grows = grows_not s.vocabulary; fits = tt })
+lines_fit kind names number (i ∷ items) s t lines some e =
+    let parts = then_ok (line_item kind names number i s) (λ found u. mapped (with_line found) (lines_from kind names (number + 1) items u)) lines t e in
+    let one = item_fits kind names number i s parts.1 parts.0 some parts.2 in
+    let more = mapped_ok (with_line parts.0) (lines_from kind names (number + 1) items parts.1) lines t parts.3 in
+    let rest = lines_fit kind names (number + 1) items parts.1 t more.0 (omega (arith, some, one.grows.more_sorts)) more.1 in
+    subst (AreItemsFit s.vocabulary t.vocabulary) more.2 (record {
+      grows = grows_on s.vocabulary parts.1.vocabulary t.vocabulary one.grows rest.grows;
+      fits = with_fits parts.1.vocabulary t.vocabulary rest.grows parts.0 more.0 one.fits rest.fits;
+    })
+
+-- ---- type lines
+
+sort_grows : (word : Text) (o : Option ℕ) (v w : Vocabulary) (n : ℕ) → sort_at word o v ≡ Ok (n, w) → Grows v w
+sort_grows word (Some number) v w n e = at_ok {E = SortRule} (λ (m : ℕ) u. Grows v u) number n v w e (grows_not v)
+sort_grows word None v w n e = by (length v.sorts == 65536) e
+  where
+    by : (b : Bool) → ◌≡◌ {A = Outcome SortRule Vocabulary ℕ} (cond b (Err (Limit Sorts)) (Ok (length v.sorts, record v { sorts = v.sorts ++ word ∷ [] }))) (Ok (n, w)) → Grows v w
+    by true k = absurd (cc)
+    by false k = at_ok {E = SortRule} (λ (m : ℕ) u. Grows v u) (length v.sorts) n (record v { sorts = v.sorts ++ word ∷ [] }) w k (more_sorts_grow v word)
+
+symbol_grows : (s : Symbol) (v w : Vocabulary) (n : ℕ) → with_symbol s v ≡ Ok (n, w) → Grows v w
+symbol_grows s v w n e = by (length v.symbols == 16777216) e
+  where
+    by : (b : Bool) → ◌≡◌ {A = Outcome SortRule Vocabulary ℕ} (cond b (Err (Limit Symbols)) (Ok (length v.symbols, record v { symbols = v.symbols ++ s ∷ [] }))) (Ok (n, w)) → Grows v w
+    by true k = absurd (cc)
+    by false k = at_ok {E = SortRule} (λ (m : ℕ) u. Grows v u) (length v.symbols) n (record v { symbols = v.symbols ++ s ∷ [] }) w k (more_symbols_grow v s)
+
+declared_grows : (s : Symbol) (v w : Vocabulary) (n : ℕ) → declared_symbol s v ≡ Ok (n, w) → Grows v w
+declared_grows s v w n e = by (list_any (differs s) v.symbols) e
+  where
+    at : (o : Option ℕ) → placed s o v ≡ Ok (n, w) → Grows v w
+    at (Some number) k = at_ok {E = SortRule} (λ (m : ℕ) u. Grows v u) number n v w k (grows_not v)
+    at None k = symbol_grows s v w n k
+
+    by : (b : Bool) → cond b (Err Redeclared) (placed s (found_symbol v s.name s.kind (length s.args)) v) ≡ Ok (n, w) → Grows v w
+    by true k = absurd (cc)
+    by false k = at (found_symbol v s.name s.kind (length s.args)) k
+
+-- sorts that are looked up leave the vocabulary as it is
+named_same : (sort : SortName) (v w : Vocabulary) (n : ℕ) → named_sort sort v ≡ Ok (n, w) → w ≡ v
+named_same name.Individual v w n e = at_ok {E = SortRule} (λ (m : ℕ) u. u ≡ v) 0 n v w e refl
+named_same name.Truth v w n e = absurd (cc)
+named_same (name.Word word) v w n e = by (found_sort v word) e
+  where
+    by : (o : Option ℕ) → known o v ≡ Ok (n, w) → w ≡ v
+    by None k = absurd (cc)
+    by (Some m) k = at_ok {E = SortRule} (λ (j : ℕ) u. u ≡ v) m n v w k refl
+
+sorts_same : (args : List SortName) (place : ℕ) (v w : Vocabulary) (found : List ℕ) → each (λ p. named_sort) place args v ≡ Ok (found, w) → w ≡ v
+sorts_same [] place v w found e = at_ok {E = SortRule} (λ (ns : List ℕ) u. u ≡ v) [] found v w e refl
+sorts_same (arg ∷ args) place v w found e =
+    let parts = then_ok (named_sort arg v) (λ y u. mapped (λ ys. y ∷ ys) (each (λ p. named_sort) (place + 1) args u)) found w e in
+    let more = mapped_ok (λ (ys : List ℕ). parts.0 ∷ ys) (each (λ p. named_sort) (place + 1) args parts.1) found w parts.3 in
+    sorts_same args (place + 1) parts.1 w more.0 more.1 ∙ named_same arg v parts.1 parts.0 parts.2
+
+result_same : (sort : SortName) (v w : Vocabulary) (n : ℕ) → result_named sort v ≡ Ok (n, w) → w ≡ v
+result_same name.Truth v w n e = at_ok {E = SortRule} (λ (m : ℕ) u. u ≡ v) 0 n v w e refl
+result_same name.Individual v w n e = at_ok {E = SortRule} (λ (m : ℕ) u. u ≡ v) 0 n v w e refl
+result_same (name.Word word) v w n e = named_same (name.Word word) v w n e
+
+symbol_same : (word : Text) (args : List SortName) (result : SortName) (v w : Vocabulary) (s : Symbol) → symbol_named word args result v ≡ Ok (s, w) → w ≡ v
+symbol_same word args result v w s e =
+    let parts = then_ok (each (λ p. named_sort) 0 args v) (λ sorts u. mapped (symbol_of word (result_kind result) sorts) (result_named result u)) s w e in
+    let inner = mapped_ok (symbol_of word (result_kind result) parts.0) (result_named result parts.1) s w parts.3 in
+    result_same result parts.1 w inner.0 inner.1 ∙ sorts_same args 0 v parts.1 parts.0 parts.2
+
+declaring_ok : (names : List Text) (o : Outcome SortRule Vocabulary ℕ) (done : Unit {0}) (d : Declared) → declaring names o ≡ Ok (done, d) → (n : ℕ) × (o ≡ Ok (n, d.vocabulary))
+declaring_ok names (Err x) done d e = absurd (cc)
+declaring_ok names (Ok p) done d e = at_ok {E = SortRule} (λ (k : Unit {0}) (u : Declared). (n : ℕ) × (◌≡◌ {A = Outcome SortRule Vocabulary ℕ} (Ok p) (Ok (n, u.vocabulary)))) tt done (record { vocabulary = p.1; names = names }) d e (p.0, refl)
+
+typed_grows : (word : Text) (s : Shape) (d e : Declared) (done : Unit {0}) → typed word s d ≡ Ok (done, e) → Grows d.vocabulary e.vocabulary
+typed_grows word shape.Sort d e done k =
+    let inner = declaring_ok d.names (declared_sort word d.vocabulary) done e k in
+    sort_grows word (found_sort d.vocabulary word) d.vocabulary e.vocabulary inner.0 inner.1
+typed_grows word (shape.Symbol args result) d e done k =
+    let inner = declaring_ok (with_name word d.names) (and_then (symbol_named word args result d.vocabulary) declared_symbol) done e k in
+    let parts = then_ok (symbol_named word args result d.vocabulary) declared_symbol inner.0 e.vocabulary inner.1 in
+    subst (λ (u : Vocabulary). Grows u e.vocabulary) (symbol_same word args result d.vocabulary parts.1 parts.0 parts.2) (declared_grows parts.0 parts.1 e.vocabulary inner.0 parts.3)
+
+body_grows : (b : Body) (d e : Declared) (done : Unit {0}) → typed_body b d ≡ Ok (done, e) → Grows d.vocabulary e.vocabulary
+body_grows (body.Typing t) d e done k = typed_grows t.name t.shape d e done k
+body_grows (body.Logic f) d e done k = absurd (cc)
+
+type_item_grows : (i : Item) (d e : Declared) (done : Unit {0}) → type_item i d ≡ Ok (done, e) → Grows d.vocabulary e.vocabulary
+type_item_grows (it.Comment text) d e done k = at_ok {E = SortFault} (λ (u : Unit {0}) (f : Declared). Grows d.vocabulary f.vocabulary) tt done d e k (grows_not d.vocabulary)
+type_item_grows (it.Include i) d e done k = at_ok {E = SortFault} (λ (u : Unit {0}) (f : Declared). Grows d.vocabulary f.vocabulary) tt done d e k (grows_not d.vocabulary)
+type_item_grows (it.Formula l) d e done k = by (is_type l.role) k
+  where
+    by : (b : Bool) → ◌≡◌ {A = Outcome SortFault Declared (Unit {0})} (cond b (at_line l (typed_body l.body d)) (Ok (tt, d))) (Ok (done, e)) → Grows d.vocabulary e.vocabulary
+    by true m = body_grows l.body d e done (at_line_ok l (typed_body l.body d) done e m)
+    by false m = at_ok {E = SortFault} (λ (u : Unit {0}) (f : Declared). Grows d.vocabulary f.vocabulary) tt done d e m (grows_not d.vocabulary)
+
+type_lines_grow : (items : List Item) (d e : Declared) (done : Unit {0}) → type_lines items d ≡ Ok (done, e) → Grows d.vocabulary e.vocabulary
+type_lines_grow [] d e done k = at_ok {E = SortFault} (λ (u : Unit {0}) (f : Declared). Grows d.vocabulary f.vocabulary) tt done d e k (grows_not d.vocabulary)
+type_lines_grow (i ∷ items) d e done k =
+    let parts = then_ok (type_item i d) (λ u f. type_lines items f) done e k in
+    grows_on d.vocabulary parts.1.vocabulary e.vocabulary (type_item_grows i d parts.1 parts.0 parts.2) (type_lines_grow items parts.1 e done parts.3)
+
+-- ---- the whole text
+
+only_ok : (o : Outcome SortFault Reading (List Line)) (lines : List Line) (w : Vocabulary) → only_vocabulary o ≡ Ok (lines, w) → (t : Reading) × (o ≡ Ok (lines, t)) × (t.vocabulary ≡ w)
+only_ok (Err x) lines w e = absurd (cc)
+only_ok (Ok p) lines w e = at_ok {E = SortFault} (λ ls u. (t : Reading) × (◌≡◌ {A = Outcome SortFault Reading (List Line)} (Ok p) (Ok (ls, t))) × (t.vocabulary ≡ u)) p.0 lines p.1.vocabulary w e (p.1, refl, refl)
+
+-- the lines are closed and well-sorted in the vocabulary behind the text, which only grew
+pub text_fits : (items : List Item) (v w : Vocabulary) (kind : TextKind) (lines : List Line) → 0 < length v.sorts → denoted items v kind ≡ Ok (lines, w) → Grows v w × AreSorted w lines
+text_fits items v w kind lines some e =
+    let start : Declared = record { vocabulary = v; names = [] } in
+    let parts = then_ok (type_lines items start) (λ done d. only_vocabulary (lines_from kind d.names 0 items (record { vocabulary = d.vocabulary; conjectured = false }))) lines w e in
+    let grew = type_lines_grow items start parts.1 parts.0 parts.2 in
+    let inner = only_ok (lines_from kind parts.1.names 0 items (record { vocabulary = parts.1.vocabulary; conjectured = false })) lines w parts.3 in
+    let good = lines_fit kind parts.1.names 0 items (record { vocabulary = parts.1.vocabulary; conjectured = false }) inner.0 lines (omega (arith, some, grew.more_sorts)) inner.1 in
+    subst (λ (u : Vocabulary). Grows v u × AreSorted u lines) inner.2
+    (grows_on v parts.1.vocabulary inner.0.vocabulary grew good.grows, All-from_recursion (λ (l : Line). Sorted inner.0.vocabulary [] l.form) lines good.fits)
+
+pub text_grows : (items : List Item) (v w : Vocabulary) (kind : TextKind) (result : Result (List Line) SortFault) → 0 < length v.sorts → Gives (denoted items v kind) result w → OnOk result (Grows v w)
+text_grows items v w kind (Ok lines) some given = (text_fits items v w kind lines some given).0
+text_grows items v w kind (Err fault) some given = tt
+
+pub text_sorted : (items : List Item) (v w : Vocabulary) (kind : TextKind) (result : Result (List Line) SortFault) → 0 < length v.sorts → Gives (denoted items v kind) result w → IfOk result (AreSorted w)
+text_sorted items v w kind (Ok lines) some given = (text_fits items v w kind lines some given).1
+text_sorted items v w kind (Err fault) some given = tt

@@ -1,0 +1,12 @@
+use Rattle.std.proofs.Common.{◌≡◌, Err, None}
+use Rattle.fof_terms.specs.Vocabulary.{found_sort}
+use Rattle.fof_terms.specs.declared.signature.SigFault.TheVariants.{Limit}
+use Rattle.sort_check.proofs.Declaring.{full_sorts}
+use Rattle.sort_check.proofs.declarations.declare_sort.Goals as goal
+
+pub returns-in-Err-Limit-clause-answers : goal.returns-in-Err-Limit-clause-answers
+returns-in-Err-Limit-clause-answers c =
+    let is : c.add_sort.result ≡ Err (Limit c.in-Err-Limit.limit) = cc in
+    let none : found_sort c.args.signature.now c.args.name.now ≡ None = cc in
+    let h = (c.add_sort.ensures.limit c.in-Err-Limit.limit).0 is in
+    full_sorts c.args.name.now c.args.signature.now c.in-Err-Limit.limit none h.0 h.1

@@ -1,0 +1,59 @@
+// What whole formulas denote.
+ghost use Rattle.std.specs.Prelude.{◌≡◌, [], length};
+ghost use Rattle.sort_check.specs.Outcomes.{Answers};
+ghost use Rattle.sort_check.specs.Denotation as spec;
+
+use crate::binding::close_to;
+use crate::fault::{SortRule, Stop};
+use crate::formulas::denote_form;
+use crate::names::Names;
+use crate::scope::Scope;
+use crate::variables::note_variables;
+use fof_terms::{Form, Signature};
+use std::alloc::Global;
+use tptp_base::{Lang, List, Quant, Surface};
+
+/// What a formula of that language denotes.
+pub fn denote_formula(
+    alloc: Global,
+    lang: Lang,
+    declared: &Names,
+    signature: &mut Signature,
+    form: &Surface,
+) -> Result<Form, Stop>
+    ensures { Answers (spec.formula lang declared.now form.now signature.old) result signature.new }
+{
+    match lang {
+        Lang::Cnf => denote_clause(alloc, declared, signature, form),
+        Lang::Fof | Lang::Tff => denote_sentence(alloc, declared, signature, form),
+    }
+}
+
+// A formula of FOF or TFF binds its variables itself.
+fn denote_sentence(
+    alloc: Global,
+    declared: &Names,
+    signature: &mut Signature,
+    form: &Surface,
+) -> Result<Form, Stop>
+    ensures { Answers (spec.sentence declared.now form.now signature.old) result signature.new }
+{
+    let mut scope = Scope::over(List::new(alloc), SortRule::FreeVariable);
+    denote_form(form, alloc, declared, signature, &mut scope)
+}
+
+// The variables of a clause are bound in front.
+fn denote_clause(
+    alloc: Global,
+    declared: &Names,
+    signature: &mut Signature,
+    form: &Surface,
+) -> Result<Form, Stop>
+    ensures { Answers (spec.clause declared.now form.now signature.old) result signature.new }
+{
+    let mut variables = List::new(alloc);
+    note_variables(form, alloc, &mut variables)?;
+    let mut scope = Scope::over(variables, SortRule::Variables);
+    let body = denote_form(form, alloc, declared, signature, &mut scope)?;
+    Ok(close_to(alloc, Quant::All, &mut scope, 0, body)?)
+}

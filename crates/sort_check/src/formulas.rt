@@ -1,0 +1,204 @@
+// What formulas denote.
+ghost use Rattle.std.specs.Prelude.{◌≡◌, ◌+◌, ◌≤◌, length, take, drop, map, IfOk, OnOk, Ok, ◌∷◌, []};
+ghost use Rattle.fof_terms.specs.declared.form.Form.{Not as not_of};
+ghost use Rattle.sort_check.specs.Outcomes.{Answers, each, mapped, and_then};
+ghost use Rattle.sort_check.specs.Denotation as spec;
+
+use crate::binding::{bound_variables, close_to};
+use crate::fault::{SortRule, Stop};
+use crate::names::Names;
+use crate::scope::Scope;
+use crate::symbols::head;
+use crate::terms::{denote_arguments, denote_term};
+use fof_terms::{Form, Kind, Signature};
+use std::alloc::Global;
+use tptp_base::{BinOp, BoundVar, Boxed, List, Memory, Quant, STerm, Surface};
+
+/// What a formula denotes.
+#[cycle(form)]
+#[tactic(auto, using(crate::specs::Equations::form_equations))]
+pub fn denote_form(
+    form: &Surface,
+    alloc: Global,
+    declared: &Names,
+    signature: &mut Signature,
+    scope: &mut Scope,
+) -> Result<Form, Stop>
+    ensures value { Answers (spec.denoted_form (spec.setting declared.now scope.old) form.now scope.old.variables (spec.state signature.old scope.old)) result (spec.state signature.new scope.new) }
+    ensures scope { OnOk result (scope.new ≡ record scope.old { bound = scope.new.bound }) }
+{
+    match form {
+        Surface::True => Ok(Form::And(List::new(alloc))),
+        Surface::False => Ok(Form::Or(List::new(alloc))),
+        Surface::Atom(name, args) => denote_atom(
+            alloc,
+            declared,
+            signature,
+            scope,
+            name.as_slice(),
+            args.as_slice(),
+        ),
+        Surface::Eq(left, right) => denote_equation(alloc, declared, signature, scope, left, right),
+        Surface::Neq(left, right) => {
+            let equation = denote_equation(alloc, declared, signature, scope, left, right)?;
+            Ok(negation(alloc, equation)?)
+        }
+        Surface::Not(body) => {
+            let body = denote_form(body.get(), alloc, declared, signature, scope)?;
+            Ok(negation(alloc, body)?)
+        }
+        Surface::And(members) => Ok(Form::And(denote_members(
+            members.as_slice(),
+            alloc,
+            declared,
+            signature,
+            scope,
+        )?)),
+        Surface::Or(members) => Ok(Form::Or(denote_members(
+            members.as_slice(),
+            alloc,
+            declared,
+            signature,
+            scope,
+        )?)),
+        Surface::Binary(operator, left, right) => {
+            let left = denote_form(left.get(), alloc, declared, signature, scope)?;
+            let left = Boxed::new(alloc, left)?;
+            let right = denote_form(right.get(), alloc, declared, signature, scope)?;
+            Ok(joined(alloc, *operator, left, right)?)
+        }
+        Surface::Bind(quant, variables, body) => {
+            denote_bound(
+                body.get(),
+                alloc,
+                declared,
+                signature,
+                scope,
+                *quant,
+                variables.as_slice(),
+            )
+        }
+    }
+}
+
+// What the members of a conjunction or a disjunction denote.
+#[cycle(form)]
+fn denote_members(
+    forms: &[Surface],
+    alloc: Global,
+    declared: &Names,
+    signature: &mut Signature,
+    scope: &mut Scope,
+) -> Result<List<Form>, Stop>
+    ensures value { Answers (each (λ place a. spec.denoted_form (spec.setting declared.now scope.old) a scope.old.variables) 0 forms.now (spec.state signature.old scope.old)) result (spec.state signature.new scope.new) }
+    ensures scope { OnOk result (scope.new ≡ record scope.old { bound = scope.new.bound }) }
+{
+    let mut found = List::new(alloc);
+    for form in forms {
+        found.push(denote_form(form, alloc, declared, signature, scope)?)?;
+    }
+    Ok(found)
+}
+
+// What a formula under a quantifier denotes.
+#[cycle(form)]
+fn denote_bound(
+    body: &Surface,
+    alloc: Global,
+    declared: &Names,
+    signature: &mut Signature,
+    scope: &mut Scope,
+    quant: Quant,
+    variables: &[BoundVar],
+) -> Result<Form, Stop>
+    ensures value { Answers (spec.bound (spec.setting declared.now scope.old) quant variables.now body.now scope.old.variables (spec.state signature.old scope.old)) result (spec.state signature.new scope.new) }
+    ensures scope { OnOk result (scope.new ≡ record scope.old { bound = scope.new.bound }) }
+{
+    let outer = scope.len();
+    let inner = bound_variables(alloc, signature, scope, variables)?;
+    scope.open(alloc, inner)?;
+    let body = denote_form(body, alloc, declared, signature, scope)?;
+    Ok(close_to(alloc, quant, scope, outer, body)?)
+}
+
+// What an atom denotes.
+fn denote_atom(
+    alloc: Global,
+    declared: &Names,
+    signature: &mut Signature,
+    scope: &Scope,
+    name: &[u8],
+    args: &[STerm],
+) -> Result<Form, Stop>
+    ensures { Answers (spec.beside scope.now.bound (spec.atom (spec.setting declared.now scope.now) scope.now.variables name.now args.now signature.old)) result (spec.state signature.new scope.now) }
+{
+    let predicate = head(
+        alloc,
+        declared,
+        signature,
+        name,
+        Kind::Predicate,
+        args.len(),
+    )?;
+    let args = denote_arguments(args, alloc, declared, signature, scope, predicate)?;
+    Ok(Form::Atom(predicate, args))
+}
+
+// What an equation denotes: both sides, then their sorts.
+fn denote_equation(
+    alloc: Global,
+    declared: &Names,
+    signature: &mut Signature,
+    scope: &Scope,
+    left: &STerm,
+    right: &STerm,
+) -> Result<Form, Stop>
+    ensures { Answers (spec.beside scope.now.bound (spec.equation (spec.setting declared.now scope.now) scope.now.variables left.now right.now signature.old)) result (spec.state signature.new scope.now) }
+{
+    let left = denote_term(left, alloc, declared, signature, scope)?;
+    let right = denote_term(right, alloc, declared, signature, scope)?;
+    if left.sort != right.sort {
+        return Err(Stop::Rule(SortRule::WrongSort));
+    }
+    Ok(Form::Eq(left.term, right.term))
+}
+
+/// The negation of a formula.
+pub fn negation(alloc: Global, form: Form) -> Result<Form, Memory>
+    ensures { IfOk result (λ negated. negated ≡ not_of form) }
+{
+    Ok(Form::Not(Boxed::new(alloc, form)?))
+}
+
+// A connective between two formulas.
+fn joined(alloc: Global, operator: BinOp, left: Boxed<Form>, right: Form) -> Result<Form, Memory>
+    ensures { IfOk result (λ whole. whole ≡ spec.joined operator left right) }
+{
+    match operator {
+        BinOp::Imp => Ok(Form::Imp(left, Boxed::new(alloc, right)?)),
+        BinOp::RevImp => Ok(Form::Imp(Boxed::new(alloc, right)?, left)),
+        BinOp::Iff => Ok(Form::Iff(left, Boxed::new(alloc, right)?)),
+        BinOp::Xor => {
+            let right = Boxed::new(alloc, right)?;
+            negation(alloc, Form::Iff(left, right))
+        }
+        BinOp::Nor => {
+            let both = pair(alloc, left, right)?;
+            negation(alloc, Form::Or(both))
+        }
+        BinOp::Nand => {
+            let both = pair(alloc, left, right)?;
+            negation(alloc, Form::And(both))
+        }
+    }
+}
+
+// The list of two.
+fn pair(alloc: Global, left: Boxed<Form>, right: Form) -> Result<List<Form>, Memory>
+    ensures { IfOk result (λ both. both ≡ left ∷ right ∷ []) }
+{
+    let mut both = List::new(alloc);
+    both.push(left.into_inner())?;
+    both.push(right)?;
+    Ok(both)
+}

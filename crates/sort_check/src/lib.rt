@@ -1,0 +1,26 @@
+//! What the formulas of a text denote: the first fault against the rules of sorts, or formulas with bound variables as
+//! distances over a signature. Also the formulas that a problem gives to its derivation.
+#![tactic(auto)]
+
+mod binding;
+mod clauses;
+mod declarations;
+mod denotation;
+mod fault;
+mod formulas;
+mod giving;
+mod line;
+mod names;
+mod namesakes;
+mod scope;
+mod symbols;
+mod terms;
+mod variables;
+
+pub use denotation::denote;
+pub use fault::{SortFault, SortRule};
+pub use giving::given;
+pub use line::{GivenEntry, Line, TextKind};
+
+#[cfg(test)]
+mod tests;

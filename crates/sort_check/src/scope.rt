@@ -1,0 +1,121 @@
+// The variables that stand for something at a place in a formula.
+ghost use Rattle.std.specs.Prelude.{◌≡◌, ◌+◌, ◌≤◌, ◌<◌, ◌++◌, ◌∷◌, [], length, IfOk, OnOk, OnErr, MatchOption, MatchResult};
+ghost use Rattle.sort_check.specs.declared.fault.SortRule.TheVariants.{Variables};
+ghost use Rattle.sort_check.specs.declared.fault.Stop.TheVariants.{Rule};
+ghost use Rattle.sort_check.specs.Denotation.{nearest};
+
+use crate::fault::{SortRule, Stop};
+use fof_terms::SortId;
+use std::alloc::{AllocError, Global};
+use std::marker::Model;
+use tptp_base::{List, Text};
+
+/// The most bound variables of a formula, and the most variables of a clause.
+pub const MAX_VARIABLES: u32 = 250;
+
+/// A variable that a binder binds, and its sort.
+#[derive(Drop)]
+pub struct Variable {
+    pub name: Text,
+    pub sort: SortId,
+}
+
+/// The variables in scope, the outermost first, how many the formula has bound so far, and the fault of a variable that
+/// is not in scope.
+#[derive(Drop)]
+pub struct Scope {
+    variables: List<Variable>,
+    bound: u32,
+    outside: SortRule,
+}
+
+impl Model for Scope {
+    ghost use Rattle.sort_check.specs.Reach.{Reach, IsReach};
+
+    ghost Value = { Reach };
+
+    ghost view = { λ s. record { variables = s.variables; bound = s.bound; outside = s.outside } };
+
+    ghost invariant = { λ s. IsReach (record { variables = s.variables; bound = s.bound; outside = s.outside }) };
+}
+
+impl Scope {
+    /// The scope of a formula over these variables.
+    pub fn over(variables: List<Variable>, outside: SortRule) -> Scope
+        requires { length variables ≤ 250 }
+        ensures { result ≡ record { variables = variables; bound = 0; outside = outside } }
+    {
+        Scope {
+            variables,
+            bound: 0,
+            outside,
+        }
+    }
+
+    /// The fault of a variable that is not in scope.
+    pub fn outside(&self) -> SortRule
+        ensures { result ≡ self.now.outside }
+    {
+        self.outside
+    }
+
+    /// How many variables are in scope.
+    pub fn len(&self) -> usize
+        ensures value { result ≡ length self.now.variables }
+        ensures few { length self.now.variables ≤ self.now.bound + 250 }
+    {
+        self.variables.len()
+    }
+
+    /// The innermost variable of that name: how many binders stand within its own, and its sort.
+    pub fn find(&self, name: &[u8]) -> Option<(u32, SortId)>
+        ensures { result ≡ nearest self.now.variables name.now }
+    {
+        innermost(self.variables.as_slice(), name)
+    }
+
+    /// Counts a further bound variable, unless there are 250.
+    pub fn count(&mut self) -> Result<(), Stop>
+        ensures ok { OnOk result ((self.old.bound < 250) × (self.new ≡ record self.old { bound = self.old.bound + 1 })) }
+        ensures err { OnErr result ((self.old.bound ≡ 250) × (result ≡ Err (Rule Variables))) }
+    {
+        if self.bound >= MAX_VARIABLES {
+            return Err(Stop::Rule(SortRule::Variables));
+        }
+        self.bound += 1;
+        Ok(())
+    }
+
+    /// Further variables, each within those before it.
+    pub fn open(&mut self, alloc: Global, more: List<Variable>) -> Result<(), AllocError>
+        requires { length self.old.variables + length more ≤ self.old.bound + 250 }
+        ensures { OnOk result (self.new ≡ record self.old { variables = self.old.variables ++ more }) }
+    {
+        let mut variables = std::mem::replace(&mut self.variables, List::new(alloc));
+        variables.append(more)?;
+        self.variables = variables;
+        Ok(())
+    }
+
+    /// Takes the innermost variable out.
+    pub fn close(&mut self) -> Option<Variable>
+        ensures { MatchOption result ((self.old.variables ≡ []) × (self.new ≡ self.old))
+            (λ last. self.old ≡ record self.new { variables = self.new.variables ++ last ∷ [] }) }
+    {
+        self.variables.pop()
+    }
+}
+
+// The last variable of that name: how many stand behind it, and its sort.
+fn innermost(variables: &[Variable], name: &[u8]) -> Option<(u32, SortId)>
+    requires { length variables.now ≤ 500 }
+    ensures { result ≡ nearest variables.now name.now }
+{
+    let mut found = None;
+    for i in 0..variables.len() {
+        if variables[i].name.as_slice() == name {
+            found = Some(((variables.len() - 1 - i) as u32, variables[i].sort));
+        }
+    }
+    found
+}

@@ -1,0 +1,17 @@
+use Rattle.std.proofs.Common.{ap}
+use Rattle.tptp_tool.specs.Words.{Parse, Check, texts, request_of, task_of}
+use Rattle.tptp_tool.proofs.Checks.{check_asked}
+use Rattle.tptp_tool.proofs.Requests.{asked_missing}
+use Rattle.tptp_tool.proofs.run.run_words.Goals as goal
+
+pub returns-in-Parse-clause-missing : goal.returns-in-Parse-clause-missing
+returns-in-Parse-clause-missing g c =
+    asked_missing _ (g.S.Store.files c.args.store.now) (texts c.args.words.now) (request_of c.in-Some.command) (Parse c.in-Parse.file.now) c.in-Some.ensures.some (ap task_of c.in-Parse.is) c.parse.result c.parse.ensures.missing
+
+pub returns-in-Check-clause-missing : goal.returns-in-Check-clause-missing
+returns-in-Check-clause-missing g c =
+    asked_missing _ (g.S.Store.files c.args.store.now) (texts c.args.words.now) (request_of c.in-Some.command) (Check c.in-Check.problem.now c.in-Check.log.now) c.in-Some.ensures.some (ap task_of c.in-Check.is) c.check.result c.check.ensures.missing
+
+pub returns-in-Check-clause-ends : goal.returns-in-Check-clause-ends
+returns-in-Check-clause-ends g c =
+    check_asked (g.S.Store.files c.args.store.now) (texts c.args.words.now) (request_of c.in-Some.command) c.in-Check.problem.now c.in-Check.log.now (g.L.Sink.taken c.args.log.now) c.check.result c.in-Some.ensures.some (ap task_of c.in-Check.is) c.check.ensures.ends
