@@ -81,10 +81,10 @@ equation_fits : (v : Vocabulary) (scope : List ℕ) (f : Bool) (l r : Term) → 
 equation_fits v scope false l r h = h
 equation_fits v scope true l r h = (h.1, h.0)
 
-no_lits : (v : Vocabulary) (scope : List ℕ) → AreSorted v scope []
+pub no_lits : (v : Vocabulary) (scope : List ℕ) → AreSorted v scope []
 no_lits v scope = record { fits = All-nil (λ (l : Lit). is_sorted_atom v scope l.atom ≡ true) }
 
-get_of_map : {X Y : Type 0} (f : X → Y) (xs : List X) (i : ℕ) (y : Y) → slice_get (map f xs) i ≡ Some y → (x : X) × (slice_get xs i ≡ Some x) × (f x ≡ y)
+pub get_of_map : {X Y : Type 0} (f : X → Y) (xs : List X) (i : ℕ) (y : Y) → slice_get (map f xs) i ≡ Some y → (x : X) × (slice_get xs i ≡ Some x) × (f x ≡ y)
 get_of_map f [] i y e = cc
 get_of_map f (x ∷ xs) zero y e = (x, refl, cc)
 get_of_map f (x ∷ xs) (suc i) y e = get_of_map f xs i y e

@@ -1,5 +1,7 @@
 pub mod Answers
+pub mod CoverFound
 pub mod CoverRule
+pub mod CoverSearch
 pub mod EqFactorRule
 pub mod EqFactorSearch
 pub mod Heads

@@ -3,22 +3,27 @@
 #![tactic(auto)]
 
 mod apart;
+mod cover_rule;
 mod eqfactor_rule;
 mod heads;
 mod joint;
 mod just;
 mod laws;
+mod naming;
 mod norm_rule;
 mod numbers;
+mod opening;
 mod position;
 mod ready;
 mod resolution_rule;
 mod scopes;
 mod search;
 mod sides;
+mod taking;
 mod tautology_rule;
 mod ways;
 
+pub use cover_rule::cover_step;
 pub use eqfactor_rule::eqfactor_step;
 pub use just::Just;
 pub use laws::what_is_shown_holds;
