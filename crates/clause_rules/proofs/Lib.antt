@@ -33,3 +33,10 @@ pub mod TakenSoFar
 pub mod SameTake
 pub mod CoverTop
 pub mod CoverEnds
+pub mod PlaceLaws
+pub mod PlaceCode
+pub mod PlaceSorts
+pub mod ParamodulatedAt
+pub mod ParamodulationEnds
+pub mod Indexed
+pub mod ParamodulationCode

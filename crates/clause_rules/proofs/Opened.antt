@@ -27,7 +27,7 @@ map_snoc : {X Y : Type 0} (f : X → Y) (xs : List X) (x : X) → map f (xs ++ x
 map_snoc f [] x = refl
 map_snoc f (y ∷ xs) x = ap (λ ys. f y ∷ ys) (map_snoc f xs x)
 
-taken_snoc : {X : Type 0} (xs : List X) (i : ℕ) (x : X) → i < length xs → x ≡ get_or xs i x → take (suc i) xs ≡ take i xs ++ x ∷ []
+pub taken_snoc : {X : Type 0} (xs : List X) (i : ℕ) (x : X) → i < length xs → x ≡ get_or xs i x → take (suc i) xs ≡ take i xs ++ x ∷ []
 taken_snoc [] i x h e = absurd (omega arith)
 taken_snoc (y ∷ xs) zero x h e = ap (λ z. z ∷ []) (sym e)
 taken_snoc (y ∷ xs) (suc i) x h e = ap (λ ys. y ∷ ys) (taken_snoc xs i x (omega arith) e)

@@ -9,6 +9,8 @@ pub mod JointClauses
 pub mod Justified
 pub mod NormRule
 pub mod ParamodulationRule
+pub mod ParamodulationSearch
+pub mod PlaceSearch
 pub mod Places
 pub mod Reach
 pub mod ResolutionRule

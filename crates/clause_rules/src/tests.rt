@@ -138,8 +138,8 @@ fn joined(alloc: Global, forms: &mut List<Boxed<Form>>) -> Result<Boxed<Form>, M
     Ok(Boxed::new(alloc, Form::Or(members))?)
 }
 
-// Which of the rules gives the last formula of the row from the others: N, C, T, R and E stand for norm, cover,
-// tautology, resolution and eqfactor.
+// Which of the rules gives the last formula of the row from the others: N, C, T, R, P and E stand for norm,
+// cover, tautology, resolution, paramodulation and eqfactor.
 fn rules(alloc: Global, row: &str) -> Result<List<u8>, Memory> {
     let sig = signature(alloc)?;
     let mut parents = List::new(alloc);
@@ -164,6 +164,9 @@ fn rules(alloc: Global, row: &str) -> Result<List<u8>, Memory> {
     }
     if resolution_step(alloc, &sig, parents, &line)?.is_some() {
         found.push(b'R')?;
+    }
+    if paramodulation_step(alloc, &sig, parents, &line)?.is_some() {
+        found.push(b'P')?;
     }
     if eqfactor_step(alloc, &sig, parents, &line)?.is_some() {
         found.push(b'E')?;
@@ -194,6 +197,15 @@ fn steps(rt: HostRuntime) -> Result<(), Fail> {
         ("", "00s! 00fs~! F"),
         ("R", "00fs! 01s~10s|!! 0f0s!"),
         ("", "0f0s! 01s~01s|!! 00fs!"),
+        ("P", "cfb= cfp bp"),
+        ("P", "bcf= cfp bp"),
+        ("P", "0fa=! bfcfs acfs"),
+        ("P", "0fa=! bfcfs bfas"),
+        ("", "0fa=! bfbfs aas"),
+        ("P", "ab=cp| aq bqcp|"),
+        ("", "ab=cp| aq bq"),
+        ("", "ab=~ ap bp"),
+        ("CP", "0p! ab= bp"),
         ("E", "0fa=bfc=|! ac=~bfc=|"),
         ("", "0fa=bfc=|! ac=~"),
     ] {
