@@ -40,3 +40,7 @@ pub mod ParamodulatedAt
 pub mod ParamodulationEnds
 pub mod Indexed
 pub mod ParamodulationCode
+pub mod Rewritten
+pub mod RewrittenAt
+pub mod RewriteCode
+pub mod FirstRule

@@ -133,11 +133,11 @@ one_sort_both l None e = cc
 one_sort_both None (Some y) e = cc
 one_sort_both (Some x) (Some y) e = let same : x ≡ y = grind (arith, nat_tests) in ap Some same
 
-equation_sort : (v : Vocabulary) (scope : List ℕ) (flipped : Bool) (l r : Term) → is_sorted_atom v scope (equation flipped l r).atom ≡ true → sort_of_term v scope r ≡ sort_of_term v scope l
+pub equation_sort : (v : Vocabulary) (scope : List ℕ) (flipped : Bool) (l r : Term) → is_sorted_atom v scope (equation flipped l r).atom ≡ true → sort_of_term v scope r ≡ sort_of_term v scope l
 equation_sort v scope false l r e = sym (one_sort_both (sort_of_term v scope l) (sort_of_term v scope r) e)
 equation_sort v scope true l r e = one_sort_both (sort_of_term v scope r) (sort_of_term v scope l) e
 
-sorted_at : (v : Vocabulary) (scope : List ℕ) (lits : List Lit) (i : ℕ) (k : Lit) → AreSorted v scope lits → slice_get lits i ≡ Some k → is_sorted_atom v scope k.atom ≡ true
+pub sorted_at : (v : Vocabulary) (scope : List ℕ) (lits : List Lit) (i : ℕ) (k : Lit) → AreSorted v scope lits → slice_get lits i ≡ Some k → is_sorted_atom v scope k.atom ≡ true
 sorted_at v scope lits i k h at = member_of (λ (l : Lit). is_sorted_atom v scope l.atom ≡ true) lits i k (recursion_from_All (λ (l : Lit). is_sorted_atom v scope l.atom ≡ true) lits h.fits) at
 
 module _ (v : Vocabulary) (into from line : Clause) (into_fit : IsFit v into) (from_fit : IsFit v from) (line_fit : IsFit v line) (joint : Joint) (joined : IsJoined line into from joint) (i j : ℕ) (place : List ℕ) (flipped : Bool) (k : Lit) (u l r : Term) (at : slice_get joint.left i ≡ Some k) (there : lit_term_at place k ≡ Some u) (over : slice_get joint.right j ≡ Some (equation flipped l r)) where

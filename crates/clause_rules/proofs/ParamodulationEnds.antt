@@ -42,7 +42,7 @@ var_left k = term_induction _ (record {
 })
 
 -- terms with the same image have heads that match
-heads : (f g : Term → Term) → TermWalk f → TermWalk g → (t u : Term) → f t ≡ g u → heads_match t u ≡ true
+pub heads : (f g : Term → Term) → TermWalk f → TermWalk g → (t u : Term) → f t ≡ g u → heads_match t u ≡ true
 heads f g w x = term_induction _ (record {
   var = λ k u e. var_left k u;
   app = λ p ts all. term_induction _ (record {

@@ -16,6 +16,7 @@ pub mod Reach
 pub mod ResolutionRule
 pub mod ResolutionSearch
 pub mod RewriteRule
+pub mod RewriteSearch
 pub mod Settled
 pub mod Steps
 pub mod TautologyRule

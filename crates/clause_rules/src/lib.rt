@@ -17,7 +17,10 @@ mod paramodulation_rule;
 mod places;
 mod position;
 mod ready;
+mod recognising;
+mod replacing;
 mod resolution_rule;
+mod rewrite_rule;
 mod scopes;
 mod search;
 mod sides;
@@ -34,7 +37,9 @@ pub use norm_rule::norm_step;
 pub use paramodulation_rule::paramodulation_step;
 pub use position::Position;
 pub use ready::{MAX_QUANTIFIERS, are_ready, is_ready};
+pub use recognising::recognise;
 pub use resolution_rule::resolution_step;
+pub use rewrite_rule::rewrite_step;
 pub use tautology_rule::tautology_step;
 
 #[cfg(test)]

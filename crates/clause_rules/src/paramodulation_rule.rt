@@ -143,8 +143,8 @@ fn with_reading(
     }
 }
 
-// The clause of that number, if it is one.
-fn clause_in(clauses: &[Option<Clause>], at: u32) -> Option<&Clause>
+/// The clause of that number, if it is one.
+pub fn clause_in(clauses: &[Option<Clause>], at: u32) -> Option<&Clause>
     ensures { HasClause clauses.now at (option_copied result) }
 {
     let at = at as usize;
@@ -183,8 +183,8 @@ fn of_clauses(
     }
 }
 
-// Whether the terms are no two applications of different functions. Those never become equal.
-fn may_match(left: &Term, right: &Term) -> bool
+/// Whether the terms are no two applications of different functions. Those never become equal.
+pub fn may_match(left: &Term, right: &Term) -> bool
     ensures { result ≡ heads_match left.now right.now }
 {
     match (left, right) {
