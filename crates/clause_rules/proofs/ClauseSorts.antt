@@ -22,15 +22,15 @@ next None ls = None
 next (Some l) ls = option_map (λ ys. l ∷ ys) ls
 
 module _ (v : Vocabulary) where
-  abbrev LitFits : List ℕ → Lit → Type 0
+  abbrev pub LitFits : List ℕ → Lit → Type 0
   LitFits scope l = is_sorted_atom v scope l.atom ≡ true
 
   -- what a view has is well-sorted
-  record ViewFits (scope : List ℕ) (depth : ℕ) (view : View) : Type 0 where
-    atom : (b : AtomOf) → view.atom ≡ Some b → is_sorted_atom v scope b ≡ true
-    lit : (l : Lit) → view.lit ≡ Some l → LitFits scope l
-    clause : (c : Clause) → view.clause ≡ Some c → AllByRecursion (LitFits (reverse c.sorts ++ scope)) c.lits
-    depth_of : (c : Clause) → view.clause ≡ Some c → length c.sorts ≤ depth
+  pub record ViewFits (scope : List ℕ) (depth : ℕ) (view : View) : Type 0 where
+    pub atom : (b : AtomOf) → view.atom ≡ Some b → is_sorted_atom v scope b ≡ true
+    pub lit : (l : Lit) → view.lit ≡ Some l → LitFits scope l
+    pub clause : (c : Clause) → view.clause ≡ Some c → AllByRecursion (LitFits (reverse c.sorts ++ scope)) c.lits
+    pub depth_of : (c : Clause) → view.clause ≡ Some c → length c.sorts ≤ depth
 
   open_fits : (scope : List ℕ) (lits : List Lit) (c : Clause) → AllByRecursion (LitFits scope) lits → Some (open_clause lits) ≡ Some c → AllByRecursion (LitFits (reverse c.sorts ++ scope)) c.lits
   open_fits scope lits c h e = let same : open_clause lits ≡ c = cc in subst (λ (d : Clause). AllByRecursion (LitFits (reverse d.sorts ++ scope)) d.lits) same h
@@ -63,7 +63,7 @@ module _ (v : Vocabulary) where
     depth_of = λ c e. open_depth depth (alone_lit (denied a)) c e;
   }
 
-  abbrev Goal : Form → Type 0
+  abbrev pub Goal : Form → Type 0
   Goal a = (scope : List ℕ) → is_sorted v scope a ≡ true → ViewFits scope (binder_depth a) (view_of a)
 
   -- a list of literals and one more, where they are there
@@ -130,7 +130,7 @@ module _ (v : Vocabulary) where
         subst (λ (x : Clause). length x.sorts ≤ depth + 1) same (omega (arith, (h d refl).1));
   }
 
-  view_fits : (a : Form) → Goal a
+  pub view_fits : (a : Form) → Goal a
   view_fits = form_induction _ (record {
     atom = λ p ts scope e. rw view_of-Atom (atom_fits scope _ (Pred p ts) (rw is_sorted-Atom at e));
     eq = λ l r scope e. rw view_of-Eq (atom_fits scope _ (Equation l r) (rw is_sorted-Eq at e));

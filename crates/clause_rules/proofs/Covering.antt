@@ -215,7 +215,7 @@ module _ (images : List Term) where
   targets_back f (k ∷ targets) zero l e h = let same : l ≡ k = cc in subst (HasWay images) (sym (flat_map-cons f k targets)) (has_first (f k) (flat_map f targets) (subst (λ x. HasWay images (f x)) same h))
   targets_back f (k ∷ targets) (suc i) l e h = subst (HasWay images) (sym (flat_map-cons f k targets)) (has_second (f k) (flat_map f targets) (targets_back f targets i l e h))
 
-  cover_forth : (targets : List Lit) (k : Lit) → HasWay images (cover_ways targets k) → IsCovered (map L targets) (L k)
+  pub cover_forth : (targets : List Lit) (k : Lit) → HasWay images (cover_ways targets k) → IsCovered (map L targets) (L k)
   cover_forth targets k h = elim (has_parts (flat_map (lit_ways k.positive k.atom) targets) (absurd_ways k.atom k.positive) h) [
     | inl t ↦
         let found = targets_forth (lit_ways k.positive k.atom) targets t in
@@ -228,7 +228,7 @@ module _ (images : List Term) where
   get_map (k ∷ targets) zero l e = (k, refl, cc)
   get_map (k ∷ targets) (suc i) l e = get_map targets i l e
 
-  cover_back : (targets : List Lit) (k : Lit) → IsCovered (map L targets) (L k) → HasWay images (cover_ways targets k)
+  pub cover_back : (targets : List Lit) (k : Lit) → IsCovered (map L targets) (L k) → HasWay images (cover_ways targets k)
   cover_back targets k (inl c) =
       let found = get_map targets c.0 c.1 c.2 in
       has_first (flat_map (lit_ways k.positive k.atom) targets) (absurd_ways k.atom k.positive)

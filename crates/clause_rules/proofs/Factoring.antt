@@ -72,24 +72,24 @@ module _ (images : List Term) (line lits : List Lit) (i j : ℕ) (f g : Bool) (s
       ap (λ x. slice_set (map L lits) i (unequal x h.second)) first.1 ∙ ap (λ x. slice_set (map L lits) i (unequal (I t) x)) second.1 ∙ sym (map_set L lits i (unequal t w)) in
       (inl (pair_back images s u (sym first.0 ∙ second.0), tt), covers_back images line (slice_set lits i (unequal t w)) (subst (AreCovered (map L line)) changed h.covered))
 
-set_fits : (v : Vocabulary) (scope : List ℕ) (lits : List Lit) (i : ℕ) (k : Lit) → Fits v scope k.atom → AllFit v scope lits → AllFit v scope (slice_set lits i k)
+pub set_fits : (v : Vocabulary) (scope : List ℕ) (lits : List Lit) (i : ℕ) (k : Lit) → Fits v scope k.atom → AllFit v scope lits → AllFit v scope (slice_set lits i k)
 set_fits v scope [] i k h all = tt
 set_fits v scope (l ∷ lits) zero k h all = (h, all.1)
 set_fits v scope (l ∷ lits) (suc i) k h all = (all.0, set_fits v scope lits i k h all.1)
 
-equation_fits : (v : Vocabulary) (scope : List ℕ) (f : Bool) (l r : Term) → Fits v scope (equation f l r).atom → Found v scope l × Found v scope r
+pub equation_fits : (v : Vocabulary) (scope : List ℕ) (f : Bool) (l r : Term) → Fits v scope (equation f l r).atom → Found v scope l × Found v scope r
 equation_fits v scope false l r h = h
 equation_fits v scope true l r h = (h.1, h.0)
 
-no_lits : (v : Vocabulary) (scope : List ℕ) → AreSorted v scope []
+pub no_lits : (v : Vocabulary) (scope : List ℕ) → AreSorted v scope []
 no_lits v scope = record { fits = All-nil (λ (l : Lit). is_sorted_atom v scope l.atom ≡ true) }
 
-get_of_map : {X Y : Type 0} (f : X → Y) (xs : List X) (i : ℕ) (y : Y) → slice_get (map f xs) i ≡ Some y → (x : X) × (slice_get xs i ≡ Some x) × (f x ≡ y)
+pub get_of_map : {X Y : Type 0} (f : X → Y) (xs : List X) (i : ℕ) (y : Y) → slice_get (map f xs) i ≡ Some y → (x : X) × (slice_get xs i ≡ Some x) × (f x ≡ y)
 get_of_map f [] i y e = cc
 get_of_map f (x ∷ xs) zero y e = (x, refl, cc)
 get_of_map f (x ∷ xs) (suc i) y e = get_of_map f xs i y e
 
-get_lifted : {X Y : Type 0} (f : X → Y) (xs : List X) (i : ℕ) (x : X) → slice_get xs i ≡ Some x → slice_get (map f xs) i ≡ Some (f x)
+pub get_lifted : {X Y : Type 0} (f : X → Y) (xs : List X) (i : ℕ) (x : X) → slice_get xs i ≡ Some x → slice_get (map f xs) i ≡ Some (f x)
 get_lifted f [] i x e = cc
 get_lifted f (y ∷ xs) zero x e = let same : y ≡ x = cc in ap (λ z. Some (f z)) same
 get_lifted f (y ∷ xs) (suc i) x e = get_lifted f xs i x e

@@ -30,27 +30,27 @@ place_behind (x ∷ front) back k zero e = absurd (omega arith)
 place_behind (x ∷ front) back k (suc j) e = place_behind front back k j (omega arith)
 
 -- the values of a function, as a list
-abbrev listed : ℕ → (ℕ → Term) → List Term
+abbrev pub listed : ℕ → (ℕ → Term) → List Term
 listed zero f = []
 listed (suc n) f = f 0 ∷ listed n (λ k. f (suc k))
 
-listed_length : (n : ℕ) (f : ℕ → Term) → length (listed n f) ≡ n
+pub listed_length : (n : ℕ) (f : ℕ → Term) → length (listed n f) ≡ n
 listed_length zero f = refl
 listed_length (suc n) f = ap (λ k. suc k) (listed_length n (λ k. f (suc k)))
 
-listed_at : (n : ℕ) (f : ℕ → Term) (k : ℕ) (d : Term) → k < n → get_or (listed n f) k d ≡ f k
+pub listed_at : (n : ℕ) (f : ℕ → Term) (k : ℕ) (d : Term) → k < n → get_or (listed n f) k d ≡ f k
 listed_at zero f k d h = absurd (omega arith)
 listed_at (suc n) f zero d h = refl
 listed_at (suc n) f (suc k) d h = listed_at n (λ k. f (suc k)) k d (omega arith)
 
 -- the first variables stand for themselves, and the others have these images
-abbrev joined : ℕ → (ℕ → Term) → ℕ → Term
+abbrev pub joined : ℕ → (ℕ → Term) → ℕ → Term
 joined n s k = if nat_lt k n then Var k else s (k - n)
 
-joined_below : (n : ℕ) (s : ℕ → Term) (k : ℕ) → k < n → joined n s k ≡ Var k
+pub joined_below : (n : ℕ) (s : ℕ → Term) (k : ℕ) → k < n → joined n s k ≡ Var k
 joined_below n s k h = rw (lt-ltb k n h) refl
 
-joined_above : (n : ℕ) (s : ℕ → Term) (k : ℕ) → n ≤ k → joined n s k ≡ s (k - n)
+pub joined_above : (n : ℕ) (s : ℕ → Term) (k : ℕ) → n ≤ k → joined n s k ≡ s (k - n)
 joined_above n s k h = rw (le-ltb k n h) refl
 
 module _ (v : Vocabulary) (line : Clause) (scope : List ℕ) where

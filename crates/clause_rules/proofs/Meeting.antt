@@ -13,16 +13,16 @@ use Rattle.unify_terms.specs.Goals.{Ways, with_pairs, and_then, each_of, chosen_
 use Rattle.unify_terms.specs.Substitution.{IsSubstitution}
 use Rattle.clause_rules.specs.Ways.{HasWay, MeetsNeeds, goal_of_need, goal_of_needs}
 
-unifies_both : (images : List Term) (ps qs : List Pair) → Unifies images ps → Unifies images qs → Unifies images (ps ++ qs)
+pub unifies_both : (images : List Term) (ps qs : List Pair) → Unifies images ps → Unifies images qs → Unifies images (ps ++ qs)
 unifies_both images [] qs h g = g
 unifies_both images (p ∷ ps) qs h g = (h.0, unifies_both images ps qs h.1 g)
 
-unifies_parts : (images : List Term) (ps qs : List Pair) → Unifies images (ps ++ qs) → Unifies images ps × Unifies images qs
+pub unifies_parts : (images : List Term) (ps qs : List Pair) → Unifies images (ps ++ qs) → Unifies images ps × Unifies images qs
 unifies_parts images [] qs h = (tt, h)
 unifies_parts images (p ∷ ps) qs h = let rest = unifies_parts images ps qs h.1 in ((h.0, rest.0), rest.1)
 
 -- which way a choice takes
-chosen_is : (need : List (List Pair)) (k : ℕ) (cs : List ℕ) (ps : List Pair) (left : List ℕ) → chosen_way (slice_get (map asked (map Same need)) k) cs ≡ Some (ps, left)
+pub chosen_is : (need : List (List Pair)) (k : ℕ) (cs : List ℕ) (ps : List Pair) (left : List ℕ) → chosen_way (slice_get (map asked (map Same need)) k) cs ≡ Some (ps, left)
     → (way : List Pair) × (slice_get need k ≡ Some way) × (ps ≡ way) × (cs ≡ left)
 chosen_is [] k cs ps left e = cc
 chosen_is (way ∷ need) zero cs ps left e =
@@ -30,13 +30,13 @@ chosen_is (way ∷ need) zero cs ps left e =
     (way, refl, sym parts.0, parts.1)
 chosen_is (way ∷ need) (suc k) cs ps left e = chosen_is need k cs ps left e
 
-need_is : (need : List (List Pair)) (choices : List ℕ) (ps : List Pair) (left : List ℕ) → one_of (map asked (map Same need)) choices ≡ Some (ps, left) → (k : ℕ) × (slice_get need k ≡ Some ps)
+pub need_is : (need : List (List Pair)) (choices : List ℕ) (ps : List Pair) (left : List ℕ) → one_of (map asked (map Same need)) choices ≡ Some (ps, left) → (k : ℕ) × (slice_get need k ≡ Some ps)
 need_is need [] ps left e = cc
 need_is need (k ∷ cs) ps left e =
     let found = chosen_is need k cs ps left e in
     (k, subst (λ way. slice_get need k ≡ Some way) (sym found.2) found.1)
 
-has_way : (images : List Term) (need : List (List Pair)) (k : ℕ) (way : List Pair) → slice_get need k ≡ Some way → Unifies images way → HasWay images need
+pub has_way : (images : List Term) (need : List (List Pair)) (k : ℕ) (way : List Pair) → slice_get need k ≡ Some way → Unifies images way → HasWay images need
 has_way images [] k way e u = cc
 has_way images (w ∷ need) zero way e u = inl (let same : way ≡ w = cc in subst (Unifies images) same u)
 has_way images (w ∷ need) (suc k) way e u = inr (has_way images need k way e u)
@@ -47,7 +47,7 @@ with_is ps (Some r) pairs rest e =
     let parts = some_pair_parts (ps ++ r.0) pairs r.1 rest e in
     (r.0, ap (λ c. Some (r.0, c)) parts.1, sym parts.0)
 
-then_is : (o : Option (List Pair × List ℕ)) (next : Ways) (pairs : List Pair) (rest : List ℕ) → and_then o next ≡ Some (pairs, rest)
+pub then_is : (o : Option (List Pair × List ℕ)) (next : Ways) (pairs : List Pair) (rest : List ℕ) → and_then o next ≡ Some (pairs, rest)
     → (ps : List Pair) × (left : List ℕ) × (qs : List Pair) × (o ≡ Some (ps, left)) × (next left ≡ Some (qs, rest)) × (pairs ≡ ps ++ qs)
 then_is None next pairs rest e = cc
 then_is (Some r) next pairs rest e =
@@ -62,12 +62,12 @@ meets_each images (need ∷ needs) choices pairs rest e u =
     let here = need_is need choices parts.0 parts.1 (sym (ap (λ w. w choices) (asked-Any (map Same need))) ∙ parts.3) in
     (has_way images need here.0 parts.0 here.1 both.0, meets_each images needs parts.1 parts.2 rest parts.4 both.1)
 
-way_of : (images : List Term) (need : List (List Pair)) → HasWay images need → (k : ℕ) × (way : List Pair) × (slice_get need k ≡ Some way) × Unifies images way
+pub way_of : (images : List Term) (need : List (List Pair)) → HasWay images need → (k : ℕ) × (way : List Pair) × (slice_get need k ≡ Some way) × Unifies images way
 way_of images [] h = absurd h
 way_of images (way ∷ need) (inl u) = (0, way, refl, u)
 way_of images (way ∷ need) (inr h) = let rest = way_of images need h in (suc rest.0, rest.1, rest.2, rest.3)
 
-chosen_there : (need : List (List Pair)) (k : ℕ) (cs : List ℕ) (way : List Pair) → slice_get need k ≡ Some way → chosen_way (slice_get (map asked (map Same need)) k) cs ≡ Some (way, cs)
+pub chosen_there : (need : List (List Pair)) (k : ℕ) (cs : List ℕ) (way : List Pair) → slice_get need k ≡ Some way → chosen_way (slice_get (map asked (map Same need)) k) cs ≡ Some (way, cs)
 chosen_there [] k cs way e = cc
 chosen_there (w ∷ need) zero cs way e = let same : w ≡ way = cc in asked-Same w cs ∙ ap (λ x. Some (x, cs)) same
 chosen_there (w ∷ need) (suc k) cs way e = chosen_there need k cs way e

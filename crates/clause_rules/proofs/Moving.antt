@@ -27,7 +27,7 @@ module _ (v : Vocabulary) (scope : List ℕ) (by : ℕ) where
   terms_reach [] h = omega arith
   terms_reach (t ∷ ts) h = omega (arith, own_reach v scope by t h.0, terms_reach ts h.1)
 
-  reach_of : (a : AtomOf) → is_sorted_atom v scope a ≡ true → atom_reach by a ≤ length scope + by
+  pub reach_of : (a : AtomOf) → is_sorted_atom v scope a ≡ true → atom_reach by a ≤ length scope + by
   reach_of (Pred p ts) e = terms_reach ts (holds_found (sort_of_term v scope) ts (slice_get v.symbols p) e)
   reach_of (Eq l r) e =
       let sides = one_found (sort_of_term v scope l) (sort_of_term v scope r) e in

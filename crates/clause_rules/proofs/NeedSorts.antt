@@ -111,7 +111,7 @@ module _ (v : Vocabulary) (scope : List ℕ) where
   targets_fit g a (l ∷ targets) h all =
       ap (list_all (list_all (pair_sorted v scope))) (flat_map-cons (lit_ways g a) l targets) ∙ list_all-append (list_all (pair_sorted v scope)) (lit_ways g a l) (flat_map (lit_ways g a) targets) ∙ (rw (lit_fits g a l h all.0, targets_fit g a targets h all.1) refl)
 
-  cover_fits : (targets : List Lit) (k : Lit) → AllFit targets → Fits k.atom → NeedFits (cover_ways targets k)
+  pub cover_fits : (targets : List Lit) (k : Lit) → AllFit targets → Fits k.atom → NeedFits (cover_ways targets k)
   cover_fits targets k all h =
       list_all-append (list_all (pair_sorted v scope)) (flat_map (lit_ways k.positive k.atom) targets) (absurd_ways k.atom k.positive) ∙ (rw (targets_fit k.positive k.atom targets h all, absurd_fits k.atom k.positive h) refl)
 
@@ -132,7 +132,7 @@ module _ (v : Vocabulary) (scope : List ℕ) where
   pub more_fit : (first second : List (List (List Pair))) → NeedsFit first → NeedsFit second → NeedsFit (first ++ second)
   more_fit first second h g = list_all-append (list_all (list_all (pair_sorted v scope))) first second ∙ (rw (h, g) refl)
 
-  ways_sorted : (need : List (List Pair)) → list_all (goal_sorted v scope) (map Same need) ≡ list_all (list_all (pair_sorted v scope)) need
+  pub ways_sorted : (need : List (List Pair)) → list_all (goal_sorted v scope) (map Same need) ≡ list_all (list_all (pair_sorted v scope)) need
   ways_sorted [] = refl
   ways_sorted (way ∷ need) = rw (goal_sorted-Same v scope way, ways_sorted need) refl
 

@@ -1,5 +1,5 @@
 -- What an answer says: that a justification by the rule shows the step, or that the rule gives none.
-use Rattle.std.specs.Prelude.{◌≡◌, List, Option, Some, None}
+use Rattle.std.specs.Prelude.{ℕ, ◌≡◌, ◌<◌, List, Option, Some, None}
 use Rattle.fof_terms.specs.declared.form.Form.{Form}
 use Rattle.fof_terms.specs.Vocabulary.{Vocabulary}
 use Rattle.clause_form.specs.declared.path.Parent.{Parent}
@@ -48,3 +48,18 @@ Holds v parents line rewrite = IsRewriteStep v parents line
 abbrev pub IsAnswer : Vocabulary → List Parent → Form → Rule → Option Just → Type 0
 IsAnswer v parents line rule None = Holds v parents line rule → ⊥
 IsAnswer v parents line rule (Some just) = (rule_of just ≡ rule) × Shows v parents line just
+
+-- the place of a rule in the order in which they are tried
+abbrev pub place_of : Rule → ℕ
+place_of norm = 0
+place_of cover = 1
+place_of tautology = 2
+place_of resolution = 3
+place_of paramodulation = 4
+place_of eqfactor = 5
+place_of rewrite = 6
+
+-- a justification that shows the step, by the first rule that holds, or none exactly where no rule does
+abbrev pub IsFirst : Vocabulary → List Parent → Form → Option Just → Type 0
+IsFirst v parents line None = (rule : Rule) → Holds v parents line rule → ⊥
+IsFirst v parents line (Some just) = Shows v parents line just × ((rule : Rule) → place_of rule < place_of (rule_of just) → Holds v parents line rule → ⊥)

@@ -1,5 +1,7 @@
 pub mod Answers
+pub mod CoverFound
 pub mod CoverRule
+pub mod CoverSearch
 pub mod EqFactorRule
 pub mod EqFactorSearch
 pub mod Heads
@@ -7,11 +9,14 @@ pub mod JointClauses
 pub mod Justified
 pub mod NormRule
 pub mod ParamodulationRule
+pub mod ParamodulationSearch
+pub mod PlaceSearch
 pub mod Places
 pub mod Reach
 pub mod ResolutionRule
 pub mod ResolutionSearch
 pub mod RewriteRule
+pub mod RewriteSearch
 pub mod Settled
 pub mod Steps
 pub mod TautologyRule

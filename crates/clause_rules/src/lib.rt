@@ -3,29 +3,43 @@
 #![tactic(auto)]
 
 mod apart;
+mod cover_rule;
 mod eqfactor_rule;
 mod heads;
 mod joint;
 mod just;
 mod laws;
+mod naming;
 mod norm_rule;
 mod numbers;
+mod opening;
+mod paramodulation_rule;
+mod places;
 mod position;
 mod ready;
+mod recognising;
+mod replacing;
 mod resolution_rule;
+mod rewrite_rule;
 mod scopes;
 mod search;
 mod sides;
+mod sites;
+mod taking;
 mod tautology_rule;
 mod ways;
 
+pub use cover_rule::cover_step;
 pub use eqfactor_rule::eqfactor_step;
 pub use just::Just;
 pub use laws::what_is_shown_holds;
 pub use norm_rule::norm_step;
+pub use paramodulation_rule::paramodulation_step;
 pub use position::Position;
 pub use ready::{MAX_QUANTIFIERS, are_ready, is_ready};
+pub use recognising::recognise;
 pub use resolution_rule::resolution_step;
+pub use rewrite_rule::rewrite_step;
 pub use tautology_rule::tautology_step;
 
 #[cfg(test)]

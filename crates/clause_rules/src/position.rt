@@ -31,6 +31,14 @@ impl Position {
         }
     }
 
+    /// The place with these steps.
+    pub fn from_slice(alloc: Global, steps: &[u32]) -> Result<Position, Memory>
+        ensures { IfOk result (λ place. place ≡ steps.now) }
+    {
+        let steps = SmallVec::from_slice(alloc, steps)?;
+        Ok(Position { steps })
+    }
+
     /// The argument numbers, from the literal down.
     pub fn as_slice(&self) -> &[u32]
         ensures { result.now ≡ self.now }

@@ -7,8 +7,8 @@ use fof_terms::SortId;
 use std::alloc::Global;
 use tptp_base::{List, Memory};
 
-// The sorts, the last one first.
-fn reversed(alloc: Global, sorts: &[SortId]) -> Result<List<SortId>, Memory>
+/// The numbers, the last one first.
+pub fn reversed(alloc: Global, sorts: &[SortId]) -> Result<List<SortId>, Memory>
     ensures { IfOk result (λ list. list ≡ reverse sorts.now) }
 {
     let mut list = List::new(alloc);

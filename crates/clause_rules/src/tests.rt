@@ -57,7 +57,7 @@ fn symbol(letter: u8) -> SymId {
 
 // The formula of a text in which the parts stand before what they are parts of: a digit is the variable of that number,
 // a to c are constants, f, p, q and r take the term before them, s and = the two before them, ~ negates, | joins the two
-// formulas before it, ! binds a variable, T and F are truth and falsehood.
+// formulas before it, & does so by And, ! and ? bind a variable, T and F are truth and falsehood.
 fn form(alloc: Global, text: &str) -> Result<Boxed<Form>, Memory> {
     let mut terms = List::new(alloc);
     let mut forms = List::new(alloc);
@@ -103,11 +103,23 @@ fn node(
         }
         b'~' => Form::Not(forms.pop().ok_or(Memory)?),
         b'!' => Form::All(0, forms.pop().ok_or(Memory)?),
+        b'?' => Form::Ex(0, forms.pop().ok_or(Memory)?),
+        b'&' => both(alloc, forms)?,
         b'T' => Form::And(List::new(alloc)),
         b'F' => Form::Or(List::new(alloc)),
         _ => return joined(alloc, forms),
     };
     Ok(Boxed::new(alloc, made)?)
+}
+
+// The conjunction of the last two formulas.
+fn both(alloc: Global, forms: &mut List<Boxed<Form>>) -> Result<Form, Memory> {
+    let last = forms.pop().ok_or(Memory)?;
+    let first = forms.pop().ok_or(Memory)?;
+    let mut members = List::new(alloc);
+    members.push(first.into_inner())?;
+    members.push(last.into_inner())?;
+    Ok(Form::And(members))
 }
 
 // The disjunction of the two formulas, the first of which may be one.
@@ -126,8 +138,8 @@ fn joined(alloc: Global, forms: &mut List<Boxed<Form>>) -> Result<Boxed<Form>, M
     Ok(Boxed::new(alloc, Form::Or(members))?)
 }
 
-// Which of the rules gives the last formula of the row from the others: N, T, R and E stand for norm, tautology,
-// resolution and eqfactor.
+// Which of the rules gives the last formula of the row from the others: N, C, T, R, P and E stand for norm,
+// cover, tautology, resolution, paramodulation and eqfactor.
 fn rules(alloc: Global, row: &str) -> Result<List<u8>, Memory> {
     let sig = signature(alloc)?;
     let mut parents = List::new(alloc);
@@ -144,11 +156,17 @@ fn rules(alloc: Global, row: &str) -> Result<List<u8>, Memory> {
     if norm_step(alloc, &sig, parents, &line)?.is_some() {
         found.push(b'N')?;
     }
+    if cover_step(alloc, &sig, parents, &line)?.is_some() {
+        found.push(b'C')?;
+    }
     if tautology_step(alloc, &sig, parents, &line)?.is_some() {
         found.push(b'T')?;
     }
     if resolution_step(alloc, &sig, parents, &line)?.is_some() {
         found.push(b'R')?;
+    }
+    if paramodulation_step(alloc, &sig, parents, &line)?.is_some() {
+        found.push(b'P')?;
     }
     if eqfactor_step(alloc, &sig, parents, &line)?.is_some() {
         found.push(b'E')?;
@@ -160,7 +178,15 @@ fn rules(alloc: Global, row: &str) -> Result<List<u8>, Memory> {
 fn steps(rt: HostRuntime) -> Result<(), Fail> {
     for (want, row) in [
         ("", "ap aq"),
-        ("N", "ap~~ ap"),
+        ("NC", "ap~~ ap"),
+        ("C", "0p1p|!! cp"),
+        ("C", "apaq&bp| apbp|"),
+        ("", "apaq|bp& aq"),
+        ("C", "0p!0q!| apbq|"),
+        ("", "0p0q|! apbq|"),
+        ("", "0p? ap"),
+        ("C", "F ap"),
+        ("", "T ap"),
         ("T", "aqap|ap~|"),
         ("T", "aa="),
         ("T", "ab=ba=~|"),
@@ -171,6 +197,15 @@ fn steps(rt: HostRuntime) -> Result<(), Fail> {
         ("", "00s! 00fs~! F"),
         ("R", "00fs! 01s~10s|!! 0f0s!"),
         ("", "0f0s! 01s~01s|!! 00fs!"),
+        ("P", "cfb= cfp bp"),
+        ("P", "bcf= cfp bp"),
+        ("P", "0fa=! bfcfs acfs"),
+        ("P", "0fa=! bfcfs bfas"),
+        ("", "0fa=! bfbfs aas"),
+        ("P", "ab=cp| aq bqcp|"),
+        ("", "ab=cp| aq bq"),
+        ("", "ab=~ ap bp"),
+        ("CP", "0p! ab= bp"),
         ("E", "0fa=bfc=|! ac=~bfc=|"),
         ("", "0fa=bfc=|! ac=~"),
     ] {

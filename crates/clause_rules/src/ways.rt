@@ -152,9 +152,9 @@ fn ways_to_absurdity(alloc: Global, atom: &AtomOf, positive: bool) -> Result<Lis
     }
 }
 
-// The goal that the literal is one of the targets, up to sides, or false by its form.
+/// The goal that the literal is one of the targets, up to sides, or false by its form.
 #[tactic(auto, using(crate::proofs::WayRules::ways_more, crate::proofs::WayRules::ways_joined))]
-fn covered(alloc: Global, lit: &Lit, targets: &[Lit]) -> Result<Goal, Memory>
+pub fn covered(alloc: Global, lit: &Lit, targets: &[Lit]) -> Result<Goal, Memory>
     ensures { IfOk result (λ goal. goal ≡ goal_of_need (cover_ways targets.now lit.now)) }
 {
     let mut ways = List::new(alloc);

@@ -1,0 +1,21 @@
+use Rattle.std.proofs.Common.{Some, None, sym, ◌∙◌}
+use Rattle.clause_rules.proofs.ParamodulationCode.{spot_as, equation_as}
+use Rattle.clause_rules.proofs.ParamodulationEnds.{no_equation, no_heads}
+use Rattle.clause_rules.proofs.paramodulation_rule.of_clauses.Goals as goal
+
+pub returns-then-not-may_match : goal.returns-then-not-may_match
+returns-then-not-may_match c =
+    let at = spot_as c.args.into.now.lits c.as_slice.result.now c.args.site.now.at c.as_slice-2.result.now c.args.site.now.lit (Some c.in-Some.spot) c.as_slice.ensures c.as_slice-2.ensures c.in-Some.ensures in
+    let over = equation_as c.args.from.now.lits c.as_slice-in-Some.result.now c.args.reading.now.lit c.args.reading.now.flipped (Some c.in-Some-equation_in.sides) c.as_slice-in-Some.ensures c.in-Some-equation_in.ensures in
+    λ more s h. no_heads c.args.sig.now c.args.into.now c.args.from.now c.args.line.now c.args.site.now.lit c.args.reading.now.lit c.args.site.now.at c.args.reading.now.flipped more s h
+    c.in-Some.spot.lit.now c.in-Some.spot.term.now c.in-Some-equation_in.sides.left.now c.in-Some-equation_in.sides.right.now at.0 at.1 over (sym c.may_match.ensures ∙ c.if-not-may_match.true)
+
+pub of_joint-requires-clause-place : goal.of_joint-requires-clause-place
+of_joint-requires-clause-place c =
+    let at = spot_as c.args.into.now.lits c.as_slice.result.now c.args.site.now.at c.as_slice-2.result.now c.args.site.now.lit (Some c.in-Some.spot) c.as_slice.ensures c.as_slice-2.ensures c.in-Some.ensures in
+    record { lit = c.in-Some.spot.lit.now; term = c.in-Some.spot.term.now; there = at.0; stands = at.1 }
+
+pub returns-in-None-equation_in : goal.returns-in-None-equation_in
+returns-in-None-equation_in c = λ more s h.
+    no_equation c.args.sig.now c.args.into.now c.args.from.now c.args.line.now c.args.site.now.lit c.args.reading.now.lit c.args.site.now.at c.args.reading.now.flipped more s h
+    (equation_as c.args.from.now.lits c.as_slice-in-Some.result.now c.args.reading.now.lit c.args.reading.now.flipped None c.as_slice-in-Some.ensures c.in-None-equation_in.ensures)

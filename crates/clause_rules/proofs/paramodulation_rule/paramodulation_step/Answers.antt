@@ -1,0 +1,18 @@
+use Rattle.std.proofs.Common.{sym, subst, ◌∙◌}
+use Rattle.clause_rules.specs.Settled.{AllFit}
+use Rattle.clause_rules.proofs.Firsts.{ok_map}
+use Rattle.clause_rules.proofs.ParamodulationEnds.{paramodulation_answer}
+use Rattle.clause_rules.proofs.ResolutionLoops.{form_fits, parents_fit}
+use Rattle.clause_rules.proofs.paramodulation_rule.paramodulation_step.Goals as goal
+
+pub at_sites-requires-clause-clauses : goal.at_sites-requires-clause-clauses
+at_sites-requires-clause-clauses c = subst (AllFit c.args.sig.now) (sym (c.as_slice-clauses.ensures ∙ c.in_ok-clauses-in-Some.ensures)) (parents_fit c.args.sig.now c.args.parents.now c.requires.parents)
+
+pub at_sites-requires-clause-line : goal.at_sites-requires-clause-line
+at_sites-requires-clause-line c = form_fits c.args.sig.now c.args.line.now c.requires.line c.in-Some.line (sym c.in_ok-line.ensures ∙ c.in-Some.is)
+
+pub returns-in_ok-sites-in-Some : goal.returns-in_ok-sites-in-Some
+returns-in_ok-sites-in-Some c =
+    ok_map c.at_sites.result
+    (paramodulation_answer c.args.sig.now c.args.parents.now c.args.line.now c.in-Some.line c.as_slice-clauses.result.now c.as_slice.result.now c.as_slice-in-Some.result.now (sym c.in_ok-line.ensures ∙ c.in-Some.is) (c.as_slice-clauses.ensures ∙ c.in_ok-clauses-in-Some.ensures)
+    (c.as_slice.ensures ∙ c.in_ok-sites-in-Some.ensures) (c.as_slice-in-Some.ensures ∙ c.in_ok-readings-in-Some.ensures)) c.at_sites.ensures

@@ -1,0 +1,174 @@
+ghost use Rattle.std.specs.Prelude.{◌≡◌, ◌≤◌, ◌<◌, true, [], Some, IfOk, MatchOption};
+ghost use Rattle.fof_terms.specs.Sorts.{is_sorted};
+ghost use Rattle.clause_form.specs.Covers.{scope_of, CoversBy};
+ghost use Rattle.clause_form.specs.Norm.{norm_of};
+ghost use Rattle.clause_form.specs.Sizes.{norm_size_of};
+ghost use Rattle.clause_rules.specs.declared.just.Just.TheVariants.{Cover};
+ghost use Rattle.clause_rules.specs.Answers.{IsAnswer, cover};
+ghost use Rattle.clause_rules.specs.CoverFound.{FoundCover, FoundInForm, FoundCoverAmong, SettlesReached};
+ghost use Rattle.clause_rules.specs.NormRule.{HasNorm};
+ghost use Rattle.clause_rules.specs.Settled.{IsFit, Settles};
+ghost use Rattle.clause_rules.specs.Steps.{AreReady, IsReady};
+
+use crate::joint::join_one;
+use crate::just::Just;
+use crate::numbers::number;
+use crate::opening::open;
+use crate::scopes::scope_of_clause;
+use crate::search::settle;
+use crate::taking::{Reached, reached_by};
+use crate::ways::all_covered;
+use clause_form::{Clause, FormFault, Parent, Path, as_clause, norm};
+use fof_terms::{Form, Signature};
+use std::alloc::Global;
+use tptp_base::{Boxed, List, Memory};
+use unify_terms::{Goal, Scope, Solution, Subst, solve};
+
+/// A path, and a substitution that covers what it reaches.
+#[derive(Drop)]
+pub struct Covering {
+    pub path: Path,
+    pub subst: Subst,
+}
+
+/// A justification by the rule `cover`: the line covers what some path reaches in a parent's normal form. None exactly
+/// where no parent has one; a parent whose norm size is over 100,000 has none.
+pub fn cover_step(
+    alloc: Global,
+    sig: &Signature,
+    parents: &[Parent],
+    line: &Form,
+) -> Result<Option<Just>, Memory>
+    requires parents { AreReady sig.now parents.now }
+    requires line { IsReady sig.now line.now }
+    ensures { IfOk result (λ answer. IsAnswer sig.now parents.now line.now cover answer) }
+{
+    match as_clause(alloc, line)? {
+        Some(line) => cover_among(alloc, sig, parents, &line),
+        None => Ok(None),
+    }
+}
+
+// A covering of one of the parents.
+fn cover_among(
+    alloc: Global,
+    sig: &Signature,
+    parents: &[Parent],
+    line: &Clause,
+) -> Result<Option<Just>, Memory>
+    requires parents { AreReady sig.now parents.now }
+    requires line { IsFit sig.now line.now }
+    ensures { IfOk result (λ found. FoundCoverAmong sig.now parents.now line.now found) }
+{
+    for a in 0..parents.len() {
+        let found = cover_form(alloc, sig, &parents[a].form, line)?;
+        if let Some(covering) = found {
+            return justified(a, covering);
+        }
+    }
+    Ok(None)
+}
+
+// The justification with this parent.
+fn justified(a: usize, covering: Covering) -> Result<Option<Just>, Memory>
+    ensures { IfOk result (λ just. just ≡ Some (Cover a covering.path covering.subst)) }
+{
+    let parent = number(a)?;
+    let Covering { path, subst } = covering;
+    Ok(Some(Just::Cover {
+        parent,
+        path,
+        subst,
+    }))
+}
+
+// A covering of the formula.
+fn cover_form(
+    alloc: Global,
+    sig: &Signature,
+    form: &Form,
+    line: &Clause,
+) -> Result<Option<Covering>, Memory>
+    requires form { IsReady sig.now form.now }
+    requires line { IsFit sig.now line.now }
+    ensures { IfOk result (λ found. FoundInForm sig.now form.now line.now found) }
+{
+    match norm_within(alloc, form)? {
+        Some(norm) => cover_norm(alloc, sig, norm.get(), line),
+        None => Ok(None),
+    }
+}
+
+// The normal form of the formula, if its norm size is not over the limit.
+fn norm_within(alloc: Global, form: &Form) -> Result<Option<Boxed<Form>>, Memory>
+    ensures { IfOk result (λ found. MatchOption found (100000 < norm_size_of form.now) (HasNorm form.now)) }
+{
+    match norm(alloc, form) {
+        Ok(made) => Ok(Some(Boxed::new(alloc, made)?)),
+        Err(FormFault::Wide) => Ok(None),
+        Err(FormFault::Memory) => Err(Memory),
+    }
+}
+
+// A covering of what a path reaches in the normal form.
+fn cover_norm(
+    alloc: Global,
+    sig: &Signature,
+    norm: &Form,
+    line: &Clause,
+) -> Result<Option<Covering>, Memory>
+    requires small { norm_size_of norm.now ≤ 100000 }
+    requires norm { is_sorted sig.now [] norm.now ≡ true }
+    requires line { IsFit sig.now line.now }
+    ensures { IfOk result (λ found. FoundCover sig.now norm.now line.now found) }
+{
+    let mut sorts = scope_of_clause(alloc, line)?;
+    let rigid = line.sorts.len() as u32;
+    let mut names = List::new(alloc);
+    let goal = open(norm, alloc, line.lits.as_slice(), &mut names, &mut sorts)?;
+    let scope = Scope { sorts, rigid };
+    match solve(alloc, sig, &scope, &goal)? {
+        Some(solution) => {
+            let Solution { subst: _, choices } = solution;
+            let reached = reached_by(alloc, norm, choices.as_slice())?;
+            cover_reached(alloc, sig, line, reached)
+        }
+        None => Ok(None),
+    }
+}
+
+// A covering of what was reached.
+fn cover_reached(
+    alloc: Global,
+    sig: &Signature,
+    line: &Clause,
+    reached: Reached,
+) -> Result<Option<Covering>, Memory>
+    requires clause { IsFit sig.now reached.clause }
+    requires line { IsFit sig.now line.now }
+    ensures { IfOk result (λ found. SettlesReached sig.now line.now reached found) }
+{
+    match cover_clause(alloc, sig, &reached.clause, line)? {
+        Some(subst) => {
+            let Reached { path, clause: _ } = reached;
+            Ok(Some(Covering { path, subst }))
+        }
+        None => Ok(None),
+    }
+}
+
+/// A substitution that covers the clause by the line; None exactly where there is none.
+pub fn cover_clause(
+    alloc: Global,
+    sig: &Signature,
+    clause: &Clause,
+    line: &Clause,
+) -> Result<Option<Subst>, Memory>
+    requires clause { IsFit sig.now clause.now }
+    requires line { IsFit sig.now line.now }
+    ensures { IfOk result (λ found. Settles sig.now line.now (scope_of clause.now) (CoversBy sig.now (scope_of clause.now) clause.now.lits line.now) found) }
+{
+    let joint = join_one(alloc, sig, line, clause)?;
+    let goal = Goal::All(all_covered(alloc, joint.left.as_slice(), line.lits.as_slice())?);
+    settle(alloc, sig, &joint.scope, &goal)
+}

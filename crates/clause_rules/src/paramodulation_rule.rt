@@ -1,0 +1,270 @@
+ghost use Rattle.std.specs.Prelude.{◌≡◌, ◌↔◌, IsTrue, Some, IfOk, option_copied, slice_get};
+ghost use Rattle.fof_terms.specs.Sorts.{sort_of_term};
+ghost use Rattle.clause_rules.specs.declared.just.Just.TheVariants.{Paramodulation};
+ghost use Rattle.clause_rules.specs.Answers.{IsAnswer, paramodulation};
+ghost use Rattle.clause_rules.specs.JointClauses.{IsJoined};
+ghost use Rattle.clause_rules.specs.ParamodulationRule.{HasPlace, Paramodulates};
+ghost use Rattle.clause_rules.specs.ParamodulationSearch.{FoundAtSite, FoundAtSites, HasClause, TriedAtSite, heads_match, paramodulation_needs};
+ghost use Rattle.clause_rules.specs.Places.{lit_term_at};
+ghost use Rattle.clause_rules.specs.Settled.{AllFit, IsFit, Settles};
+ghost use Rattle.clause_rules.specs.Steps.{AreReady, IsReady, equation, scope_of_both};
+ghost use Rattle.clause_rules.specs.Ways.{goal_of_needs};
+
+use crate::joint::{Joint, join};
+use crate::just::Just;
+use crate::places::put_in;
+use crate::position::Position;
+use crate::scopes::reversed;
+use crate::search::{clauses_of_parents, settle};
+use crate::sides::Sides;
+use crate::sites::{Reading, Site, Spot, equation_in, readings_of, sites_of, spot_in};
+use crate::ways::{all_covered, alone, one_pair};
+use clause_form::{Clause, Lit, Parent, as_clause, copy_lits};
+use fof_terms::{Form, Scope as Reach, Signature, Term, sort_of};
+use std::alloc::Global;
+use tptp_base::Memory;
+use unify_terms::{Goal, Scope, Subst};
+
+/// A justification by the rule `paramodulation`: the left side of a positive equation of one parent, as it is read,
+/// becomes the term at a place of another, and the right side takes that place. None exactly where there is none.
+pub fn paramodulation_step(
+    alloc: Global,
+    sig: &Signature,
+    parents: &[Parent],
+    line: &Form,
+) -> Result<Option<Just>, Memory>
+    requires parents { AreReady sig.now parents.now }
+    requires line { IsReady sig.now line.now }
+    ensures { IfOk result (λ answer. IsAnswer sig.now parents.now line.now paramodulation answer) }
+{
+    match as_clause(alloc, line)? {
+        Some(line) => {
+            let clauses = clauses_of_parents(alloc, parents)?;
+            let clauses = clauses.as_slice();
+            let readings = readings_of(alloc, clauses)?;
+            let sites = sites_of(alloc, clauses)?;
+            at_sites(
+                alloc,
+                sig,
+                clauses,
+                sites.as_slice(),
+                readings.as_slice(),
+                &line,
+            )
+        }
+        None => Ok(None),
+    }
+}
+
+// A justification at one of the places.
+fn at_sites(
+    alloc: Global,
+    sig: &Signature,
+    clauses: &[Option<Clause>],
+    sites: &[Site],
+    readings: &[Reading],
+    line: &Clause,
+) -> Result<Option<Just>, Memory>
+    requires clauses { AllFit sig.now clauses.now }
+    requires line { IsFit sig.now line.now }
+    ensures { IfOk result (λ found. FoundAtSites sig.now clauses.now sites.now readings.now line.now found) }
+{
+    for m in 0..sites.len() {
+        let found = at_site(alloc, sig, clauses, readings, line, &sites[m])?;
+        if let Some(just) = found {
+            return Ok(Some(just));
+        }
+    }
+    Ok(None)
+}
+
+// A justification at this place.
+fn at_site(
+    alloc: Global,
+    sig: &Signature,
+    clauses: &[Option<Clause>],
+    readings: &[Reading],
+    line: &Clause,
+    site: &Site,
+) -> Result<Option<Just>, Memory>
+    requires clauses { AllFit sig.now clauses.now }
+    requires line { IsFit sig.now line.now }
+    ensures { IfOk result (λ found. FoundAtSite sig.now clauses.now readings.now line.now site.now found) }
+{
+    for k in 0..readings.len() {
+        let found = with_reading(alloc, sig, clauses, line, site, &readings[k])?;
+        if let Some(subst) = found {
+            return justified(alloc, site, &readings[k], subst);
+        }
+    }
+    Ok(None)
+}
+
+// The justification at this place with this equation.
+fn justified(
+    alloc: Global,
+    site: &Site,
+    reading: &Reading,
+    subst: Subst,
+) -> Result<Option<Just>, Memory>
+    ensures { IfOk result (λ just. just ≡ Some (Paramodulation site.now.clause reading.now.clause site.now.lit site.now.at reading.now.lit reading.now.flipped subst)) }
+{
+    let at = Position::from_slice(alloc, site.at.as_slice())?;
+    Ok(Some(Just::Paramodulation {
+        into: site.clause,
+        from: reading.clause,
+        into_lit: site.lit,
+        at,
+        from_lit: reading.lit,
+        flipped: reading.flipped,
+        subst,
+    }))
+}
+
+// A substitution that shows the paramodulation at this place with this equation.
+fn with_reading(
+    alloc: Global,
+    sig: &Signature,
+    clauses: &[Option<Clause>],
+    line: &Clause,
+    site: &Site,
+    reading: &Reading,
+) -> Result<Option<Subst>, Memory>
+    requires clauses { AllFit sig.now clauses.now }
+    requires line { IsFit sig.now line.now }
+    ensures { IfOk result (λ found. TriedAtSite sig.now clauses.now line.now site.now reading.now found) }
+{
+    match clause_in(clauses, site.clause) {
+        Some(into) => match clause_in(clauses, reading.clause) {
+            Some(from) => of_clauses(alloc, sig, into, from, line, site, reading),
+            None => Ok(None),
+        },
+        None => Ok(None),
+    }
+}
+
+/// The clause of that number, if it is one.
+pub fn clause_in(clauses: &[Option<Clause>], at: u32) -> Option<&Clause>
+    ensures { HasClause clauses.now at (option_copied result) }
+{
+    let at = at as usize;
+    if at >= clauses.len() {
+        return None;
+    }
+    clauses[at].as_ref()
+}
+
+// The same with these clauses: a cheap test of heads comes first.
+fn of_clauses(
+    alloc: Global,
+    sig: &Signature,
+    into: &Clause,
+    from: &Clause,
+    line: &Clause,
+    site: &Site,
+    reading: &Reading,
+) -> Result<Option<Subst>, Memory>
+    requires into { IsFit sig.now into.now }
+    requires from { IsFit sig.now from.now }
+    requires line { IsFit sig.now line.now }
+    ensures { IfOk result (λ found. Settles sig.now line.now (scope_of_both into.now from.now) (Paramodulates sig.now into.now from.now line.now site.now.lit site.now.at reading.now.lit reading.now.flipped) found) }
+{
+    match spot_in(into.lits.as_slice(), site.lit, site.at.as_slice()) {
+        Some(spot) => match equation_in(from.lits.as_slice(), reading.lit, reading.flipped) {
+            Some(sides) => {
+                if !may_match(spot.term, sides.left) {
+                    return Ok(None);
+                }
+                of_joint(alloc, sig, into, from, line, site, reading)
+            }
+            None => Ok(None),
+        },
+        None => Ok(None),
+    }
+}
+
+/// Whether the terms are no two applications of different functions. Those never become equal.
+pub fn may_match(left: &Term, right: &Term) -> bool
+    ensures { result ≡ heads_match left.now right.now }
+{
+    match (left, right) {
+        (Term::App(function, _), Term::App(other, _)) => function == other,
+        _ => true,
+    }
+}
+
+// The same over one list of variables.
+fn of_joint(
+    alloc: Global,
+    sig: &Signature,
+    into: &Clause,
+    from: &Clause,
+    line: &Clause,
+    site: &Site,
+    reading: &Reading,
+) -> Result<Option<Subst>, Memory>
+    requires into { IsFit sig.now into.now }
+    requires from { IsFit sig.now from.now }
+    requires line { IsFit sig.now line.now }
+    requires place { HasPlace into.now.lits site.now.lit site.now.at }
+    ensures { IfOk result (λ found. Settles sig.now line.now (scope_of_both into.now from.now) (Paramodulates sig.now into.now from.now line.now site.now.lit site.now.at reading.now.lit reading.now.flipped) found) }
+{
+    let joint = join(alloc, sig, line, into, from)?;
+    match spot_in(joint.left.as_slice(), site.lit, site.at.as_slice()) {
+        Some(spot) => match equation_in(joint.right.as_slice(), reading.lit, reading.flipped) {
+            Some(sides) => {
+                let is_one = is_one_sort(alloc, sig, &joint.scope, spot.term, sides.left)?;
+                if !is_one {
+                    return Ok(None);
+                }
+                let goal = paramodulation_goal(alloc, line, &joint, site, reading, &spot, &sides)?;
+                settle(alloc, sig, &joint.scope, &goal)
+            }
+            None => Ok(None),
+        },
+        None => Ok(None),
+    }
+}
+
+// Whether the terms have one sort over the scope.
+fn is_one_sort(
+    alloc: Global,
+    sig: &Signature,
+    scope: &Scope,
+    left: &Term,
+    right: &Term,
+) -> Result<bool, Memory>
+    ensures { IfOk result (λ answer. IsTrue answer ↔ (sort_of_term sig.now scope.now.sorts left.now ≡ sort_of_term sig.now scope.now.sorts right.now)) }
+{
+    let sorts = reversed(alloc, scope.sorts.as_slice())?;
+    let reach = Reach::Outside(sorts.as_slice());
+    let first = sort_of(left, sig, &reach);
+    let second = sort_of(right, sig, &reach);
+    Ok(first == second)
+}
+
+// What is asked of a substitution at this place with this equation.
+fn paramodulation_goal(
+    alloc: Global,
+    line: &Clause,
+    joint: &Joint,
+    site: &Site,
+    reading: &Reading,
+    spot: &Spot<'_>,
+    sides: &Sides<'_>,
+) -> Result<Goal, Memory>
+    requires into { slice_get joint.now.left site.now.lit ≡ Some spot.now.lit.now }
+    requires from { slice_get joint.now.right reading.now.lit ≡ Some (equation reading.now.flipped sides.now.left.now sides.now.right.now) }
+    ensures { IfOk result (λ goal. goal ≡ goal_of_needs (paramodulation_needs line.now.lits joint.now.left joint.now.right site.now.lit site.now.at spot.now.lit.now spot.now.term.now sides.now.left.now sides.now.right.now reading.now.lit)) }
+{
+    let same = alone(alloc, one_pair(alloc, spot.term, sides.left)?)?;
+    let mut goals = alone(alloc, Goal::Any(same))?;
+    let mut lits = copy_lits(alloc, joint.left.as_slice())?;
+    let changed: Lit = put_in(alloc, spot.lit, site.at.as_slice(), sides.right)?;
+    lits.set(site.lit as usize, changed);
+    let mut others = copy_lits(alloc, joint.right.as_slice())?;
+    others.remove(reading.lit as usize);
+    lits.append(others)?;
+    goals.append(all_covered(alloc, lits.as_slice(), line.lits.as_slice())?)?;
+    Ok(Goal::All(goals))
+}
