@@ -1,0 +1,9 @@
+pub mod BodySorts
+pub mod ClosedLines
+pub mod CoveredLiterals
+pub mod Instances
+pub mod NormLines
+pub mod Openings
+pub mod Peeling
+pub mod Refutations
+pub mod TurnedSides

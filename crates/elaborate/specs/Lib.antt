@@ -1,3 +1,8 @@
 pub mod Answers
+pub mod Bodies
 pub mod ByRule
+pub mod Closed
 pub mod Derived
+pub mod Premises
+pub mod Proofs
+pub mod Refuting

@@ -3,8 +3,17 @@
 #![tactic(auto)]
 
 mod answer;
+mod by_norm;
+mod closing;
+mod covering;
 mod leaves;
+mod nodes;
+mod opening;
+mod premises;
+mod reach;
+mod refuting;
 mod steps;
+mod turning;
 
 pub use answer::{Reason, Rule, StepAnswer};
 pub use leaves::leaf;

@@ -1,0 +1,20 @@
+-- What the proof of a line by a rule says.
+use Rattle.std.specs.Prelude.{ℕ, ◌≡◌, List, [], ◌∷◌, Option, Some, None}
+use Rattle.fof_terms.specs.declared.form.Form.{Form}
+use Rattle.fof_terms.specs.Vocabulary.{Vocabulary}
+use Rattle.clause_form.specs.declared.path.Parent.{Parent}
+use Rattle.kernel.specs.Proves.{Proves}
+use Rattle.kernel.specs.declared.proof.Proof.{Proof}
+use Rattle.elaborate.specs.declared.answer.Rule.{Rule}
+use Rattle.elaborate.specs.ByRule.{Holds}
+use Rattle.elaborate.specs.Derived.{AreOfTheory}
+use Rattle.elaborate.specs.Refuting.{theory_of}
+
+-- with these symbols, the proof shows the line wherever the parents are among the formulas
+abbrev pub ShowsLine : Vocabulary → List Parent → Form → Proof → Type 0
+ShowsLine w parents line p = (formulas : List Form) → AreOfTheory (theory_of w formulas) parents → Proves (theory_of w formulas) [] [] p line
+
+-- the rule gives the line, and the proof shows it, or the rule does not give it
+abbrev pub IsByRule : Vocabulary → List Parent → Form → Rule → Option Proof → Type 0
+IsByRule w parents line rule None = Holds w parents line rule → ⊥
+IsByRule w parents line rule (Some p) = Holds w parents line rule × ShowsLine w parents line p
