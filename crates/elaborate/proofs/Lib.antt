@@ -2,8 +2,10 @@ pub mod BodySorts
 pub mod ClosedLines
 pub mod CoveredLiterals
 pub mod Instances
+pub mod LineGoals
 pub mod NormLines
 pub mod Openings
 pub mod Peeling
 pub mod Refutations
+pub mod Resolvents
 pub mod TurnedSides

@@ -18,3 +18,7 @@ ShowsLine w parents line p = (formulas : List Form) → AreOfTheory (theory_of w
 abbrev pub IsByRule : Vocabulary → List Parent → Form → Rule → Option Proof → Type 0
 IsByRule w parents line rule None = Holds w parents line rule → ⊥
 IsByRule w parents line rule (Some p) = Holds w parents line rule × ShowsLine w parents line p
+
+-- with these symbols, the proof shows the line, whatever formulas hold
+abbrev pub ShowsAlone : Vocabulary → Form → Proof → Type 0
+ShowsAlone w line p = (formulas : List Form) → Proves (theory_of w formulas) [] [] p line

@@ -4,6 +4,8 @@
 
 mod answer;
 mod by_norm;
+mod by_resolution;
+mod by_tautology;
 mod closing;
 mod covering;
 mod leaves;

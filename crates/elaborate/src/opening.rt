@@ -28,6 +28,17 @@ pub fn open_clause(alloc: Global, form: &Form) -> Result<Option<Opened>, Memory>
     }
 }
 
+/// The clause that the formula is, which is one.
+pub fn known_clause(alloc: Global, form: &Form) -> Result<Opened, Memory>
+    requires { (c : Disjunction) × (clause_of form.now ≡ Some c) }
+    ensures { IfOk result (λ opened. IsOpening form.now (Some opened)) }
+{
+    match open_clause(alloc, form)? {
+        Some(opened) => Ok(opened),
+        None => Err(Memory),
+    }
+}
+
 // Whether a disjunction stands under the quantifiers.
 fn has_or(form: &Form) -> bool
     ensures { (c : Disjunction) → clause_of form.now ≡ Some c → HasClause form.now c result }
