@@ -2,6 +2,7 @@ pub mod BodySorts
 pub mod ClosedLines
 pub mod CoveredLiterals
 pub mod Instances
+pub mod Joints
 pub mod LineGoals
 pub mod NormLines
 pub mod Openings

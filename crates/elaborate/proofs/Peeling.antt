@@ -102,7 +102,7 @@ at_terms_twice f g (Equation l r) = refl
 at_terms_twice f g True = refl
 at_terms_twice f g False = refl
 
-lits_twice : (f g : Term → Term) (lits : List Lit) → map (in_lit f) (map (in_lit g) lits) ≡ map (in_lit (λ u. f (g u))) lits
+pub lits_twice : (f g : Term → Term) (lits : List Lit) → map (in_lit f) (map (in_lit g) lits) ≡ map (in_lit (λ u. f (g u))) lits
 lits_twice f g [] = refl
 lits_twice f g (l ∷ lits) = rw (at_terms_twice f g l.atom, lits_twice f g lits) refl
 

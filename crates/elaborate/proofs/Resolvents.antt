@@ -1,5 +1,5 @@
 -- From a resolvent to what refutes the line's body, and from a joint substitution to instances of the two parents.
-use Rattle.std.specs.Prelude.{ℕ, ◌≡◌, ◌+◌, ◌<◌, ◌≤◌, Bool, true, false, not, List, [], ◌∷◌, ◌++◌, length, map, take, drop, reverse, get_or, slice_get, Some, refl}
+use Rattle.std.specs.Prelude.{ℕ, ◌≡◌, ◌+◌, ◌<◌, ◌≤◌, ◌⊎◌, Bool, true, false, not, List, [], ◌∷◌, ◌++◌, length, map, take, drop, reverse, get_or, slice_get, Some, refl}
 use Rattle.std.proofs.Common.{ap, sym, subst, ◌∙◌, arith, zero, suc, append-nil, append_assoc, length-append, inl, inr}
 use Rattle.std.proofs.lemmas.List.{length-reverse, length-drop, length-take}
 use Rattle.std.proofs.lemmas.Option.{slice_get_within}
