@@ -1,6 +1,6 @@
 -- The instances of two clauses, or of one, under a joint substitution.
-use Rattle.std.specs.Prelude.{ℕ, ◌≡◌, ◌+◌, ◌<◌, ◌≤◌, List, [], ◌∷◌, ◌++◌, length, map, take, drop, reverse, slice_get, Some, refl}
-use Rattle.std.proofs.Common.{ap, sym, subst, ◌∙◌, arith, append-nil, append_assoc, length-append}
+use Rattle.std.specs.Prelude.{ℕ, ◌≡◌, ◌+◌, ◌<◌, ◌≤◌, List, [], ◌∷◌, ◌++◌, length, map, take, drop, reverse, slice_get, Option, Some, refl}
+use Rattle.std.proofs.Common.{zero, suc, get_or, ap, sym, subst, ◌∙◌, arith, append-nil, append_assoc, length-append}
 use Rattle.std.proofs.lemmas.List.{length-reverse}
 use Rattle.fof_terms.specs.declared.term.Term.{Term}
 use Rattle.fof_terms.specs.declared.form.Form.{Form}
@@ -12,15 +12,21 @@ use Rattle.clause_form.specs.declared.clause.Clause.{Clause}
 use Rattle.clause_form.specs.Covers.{lit_image, scope_of, AreSorted}
 use Rattle.clause_form.specs.Images.{IsImages}
 use Rattle.unify_terms.specs.Substitution.{image_at, IsSubstitution}
-use Rattle.clause_rules.specs.Steps.{IsJoint, images_of_parents, instances, apart_from, scope_of_both}
-use Rattle.clause_rules.specs.ResolutionRule.{IsResolvent, Resolves}
+use Rattle.clause_rules.specs.Steps.{AreReady, IsReady, IsClauseAt, IsJoint, images_of_parents, instances, apart_from, scope_of_both}
+use Rattle.clause_rules.specs.Justified.{Shows}
+use Rattle.clause_rules.specs.Answers.{Rule as Word, IsAnswer}
+use Rattle.clause_rules.specs.declared.just.Just.{Just}
+use Rattle.clause_rules.specs.declared.just.Just.TheVariants.{Resolution}
+use Rattle.clause_form.specs.declared.path.Parent.{Parent}
+use Rattle.clause_form.specs.ClauseView.{clause_of}
+use Rattle.clause_rules.specs.ResolutionRule.{IsResolvent, Resolves, IsResolutionStep}
 use Rattle.elaborate.specs.declared.opening.Opened.{Opened}
 use Rattle.elaborate.specs.declared.premises.Premise.{Premise}
-use Rattle.elaborate.specs.Bodies.{IsReadyClause}
+use Rattle.elaborate.specs.Bodies.{IsOpening, IsReadyClause}
 use Rattle.elaborate.specs.Premises.{IsSource, IsPremiseOf}
 use Rattle.elaborate.specs.Refuting.{ShowsBody}
-use Rattle.elaborate.proofs.NormLines.{full}
-use Rattle.elaborate.proofs.LineGoals.{Exist, both_exist, own_exist, own_lits}
+use Rattle.elaborate.proofs.NormLines.{full, parent_at, parent_ready}
+use Rattle.elaborate.proofs.LineGoals.{Exist, both_exist, own_exist, own_lits, opened_clause}
 use Rattle.elaborate.proofs.Resolvents.{apart_instances, part_length, part_within, part_images, part_lits, part_sorted}
 
 -- a part of a joint substitution: the images of a clause's variables
@@ -143,3 +149,37 @@ pub parents_exist : (w : Vocabulary) (fl fr : Form) (ol or_ : Opened) (ls rs mor
 parents_exist w fl fr ol or_ ls rs more left right m g h =
     let both = both_exist w (reverse ol.clause.sorts) (reverse or_.clause.sorts) (own_exist w fl ol.clause ol.is_or left.ready left.opening.1) (own_exist w fr or_.clause or_.is_or right.ready right.opening.1) in
     subst (Exist w) (sym (m ∙ ap (λ (ss : List ℕ). reverse ss ++ reverse rs) g ∙ ap (λ (ss : List ℕ). reverse ol.clause.sorts ++ reverse ss) h)) both
+
+-- what a justification has, where the parents are opened
+at_clause : (parents : List Parent) (a : ℕ) (c : Clause) → IsClauseAt parents a c → (p : Parent) × (slice_get parents a ≡ Some p) × (clause_of p.form ≡ Some c)
+at_clause [] a c e = cc
+at_clause (p ∷ parents) zero c e = (p, refl, cc)
+at_clause (p ∷ parents) (suc a) c e = at_clause parents a c e
+
+pub parent_there : (parents : List Parent) (a : ℕ) (c : Clause) (r : Parent) → IsClauseAt parents a c → r ≡ get_or parents a r → slice_get parents a ≡ Some r
+parent_there parents a c r e is = let p = at_clause parents a c e in p.1 ∙ ap Some (sym (parent_at parents a p.0 r p.1 is))
+
+pub parent_clause : (parents : List Parent) (a : ℕ) (c : Clause) (r : Parent) → IsClauseAt parents a c → r ≡ get_or parents a r → clause_of r.form ≡ Some c
+parent_clause parents a c r e is = let p = at_clause parents a c e in subst (λ (q : Parent). clause_of q.form ≡ Some c) (sym (parent_at parents a p.0 r p.1 is)) p.2
+
+pub ready_clause : (w : Vocabulary) (parents : List Parent) (a : ℕ) (c : Clause) (r : Parent) (o : Opened) → AreReady w parents → IsClauseAt parents a c → r ≡ get_or parents a r → IsOpening r.form (Some o) → IsReadyClause w r.form o
+ready_clause w parents a c r o ready e is opening = record { ready = parent_ready w parents a r ready (parent_there parents a c r e is); opening = opening }
+
+pub same_clause : (parents : List Parent) (a : ℕ) (c : Clause) (r : Parent) (o : Opened) → IsClauseAt parents a c → r ≡ get_or parents a r → IsOpening r.form (Some o) → o.clause ≡ c
+same_clause parents a c r o e is opening = opened_clause r.form o c opening (parent_clause parents a c r e is)
+
+pub joint_here : (w : Vocabulary) (images : List Term) (c d e x y z : Clause) → x ≡ c → y ≡ d → z ≡ e → IsJoint w e (scope_of_both c d) images → IsJoint w z (scope_of_both x y) images
+joint_here w images c d e x y z f g h joint =
+    subst (λ (k : Clause). IsJoint w k (scope_of_both x y) images) (sym h)
+    (subst (λ (k : Clause). IsJoint w e (scope_of_both k y) images) (sym f) (subst (λ (k : Clause). IsJoint w e (scope_of_both c k) images) (sym g) joint))
+
+pub resolves_here : (w : Vocabulary) (images : List Term) (c d e x y z : Clause) (i j : ℕ) → x ≡ c → y ≡ d → z ≡ e → Resolves w c d e i j (scope_of_both c d) (images_of_parents e images) → Resolves w x y z i j (scope_of_both x y) (images_of_parents z images)
+resolves_here w images c d e x y z i j f g h r =
+    subst (λ (k : Clause). Resolves w x y k i j (scope_of_both x y) (images_of_parents k images)) (sym h)
+    (subst (λ (k : Clause). Resolves w k y e i j (scope_of_both k y) (images_of_parents e images)) (sym f) (subst (λ (k : Clause). Resolves w c k e i j (scope_of_both c k) (images_of_parents e images)) (sym g) r))
+
+pub resolution_holds : (w : Vocabulary) (parents : List Parent) (line : Form) (a b i j : ℕ) (images : List Term) → Shows w parents line (Resolution a b i j images) → IsResolutionStep w parents line
+resolution_holds w parents line a b i j images (c, d, e, joint, at) = (a, b, i, j, c, d, e, scope_of_both c d, images_of_parents e images, at)
+
+pub answer_shows : (w : Vocabulary) (parents : List Parent) (line : Form) (rule : Word) (answer : Option Just) (just : Just) → answer ≡ Some just → IsAnswer w parents line rule answer → Shows w parents line just
+answer_shows w parents line rule answer just is a = (subst (IsAnswer w parents line rule) is a).1

@@ -1,6 +1,7 @@
 pub mod BodySorts
 pub mod ClosedLines
 pub mod CoveredLiterals
+pub mod Factors
 pub mod Instances
 pub mod Joints
 pub mod LineGoals
@@ -9,4 +10,5 @@ pub mod Openings
 pub mod Peeling
 pub mod Refutations
 pub mod Resolvents
+pub mod StepAnswers
 pub mod TurnedSides

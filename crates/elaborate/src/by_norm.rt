@@ -1,9 +1,11 @@
 //! Lines whose normal form is that of a parent.
-ghost use Rattle.std.specs.Prelude.{ℕ, IfOk};
-ghost use Rattle.clause_rules.specs.NormRule.{HasLinesNorm};
+ghost use Rattle.std.specs.Prelude.{◌≡◌, [], Some, slice_get, List as ListOf, IfOk};
+ghost use Rattle.fof_terms.specs.declared.form.Form.{Form as Formula};
+ghost use Rattle.kernel.specs.Proves.{Proves};
 ghost use Rattle.clause_rules.specs.Steps.{AreReady, IsReady};
 ghost use Rattle.elaborate.specs.declared.answer.Rule.TheVariants.{Norm};
-ghost use Rattle.elaborate.specs.Proofs.{IsByRule, ShowsLine};
+ghost use Rattle.elaborate.specs.Proofs.{AreAlike, IsByRule};
+ghost use Rattle.elaborate.specs.Refuting.{theory_of};
 
 use crate::nodes;
 use clause_form::Parent;
@@ -26,27 +28,26 @@ pub fn by_norm(
 {
     match norm_step(alloc, signature, parents, line)? {
         Some(Just::Norm { parent }) => {
-            Ok(Some(normed(alloc, signature, parents, line, parent)?))
+            let proof = normed(alloc, signature, &parents[parent as usize], line)?;
+            Ok(Some(proof))
         }
         Some(_) => Err(Memory),
         None => Ok(None),
     }
 }
 
-/// A proof of the line, by the parent of that number in the list, counted from 0, which has the line's normal form.
+/// A proof of the line, by a parent that has the line's normal form.
 pub fn normed(
     alloc: Global,
     signature: &Signature,
-    parents: &[Parent],
+    parent: &Parent,
     line: &Form,
-    parent: u32,
 ) -> Result<Part, Memory>
-    requires ready { AreReady signature.now parents.now }
+    requires parent { IsReady signature.now parent.now.form }
     requires line { IsReady signature.now line.now }
-    requires shown { HasLinesNorm parents.now line.now parent }
-    ensures { IfOk result (ShowsLine signature.now parents.now line.now) }
+    requires alike { AreAlike parent.now.form line.now }
+    ensures { IfOk result (λ proof. (formulas : ListOf Formula) → slice_get formulas parent.now.number ≡ Some parent.now.form → Proves (theory_of signature.now formulas) [] [] proof line.now) }
 {
-    let parent = &parents[parent as usize];
     let forth = norm_forth(alloc, &parent.form)?;
     let own = imp_e(alloc, forth, nodes::line(alloc, parent.number)?)?;
     let back = norm_back(alloc, line)?;

@@ -16,8 +16,8 @@ use fof_terms::{Form, Scope, Signature, SortId, Term, equal_term, lift_term, sor
 use std::alloc::Global;
 use tptp_base::Memory;
 
-// The sort of the term, which is one of the signature's.
-fn known_sort(term: &Term, signature: &Signature, scope: &Scope<'_>) -> Option<SortId>
+/// The sort of the term, which is one of the signature's.
+pub fn known_sort(term: &Term, signature: &Signature, scope: &Scope<'_>) -> Option<SortId>
     ensures sort { IfSome result (λ s. sort_of_term signature.now (scope_sorts scope.now) term.now ≡ Some s) }
     ensures there { IfSome result (λ s. s < length signature.now.sorts) }
 {
@@ -27,9 +27,9 @@ fn known_sort(term: &Term, signature: &Signature, scope: &Scope<'_>) -> Option<S
     }
 }
 
-// The equation with its sides exchanged, by a part that shows it. A term whose sort isn't there, of which there is none,
-// is answered by want of memory.
-fn turned(
+/// The equation with its sides exchanged, by a part that shows it. A term whose sort isn't there, of which there is none,
+/// is answered by want of memory.
+pub fn turned(
     alloc: Global,
     signature: &Signature,
     scope: &Scope<'_>,
