@@ -11,14 +11,15 @@ use Rattle.kernel.specs.Statements.{Statements}
 use Rattle.kernel.specs.Proves.{Proves}
 use Rattle.kernel.specs.declared.proof.Proof.{Proof}
 use Rattle.kernel.specs.declared.entry.Entry.TheVariants.{Lemma}
+use Rattle.elaborate.specs.declared.answer.Rule.{Rule}
 use Rattle.elaborate.specs.declared.answer.Rule.TheVariants.{Norm}
 use Rattle.elaborate.specs.declared.answer.Reason.TheVariants.{NotYet, Leaf}
 use Rattle.elaborate.specs.declared.answer.StepAnswer.TheVariants.{Accepted, Unverified}
 use Rattle.elaborate.specs.declared.steps.Found.{Found}
-use Rattle.elaborate.specs.ByRule.{GivesAlone, GivesNowhere, LeafRule, ByNoLeafRule}
+use Rattle.elaborate.specs.ByRule.{Holds, ByRule, GivesAlone, GivesNowhere, LeafRule, ByNoLeafRule}
 use Rattle.elaborate.specs.Derived.{AreOfTheory, HasCited, IsDerivedFrom}
 use Rattle.elaborate.specs.Answers.{IsStepAnswer, IsLeafAnswer, numbers_of}
-use Rattle.elaborate.specs.Proofs.{ShowsLine, IsFound}
+use Rattle.elaborate.specs.Proofs.{ShowsLine, IsByRule, IsFound}
 use Rattle.elaborate.specs.Refuting.{theory_of}
 use Rattle.elaborate.proofs.NormLines.{parent_at}
 
@@ -91,3 +92,13 @@ pub leaf_accepted : (t : Statements) (candidates : List Parent) (cited : Bool) (
 leaf_accepted t candidates cited line i c p all is first shows at known =
     (i, c, at, leaf_rule t.vocabulary candidates line i c at first, refl,
     derived t (c ∷ []) line p (All-from_recursion (λ (q : Parent). slice_get t.formulas q.number ≡ Some q.form) (c ∷ []) (known, tt)) (λ formulas one. shows formulas (recursion_from_All (λ (q : Parent). slice_get formulas q.number ≡ Some q.form) (c ∷ []) one).0))
+
+module _ (w : Vocabulary) (parents : List Parent) (line : Form) where
+  pub none_of : (rule : Rule) (o : Option Proof) → o ≡ None → IsByRule w parents line rule o → Holds w parents line rule → ⊥
+  none_of rule o is h = subst (IsByRule w parents line rule) is h
+
+  pub some_of : (rule : Rule) (o : Option Proof) (p : Proof) → o ≡ Some p → IsByRule w parents line rule o → Holds w parents line rule × ShowsLine w parents line p
+  some_of rule o p is h = subst (IsByRule w parents line rule) is h
+
+  pub found_is : (r : Option Found) (rule : Rule) (p : Proof) → r ≡ Some (record { rule = rule; proof = p }) → ByRule w parents line rule → ShowsLine w parents line p → IsFound w parents line r
+  found_is r rule p is by shows = subst (IsFound w parents line) (sym is) (by, shows)
