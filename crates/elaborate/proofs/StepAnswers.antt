@@ -1,5 +1,5 @@
 -- What answers say, from what is shown.
-use Rattle.std.specs.Prelude.{ℕ, ◌≡◌, ◌<◌, Bool, true, false, List, [], ◌∷◌, map, slice_get, get_or, Option, Some, None, refl}
+use Rattle.std.specs.Prelude.{ℕ, ◌≡◌, ◌<◌, Bool, true, false, List, [], ◌∷◌, map, slice_get, get_or, Option, Some, None, MatchOption, if◌then◌else◌, refl}
 use Rattle.std.specs.List.{All as Each, AllByRecursion}
 use Rattle.std.proofs.Common.{ap, sym, subst, ◌∙◌, inl, inr, zero, suc}
 use Rattle.std.proofs.lemmas.List.Elements.{recursion_from_All, All-from_recursion}
@@ -13,6 +13,7 @@ use Rattle.kernel.specs.declared.proof.Proof.{Proof}
 use Rattle.kernel.specs.declared.entry.Entry.TheVariants.{Lemma}
 use Rattle.elaborate.specs.declared.answer.Rule.{Rule}
 use Rattle.elaborate.specs.declared.answer.Rule.TheVariants.{Norm}
+use Rattle.elaborate.specs.declared.answer.Reason.{Reason}
 use Rattle.elaborate.specs.declared.answer.Reason.TheVariants.{NotYet, Leaf}
 use Rattle.elaborate.specs.declared.answer.StepAnswer.TheVariants.{Accepted, Unverified}
 use Rattle.elaborate.specs.declared.steps.Found.{Found}
@@ -21,7 +22,7 @@ use Rattle.elaborate.specs.Derived.{AreOfTheory, HasCited, IsDerivedFrom}
 use Rattle.elaborate.specs.Answers.{IsStepAnswer, IsLeafAnswer, numbers_of}
 use Rattle.elaborate.specs.Proofs.{ShowsLine, IsByRule, IsFound}
 use Rattle.elaborate.specs.Refuting.{theory_of}
-use Rattle.elaborate.proofs.NormLines.{parent_at}
+use Rattle.elaborate.proofs.NormLines.{norm_there, of_theory}
 
 module _ (t u : Statements) where
   abbrev Own : Parent → Type 0
@@ -102,3 +103,21 @@ module _ (w : Vocabulary) (parents : List Parent) (line : Form) where
 
   pub found_is : (r : Option Found) (rule : Rule) (p : Proof) → r ≡ Some (record { rule = rule; proof = p }) → ByRule w parents line rule → ShowsLine w parents line p → IsFound w parents line r
   found_is r rule p is by shows = subst (IsFound w parents line) (sym is) (by, shows)
+
+pub leaf_found : (t : Statements) (w : Vocabulary) (candidates : List Parent) (cited : Bool) (line : Form) (o : Option ℕ) (i : ℕ) (c : Parent) (p : Proof) → AreOfTheory t candidates → w ≡ t.vocabulary → c ≡ get_or candidates i c → o ≡ Some i
+    → MatchOption o (IsNormStep candidates line → ⊥) (IsFirstNorm candidates line)
+    → ((formulas : List Form) → slice_get formulas c.number ≡ Some c.form → Proves (theory_of w formulas) [] [] p line) → IsLeafAnswer t candidates cited line (Accepted Norm (c.number ∷ []) (Lemma p ∷ []))
+leaf_found t w candidates cited line o i c p all e is so m shows =
+    let first : IsFirstNorm candidates line i = subst (λ (x : Option ℕ). MatchOption x (IsNormStep candidates line → ⊥) (IsFirstNorm candidates line)) so m in
+    let at = norm_there candidates line i c first.0 is in
+    leaf_accepted t candidates cited line i c p all is first (λ formulas there. subst (λ (x : Vocabulary). Proves (theory_of x formulas) [] [] p line) e (shows formulas there)) at (of_theory t candidates i c all at)
+
+leaf_reason : (t : Statements) (candidates : List Parent) (cited : Bool) (line : Form) → ByNoLeafRule t.vocabulary candidates line → IsLeafAnswer t candidates cited line (Unverified (if cited then NotYet else Leaf))
+leaf_reason t candidates true line none = (none, refl)
+leaf_reason t candidates false line none = (none, refl)
+
+pub leaf_unverified : (t : Statements) (candidates : List Parent) (cited : Bool) (line : Form) (o : Option ℕ) (r : Reason) → o ≡ None → r ≡ (if cited then NotYet else Leaf) → MatchOption o (IsNormStep candidates line → ⊥) (IsFirstNorm candidates line)
+    → IsLeafAnswer t candidates cited line (Unverified r)
+leaf_unverified t candidates cited line o r so is m =
+    let none : IsNormStep candidates line → ⊥ = subst (λ (x : Option ℕ). MatchOption x (IsNormStep candidates line → ⊥) (IsFirstNorm candidates line)) so m in
+    subst (λ (x : Reason). IsLeafAnswer t candidates cited line (Unverified x)) (sym is) (leaf_reason t candidates cited line (no_leaf_rule t.vocabulary candidates line none))
