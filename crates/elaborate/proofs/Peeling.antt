@@ -177,13 +177,14 @@ fit_all w v (s ∷ sorts) [] e h = absurd (omega arith)
 fit_all w v (s ∷ sorts) (x ∷ xs) e h =
     let n = length sorts in
     let outermost : slice_get (reverse (s ∷ sorts)) n ≡ Some s = ap (λ (ys : List ℕ). slice_get ys n) (turn s sorts) ∙ slice_last (reverse sorts) s n (omega (arith, length-reverse sorts)) in
-    let its_own : get_or (reverse (x ∷ xs)) n (Var n) ≡ x = ap (λ (ys : List Term). get_or ys n (Var n)) (turn x xs) ∙ get_last (reverse xs) x (Var n) n (omega (arith, length-reverse xs)) in
-    (ap (sort_of_term w v) (sym its_own) ∙ h n s outermost,
-    fit_all w v sorts xs (omega arith) (λ k r f.
-    let within : k < length (reverse sorts) = slice_get_within (reverse sorts) k r f in
-    let there : slice_get (reverse (s ∷ sorts)) k ≡ Some r = ap (λ (ys : List ℕ). slice_get ys k) (turn s sorts) ∙ slice_front (reverse sorts) (s ∷ []) k r f in
-    let one : get_or (reverse (x ∷ xs)) k (Var k) ≡ get_or (reverse xs) k (Var k) = ap (λ (ys : List Term). get_or ys k (Var k)) (turn x xs) ∙ get_front (reverse xs) (x ∷ []) k (Var k) (omega (arith, length-reverse xs, length-reverse sorts)) in
-    ap (sort_of_term w v) (sym one) ∙ h k r there))
+    let its_own : get_or (reverse (x ∷ xs)) n (Var n) ≡ x = ap (λ (ys : List Term). get_or ys n (Var n)) (turn x xs) ∙ get_last (reverse xs) x (Var n) n (omega (arith, length-reverse xs)) in (
+      ap (sort_of_term w v) (sym its_own) ∙ h n s outermost,
+      fit_all w v sorts xs (omega arith) (λ k r f.
+          let within : k < length (reverse sorts) = slice_get_within (reverse sorts) k r f in
+          let there : slice_get (reverse (s ∷ sorts)) k ≡ Some r = ap (λ (ys : List ℕ). slice_get ys k) (turn s sorts) ∙ slice_front (reverse sorts) (s ∷ []) k r f in
+          let one : get_or (reverse (x ∷ xs)) k (Var k) ≡ get_or (reverse xs) k (Var k) = ap (λ (ys : List Term). get_or ys k (Var k)) (turn x xs) ∙ get_front (reverse xs) (x ∷ []) k (Var k) (omega (arith, length-reverse xs, length-reverse sorts)) in
+          ap (sort_of_term w v) (sym one) ∙ h k r there),
+    )
 
 -- the instance of a clause's body at images of its variables, given the outermost first
 pub instance_shown : (t : Statements) (v : List ℕ) (h : List Form) (sorts : List ℕ) (b : Bool) (lits : List Lit) (xs images : List Term) (p made : Proof) → images ≡ reverse xs → length xs ≡ length sorts

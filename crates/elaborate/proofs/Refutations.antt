@@ -49,8 +49,6 @@ pub complementary_atoms : (k l : Lit) → AreComplementary k l → IsSameAtom k.
 complementary_atoms k l (inl e) = inl (ap (λ (x : Lit). x.atom) e)
 complementary_atoms k l (inr e) = inr (ap (λ (x : Lit). x.atom) e)
 
-
-
 module _ (w : Vocabulary) (v : List ℕ) where
   pub clash_positive : (g : Form) (k other : Lit) (own : Proof) → k.positive ≡ true → AreComplementary k other → Sorted w v (form_of_lit other) → ShowsFrom w v 0 (form_of_atom k.atom) (form_of_atom other.atom) own
       → RefutesUnder w v g (form_of_lit other) (form_of_lit k) (NotE (Hyp 1) own)

@@ -90,9 +90,14 @@ module _ (v : Vocabulary) (candidates : List Parent) (line : Form) where
 pub leaf_accepted : (t : Statements) (candidates : List Parent) (cited : Bool) (line : Form) (i : ℕ) (c : Parent) (p : Proof) → AreOfTheory t candidates → c ≡ get_or candidates i c → IsFirstNorm candidates line i
     → ((formulas : List Form) → slice_get formulas c.number ≡ Some c.form → Proves (theory_of t.vocabulary formulas) [] [] p line)
     → (slice_get candidates i ≡ Some c) → slice_get t.formulas c.number ≡ Some c.form → IsLeafAnswer t candidates cited line (Accepted Norm (c.number ∷ []) (Lemma p ∷ []))
-leaf_accepted t candidates cited line i c p all is first shows at known =
-    (i, c, at, leaf_rule t.vocabulary candidates line i c at first, refl,
-    derived t (c ∷ []) line p (All-from_recursion (λ (q : Parent). slice_get t.formulas q.number ≡ Some q.form) (c ∷ []) (known, tt)) (λ formulas one. shows formulas (recursion_from_All (λ (q : Parent). slice_get formulas q.number ≡ Some q.form) (c ∷ []) one).0))
+leaf_accepted t candidates cited line i c p all is first shows at known = (
+  i,
+  c,
+  at,
+  leaf_rule t.vocabulary candidates line i c at first,
+  refl,
+  derived t (c ∷ []) line p (All-from_recursion (λ (q : Parent). slice_get t.formulas q.number ≡ Some q.form) (c ∷ []) (known, tt)) (λ formulas one. shows formulas (recursion_from_All (λ (q : Parent). slice_get formulas q.number ≡ Some q.form) (c ∷ []) one).0),
+)
 
 module _ (w : Vocabulary) (parents : List Parent) (line : Form) where
   pub none_of : (rule : Rule) (o : Option Proof) → o ≡ None → IsByRule w parents line rule o → Holds w parents line rule → ⊥

@@ -52,14 +52,16 @@ pub fn by_eqfactor(
     ensures { IfOk result (IsByRule signature.now parents.now line.now EqFactor) }
 {
     match eqfactor_step(alloc, signature, parents, line)? {
-        Some(Just::EqFactor {
-            parent,
-            first,
-            first_flipped,
-            second,
-            second_flipped,
-            subst,
-        }) => {
+        Some(
+            Just::EqFactor {
+                parent,
+                first,
+                first_flipped,
+                second,
+                second_flipped,
+                subst,
+            },
+        ) => {
             let factor = Factor {
                 first,
                 first_flipped,
@@ -206,7 +208,15 @@ fn linked(
     let same = denial(alloc, &denied, none)?;
     let own = read(alloc, signature, scope, side, first, factor.first_flipped)?;
     let link = chained(alloc, signature, scope, side, first, same, own)?;
-    let whole = written(alloc, signature, scope, side, second, factor.second_flipped, link)?;
+    let whole = written(
+        alloc,
+        signature,
+        scope,
+        side,
+        second,
+        factor.second_flipped,
+        link,
+    )?;
     let rest = contrary(alloc, signature, scope, line, other, 2)?;
     let form = form_of_lit(alloc, other)?;
     cut_under(alloc, whole, form, rest)

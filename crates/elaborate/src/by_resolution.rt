@@ -37,13 +37,15 @@ pub fn by_resolution(
     ensures { IfOk result (IsByRule signature.now parents.now line.now Resolution) }
 {
     match resolution_step(alloc, signature, parents, line)? {
-        Some(Just::Resolution {
-            left,
-            right,
-            left_lit,
-            right_lit: _,
-            subst,
-        }) => {
+        Some(
+            Just::Resolution {
+                left,
+                right,
+                left_lit,
+                right_lit: _,
+                subst,
+            },
+        ) => {
             let proof = resolved(
                 alloc, signature, parents, line, left, right, left_lit, &subst,
             )?;

@@ -50,11 +50,7 @@ pub fn leaf(
 fn reason(cited: bool) -> Reason
     ensures { result ≡ (if cited then NotYet else Unnamed) }
 {
-    if cited {
-        Reason::NotYet
-    } else {
-        Reason::Leaf
-    }
+    if cited { Reason::NotYet } else { Reason::Leaf }
 }
 
 // The answer that the leaf is accepted by `norm`, with the lemma of the proof as its only entry.

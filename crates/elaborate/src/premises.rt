@@ -23,12 +23,7 @@ pub struct Premise {
 }
 
 /// So many images, from that of the variable `from` on.
-pub fn some_images(
-    alloc: Global,
-    subst: &Subst,
-    from: usize,
-    count: usize,
-) -> Result<Subst, Memory>
+pub fn some_images(alloc: Global, subst: &Subst, from: usize, count: usize) -> Result<Subst, Memory>
     requires { from + count ≤ length subst.now }
     ensures { IfOk result (λ images. images ≡ take count (drop from subst.now)) }
 {

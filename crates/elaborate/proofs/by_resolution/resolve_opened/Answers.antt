@@ -7,10 +7,12 @@ use Rattle.elaborate.proofs.LineGoals.{scope_is, goal_in, shown_in}
 use Rattle.elaborate.proofs.by_resolution.resolve_opened.Goals as goal
 
 pub resolvent-requires-clause-resolvent : goal.resolvent-requires-clause-resolvent
-resolvent-requires-clause-resolvent c =
-    (c.requires.resolves.0, resolvent_of c.args.signature.now c.args.opened.now.clause c.args.subst.now c.args.left.now.form c.args.right.now.form c.args.left_opened.now c.args.right_opened.now c.requires.left c.requires.right c.requires.joint
-    c.in_ok-left_images.left_images c.in_ok-right_images.right_images (part_is c.args.subst.now c.in_ok-left_images.left_images _ _ (length c.args.left_opened.now.clause.sorts) (length c.args.opened.now.clause.sorts) c.in_ok-left_images.ensures (ap length c.as_slice-left_sorts.ensures) (ap length c.as_slice-own.ensures)) (part_is c.args.subst.now c.in_ok-right_images.right_images _ _ (length c.args.right_opened.now.clause.sorts) (length c.args.opened.now.clause.sorts + length c.args.left_opened.now.clause.sorts) c.in_ok-right_images.ensures (ap length c.as_slice-right_sorts.ensures) (omega (arith, ap length c.as_slice-own.ensures, ap length c.as_slice-left_sorts.ensures))) c.args.left.now.number c.args.right.now.number c.in_ok-left_premise.left_premise c.in_ok-right_premise.right_premise c.in_ok-left_premise.ensures c.in_ok-right_premise.ensures
-    c.args.left_lit c.requires.resolves.0 c.requires.resolves.1)
+resolvent-requires-clause-resolvent c = (
+  c.requires.resolves.0,
+  resolvent_of c.args.signature.now c.args.opened.now.clause c.args.subst.now c.args.left.now.form c.args.right.now.form c.args.left_opened.now c.args.right_opened.now c.requires.left c.requires.right c.requires.joint
+      c.in_ok-left_images.left_images c.in_ok-right_images.right_images (part_is c.args.subst.now c.in_ok-left_images.left_images _ _ (length c.args.left_opened.now.clause.sorts) (length c.args.opened.now.clause.sorts) c.in_ok-left_images.ensures (ap length c.as_slice-left_sorts.ensures) (ap length c.as_slice-own.ensures)) (part_is c.args.subst.now c.in_ok-right_images.right_images _ _ (length c.args.right_opened.now.clause.sorts) (length c.args.opened.now.clause.sorts + length c.args.left_opened.now.clause.sorts) c.in_ok-right_images.ensures (ap length c.as_slice-right_sorts.ensures) (omega (arith, ap length c.as_slice-own.ensures, ap length c.as_slice-left_sorts.ensures))) c.args.left.now.number c.args.right.now.number c.in_ok-left_premise.left_premise c.in_ok-right_premise.right_premise c.in_ok-left_premise.ensures c.in_ok-right_premise.ensures
+      c.args.left_lit c.requires.resolves.0 c.requires.resolves.1,
+)
 
 pub resolvent-requires-clause-goal : goal.resolvent-requires-clause-goal
 resolvent-requires-clause-goal c =

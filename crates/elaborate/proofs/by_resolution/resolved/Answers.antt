@@ -19,11 +19,13 @@ resolve_opened-requires-clause-joint c =
     (opened_clause c.args.line.now c.in_ok-opened.opened c.requires.shown.1.2 c.in_ok-opened.ensures c.requires.shown.1.4.line_clause) c.requires.shown.1.3
 
 pub resolve_opened-requires-clause-resolves : goal.resolve_opened-requires-clause-resolves
-resolve_opened-requires-clause-resolves c =
-    (c.requires.shown.0, resolves_here c.args.signature.now c.args.subst.now c.requires.shown.1.0 c.requires.shown.1.1 c.requires.shown.1.2 c.in_ok-left_opened.left_opened.clause c.in_ok-right_opened.right_opened.clause c.in_ok-opened.opened.clause c.args.left_lit c.requires.shown.0
-    (same_clause c.args.parents.now c.args.left c.requires.shown.1.0 c.index-parents-left.result c.in_ok-left_opened.left_opened c.requires.shown.1.4.left_clause c.index-parents-left.is c.in_ok-left_opened.ensures)
-    (same_clause c.args.parents.now c.args.right c.requires.shown.1.1 c.index-parents-right.result c.in_ok-right_opened.right_opened c.requires.shown.1.4.right_clause c.index-parents-right.is c.in_ok-right_opened.ensures)
-    (opened_clause c.args.line.now c.in_ok-opened.opened c.requires.shown.1.2 c.in_ok-opened.ensures c.requires.shown.1.4.line_clause) c.requires.shown.1.4.resolves)
+resolve_opened-requires-clause-resolves c = (
+  c.requires.shown.0,
+  resolves_here c.args.signature.now c.args.subst.now c.requires.shown.1.0 c.requires.shown.1.1 c.requires.shown.1.2 c.in_ok-left_opened.left_opened.clause c.in_ok-right_opened.right_opened.clause c.in_ok-opened.opened.clause c.args.left_lit c.requires.shown.0
+      (same_clause c.args.parents.now c.args.left c.requires.shown.1.0 c.index-parents-left.result c.in_ok-left_opened.left_opened c.requires.shown.1.4.left_clause c.index-parents-left.is c.in_ok-left_opened.ensures)
+      (same_clause c.args.parents.now c.args.right c.requires.shown.1.1 c.index-parents-right.result c.in_ok-right_opened.right_opened c.requires.shown.1.4.right_clause c.index-parents-right.is c.in_ok-right_opened.ensures)
+      (opened_clause c.args.line.now c.in_ok-opened.opened c.requires.shown.1.2 c.in_ok-opened.ensures c.requires.shown.1.4.line_clause) c.requires.shown.1.4.resolves,
+)
 
 pub returns : goal.returns
 returns c =
