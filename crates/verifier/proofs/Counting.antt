@@ -31,11 +31,11 @@ one_accepted [] k a all at = absurd (cc)
 one_accepted (x ∷ answers) zero a all at = same x a (cc) (first_accepted x answers all)
   where
     same : (x a : LineAnswer) → x ≡ a → IsAccepted x → IsAccepted a
-    same (Accepted rule cites) (Accepted other more) is yes = tt
-    same (Accepted rule cites) (Unverified reason) is yes = absurd (cc)
-    same (Accepted rule cites) Skipped is yes = absurd (cc)
-    same (Unverified reason) a is yes = absurd yes
-    same Skipped a is yes = absurd yes
+    same (Accepted rule cites) (Accepted other more) is good = tt
+    same (Accepted rule cites) (Unverified reason) is good = absurd (cc)
+    same (Accepted rule cites) Skipped is good = absurd (cc)
+    same (Unverified reason) a is good = absurd good
+    same Skipped a is good = absurd good
 one_accepted (x ∷ answers) (suc k) a all at = one_accepted answers k a (rest_accepted x answers all) at
 
 -- and where each is, all are

@@ -87,28 +87,25 @@ accepts v d taken old place line parents forms (Accepted rule cites) entries new
   tt,
   subst (IsSound v d (taken ++ place ∷ [])) (sym is) (record {
     vocabulary = ap (λ (t : Statements). t.vocabulary) made ∙ sound.vocabulary;
-    count = length-set old.numbers place (Some last) ∙ sound.count;
+    count = length-set old.numbers place (Some (length theory.formulas - 1)) ∙ sound.count;
     numbers = numbers;
   }),
 )
   where
-    last : ℕ
-    last = length theory.formulas - 1
-
     made : theory ≡ with_formula old.theory line.form
     made = accepted_theory line.node.leaf old.theory theory d.given line.node.cited parents line.form rule cites entries answers admits
 
-    numbers : (k : ℕ) → is_taken (taken ++ place ∷ []) k ≡ true → (n : ℕ) × (slice_get (slice_set old.numbers place (Some last)) k ≡ Some (Some n))
+    numbers : (k : ℕ) → is_taken (taken ++ place ∷ []) k ≡ true → (n : ℕ) × (slice_get (slice_set old.numbers place (Some (length theory.formulas - 1))) k ≡ Some (Some n))
     numbers k is_now = by (k == place) refl
       where
-        by : (b : Bool) → (k == place) ≡ b → (n : ℕ) × (slice_get (slice_set old.numbers place (Some last)) k ≡ Some (Some n))
+        by : (b : Bool) → (k == place) ≡ b → (n : ℕ) × (slice_get (slice_set old.numbers place (Some (length theory.formulas - 1))) k ≡ Some (Some n))
         by true test =
             let same : k ≡ place = grind (arith, nat_tests) in
-            (last, ap (slice_get (slice_set old.numbers place (Some last))) same ∙ set_here old.numbers place (Some last) (omega (arith, within, sound.count)))
+            (length theory.formulas - 1, ap (slice_get (slice_set old.numbers place (Some (length theory.formulas - 1)))) same ∙ set_here old.numbers place (Some (length theory.formulas - 1)) (omega (arith, within, sound.count)))
         by false test =
             let apart : k ≡ place → ⊥ = λ same. grind (arith, nat_tests) in
             let before = sound.numbers k (taken_more taken place k is_now apart) in
-            (before.0, set_elsewhere old.numbers place k (Some last) apart ∙ before.1)
+            (before.0, set_elsewhere old.numbers place k (Some (length theory.formulas - 1)) apart ∙ before.1)
 
 -- the line that has its turn is accepted
 turn_accepted : (v : Vocabulary) (d : Derivation) (answers : List LineAnswer) (taken : List ℕ) (old : Progress) (place : ℕ) (entries : List Entry) (new : Progress) → IsGood v d → IsSound v d taken old → HasTurn d.nodes taken place → AnswersPlace d answers old place entries new → ((a : LineAnswer) × (slice_get answers place ≡ Some a) × IsAccepted a) × IsSound v d (taken ++ place ∷ []) new

@@ -36,6 +36,10 @@ both_is None xs ys is = absurd (cc)
 both_is (Some x) None ys is = absurd (cc)
 both_is (Some x) (Some xs) ys is = (x, xs, refl, refl, cc)
 
+-- the number of a formula that comes behind others
+abbrev pub last_number : List Form → Form → ℕ
+last_number forms form = length (forms ++ form ∷ []) - 1
+
 module _ (d : Derivation) (p : Progress) (knows : Knows d p) where
   pub parent_stands : (r : Ref) (q : Parent) → parent_of d.given d.forms p.numbers r ≡ Some q → Stands p.theory q
   parent_stands (ref.Given place) q is =
@@ -74,22 +78,18 @@ module _ (d : Derivation) (p : Progress) (knows : Knows d p) where
   knows_more place form u at is =
       subst (λ (w : Statements). Knows d (with_line p place w)) (sym is) (record {
         given = λ k a there. stays_behind p.theory.formulas (form ∷ []) k a (knows.given k a there);
-        lines = λ k n a number there. line k n a there (set_cases p.numbers place k (Some last) (Some n) number);
+        lines = λ k n a number there. line k n a there (set_cases p.numbers place k (Some (last_number p.theory.formulas form)) (Some n) number);
         given_ready = knows.given_ready;
         lines_ready = knows.lines_ready;
-        count = length-set p.numbers place (Some last) ∙ knows.count;
+        count = length-set p.numbers place (Some (last_number p.theory.formulas form)) ∙ knows.count;
       })
     where
-      last : ℕ
-      last = length (with_formula p.theory form).formulas - 1
-
-      at_last : last ≡ length p.theory.formulas
-      unfolding last
+      at_last : last_number p.theory.formulas form ≡ length p.theory.formulas
       at_last = omega (arith, length-append p.theory.formulas (form ∷ []))
 
-      line : (k n : ℕ) (a : Form) → slice_get d.forms k ≡ Some a → ((k ≡ place) × (Some n ≡ Some last)) ⊎ (slice_get p.numbers k ≡ Some (Some n)) → slice_get (p.theory.formulas ++ form ∷ []) n ≡ Some a
+      line : (k n : ℕ) (a : Form) → slice_get d.forms k ≡ Some a → ((k ≡ place) × (Some n ≡ Some (last_number p.theory.formulas form))) ⊎ (slice_get p.numbers k ≡ Some (Some n)) → slice_get (p.theory.formulas ++ form ∷ []) n ≡ Some a
       line k n a there (inl (same, number)) =
-          let n_is : n ≡ length p.theory.formulas = (let e : n ≡ last = cc in e ∙ at_last) in
+          let n_is : n ≡ length p.theory.formulas = (let e : n ≡ last_number p.theory.formulas form = cc in e ∙ at_last) in
           let form_is : form ≡ a = one_value (slice_get d.forms place) form a at (ap (slice_get d.forms) (sym same) ∙ there) in
           ap (slice_get (p.theory.formulas ++ form ∷ [])) n_is ∙ comes_last p.theory.formulas form ∙ ap Some form_is
       line k n a there (inr number) = stays_behind p.theory.formulas (form ∷ []) n a (knows.lines k n a number there)

@@ -1,9 +1,11 @@
 pub mod Adding
+pub mod Collecting
 pub mod Counting
 pub mod Declaring
 pub mod Derived
 pub mod Goodness
 pub mod Knowing
+pub mod LineAnswers
 pub mod Logs
 pub mod OneConclusion
 pub mod Refuting

@@ -14,7 +14,7 @@ mod lines;
 mod names;
 mod parents;
 mod run;
-mod verdict;
+mod ending;
 
 pub use answer::LineAnswer;
 pub use claim::{Claim, cites_marked, is_justified, status_of};
@@ -24,4 +24,4 @@ pub use fault::RunFault;
 pub use laws::{a_good_derivation_is_accepted, a_verified_run_refutes};
 pub use names::{answer_of, reason_name, rule_name};
 pub use run::run_lines;
-pub use verdict::{has_false, verdict};
+pub use ending::{has_false, verdict};
