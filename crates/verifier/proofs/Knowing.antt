@@ -13,7 +13,8 @@ use Rattle.elaborate.specs.Derived.{AreOfTheory}
 use Rattle.tstp_graph.specs.declared.shape.Ref.{Ref}
 use Rattle.tstp_graph.specs.declared.shape.Ref.TheVariants as ref
 use Rattle.verifier.specs.Lines.{Derivation, numbered, given_from, with_number, accepted, parent_of, both, parents_of}
-use Rattle.verifier.specs.Numbered.{Knows, forms_in, progress_of}
+use Rattle.verifier.specs.Numbered.{Knows, IsOver, AreNumbered, forms_in, progress_of, derivation_in}
+use Rattle.verifier.specs.declared.lines.Lines.{Lines}
 use Rattle.verifier.specs.Run.{Progress, begun, with_line}
 use Rattle.verifier.proofs.Slots.{set_here, set_cases, of_all, stays_behind, comes_last, one_value, in_replicate}
 
@@ -67,8 +68,8 @@ module _ (d : Derivation) (p : Progress) (knows : Knows d p) where
       let same : number + 0 ≡ number = omega arith in
       let here : slice_get d.given number ≡ Some form = ap (slice_get d.given) (sym same) ∙ at 0 form refl in
       All-cons (Stands p.theory) (numbered number form) (given_from (number + 1) forms)
-          (record { at = knows.given number form here; ready = of_all (IsReady p.theory.vocabulary) d.given number form knows.given_ready here })
-          (given_on (number + 1) forms (λ k a is. let next : number + 1 + k ≡ number + suc k = omega arith in ap (slice_get d.given) next ∙ at (suc k) a is))
+      (record { at = knows.given number form here; ready = of_all (IsReady p.theory.vocabulary) d.given number form knows.given_ready here })
+      (given_on (number + 1) forms (λ k a is. let next : number + 1 + k ≡ number + suc k = omega arith in ap (slice_get d.given) next ∙ at (suc k) a is))
 
   pub given_stand : All (Stands p.theory) (given_from 0 d.given)
   given_stand = given_on 0 d.given (λ k a is. let same : 0 + k ≡ k = omega arith in ap (slice_get d.given) same ∙ is)
@@ -117,3 +118,23 @@ knows_none t d same count given_ready lines_ready = record {
 pub forms_of_given : (number : ℕ) (forms : List Form) → forms_in (given_from number forms) ≡ forms
 forms_of_given number [] = refl
 forms_of_given number (form ∷ forms) = ap (λ (fs : List Form). form ∷ fs) (forms_of_given (number + 1) forms)
+
+-- ---- the lines in memory
+
+pub numbered_of_theory : (lines : Lines) (t : Statements) (numbers : List (Option ℕ)) → AreNumbered lines.given.now → Knows (derivation_in lines) (progress_of t numbers) → AreOfTheory t lines.given.now
+numbered_of_theory lines t numbers numbered knows = subst (AreOfTheory t) (sym numbered) (of_theory t (given_from 0 (forms_in lines.given.now)) (given_stand (derivation_in lines) (progress_of t numbers) knows))
+
+pub numbered_ready : (lines : Lines) (t : Statements) (numbers : List (Option ℕ)) → AreNumbered lines.given.now → Knows (derivation_in lines) (progress_of t numbers) → AreReady t.vocabulary lines.given.now
+numbered_ready lines t numbers numbered knows = subst (AreReady t.vocabulary) (sym numbered) (are_ready t (given_from 0 (forms_in lines.given.now)) (given_stand (derivation_in lines) (progress_of t numbers) knows))
+
+-- what is made of the formulas of a theory has these formulas
+pub given_forms : (given : List Parent) (forms : List Form) → given ≡ given_from 0 forms → forms_in given ≡ forms
+given_forms given forms is = ap forms_in is ∙ forms_of_given 0 forms
+
+pub over_numbered : (t : Statements) (lines : Lines) → IsOver t lines → AreNumbered lines.given.now
+over_numbered t lines over = over.given ∙ ap (given_from 0) (sym (given_forms lines.given.now t.formulas over.given))
+
+pub over_knows : (t : Statements) (lines : Lines) (numbers : List (Option ℕ)) (count : ℕ) → IsOver t lines → numbers ≡ replicate count None → count ≡ length lines.nodes.now → Knows (derivation_in lines) (progress_of t numbers)
+over_knows t lines numbers count over is all =
+    subst (λ (ns : List (Option ℕ)). Knows (derivation_in lines) (progress_of t ns)) (sym (is ∙ ap (λ (n : ℕ). replicate n None) all))
+    (knows_none t (derivation_in lines) (given_forms lines.given.now t.formulas over.given) over.same over.given_ready over.lines_ready)

@@ -18,7 +18,11 @@ use Rattle.tstp_graph.specs.declared.shape.Node.{Node}
 use Rattle.tstp_graph.specs.Order.{is_taken, first_left}
 use Rattle.szs_report.specs.declared.answer.Verdict.{Verdict}
 use Rattle.szs_report.specs.declared.answer.Verdict.TheVariants.{Failed, NoFalse, BadClaim, Verified}
-use Rattle.verifier.specs.Closing.{Closes, IsVerified}
+use Rattle.std.proofs.lemmas.List.{append-nil}
+use Rattle.tptp_base.specs.Sink.{Takes, TakesPrefix}
+use Rattle.proof_log.specs.Entries.{entry_text}
+use Rattle.verifier.specs.Closing.{Closes, ClosesLog, IsVerified}
+use Rattle.verifier.specs.Logged.{LogsSome}
 use Rattle.verifier.specs.Lines.{Derivation, Line, parents_of}
 use Rattle.verifier.specs.Report.{HasFalse, AreAccepted}
 use Rattle.verifier.specs.Run.{Progress, AnswersPlace, AreAnswered, IsAnswered, IsRun}
@@ -92,3 +96,22 @@ closed_refutes t u entries last (Verified word problem lines) admits verified (p
 pub run_refutes : (t start : Statements) (before : List Entry) (d : Derivation) (order : List ℕ) (answers : List LineAnswer) (entries : List Entry) (end : Statements) (verdict : Verdict) (last : List Entry) → Admits t before start → IsRun start d order answers entries end → IsVerified verdict → Closes verdict end last → Refutes t (before ++ entries ++ last)
 run_refutes t start before d order answers entries end verdict last first run verified closes =
     closed_refutes t end (before ++ entries) last verdict (admits_append t start end before entries first (run_admits start d order answers entries end run)) verified closes
+
+-- ---- the last entry
+
+-- the lemma that is logged where all is verified
+pub last_closes : (verdict : Verdict) (t : Statements) (number : ℕ) (old new : Option (List ℕ)) → IsVerified verdict → slice_get t.formulas number ≡ Some (Or []) → Takes old new (entry_text (Lemma (Cited number))) → ClosesLog verdict t old new
+last_closes (Failed unverified skipped lines) t number old new verified at taken = absurd verified
+last_closes NoFalse t number old new verified at taken = absurd verified
+last_closes (BadClaim word) t number old new verified at taken = absurd verified
+last_closes (Verified word problem lines) t number old new verified at taken =
+    (Lemma (Cited number) ∷ [], (Cited number, line_shows t number at, refl), subst (Takes old new) (sym (append-nil (entry_text (Lemma (Cited number))))) taken)
+
+-- the last entry is cut
+pub last_cut : (t : Statements) (number : ℕ) (old new : Option (List ℕ)) → slice_get t.formulas number ≡ Some (Or []) → TakesPrefix old new (entry_text (Lemma (Cited number))) → LogsSome t old new
+last_cut t number old new at cut = record {
+  entries = Lemma (Cited number) ∷ [];
+  theory = with_formula t (Or []);
+  legal = ((Or [], line_shows t number at), (with_formula t (Or []), (Or [], line_shows t number at, refl), refl));
+  taken = subst (TakesPrefix old new) (sym (append-nil (entry_text (Lemma (Cited number))))) cut;
+}
