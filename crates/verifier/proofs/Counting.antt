@@ -1,5 +1,5 @@
 -- Answers that are accepted, by counts and one by one.
-use Rattle.std.proofs.Common.{◌≡◌, ℕ, zero, suc, ◌+◌, ◌<◌, ◌≤◌, Bool, true, false, cond, List, [], ◌∷◌, length, Option, Some, slice_get, refl, sym, ◌∙◌, ap, arith}
+use Rattle.std.proofs.Common.{◌≡◌, ℕ, zero, suc, ◌+◌, cond, List, [], ◌∷◌, Some, slice_get, refl, arith}
 use Rattle.std.proofs.lemmas.List.Sums.{sum_by-cons}
 use Rattle.verifier.specs.Report.{is_unverified, is_skipped, unverified_of, skipped_of, AreAccepted}
 use Rattle.verifier.specs.declared.answer.LineAnswer.{LineAnswer}

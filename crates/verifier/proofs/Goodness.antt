@@ -1,5 +1,5 @@
 -- A run of a good derivation accepts each line.
-use Rattle.std.proofs.Common.{◌≡◌, ℕ, ◌+◌, ◌-◌, ◌<◌, ◌⊎◌, inl, inr, ◌==◌, ◌||◌, ◌&&◌, Bool, true, false, List, [], ◌∷◌, ◌++◌, length, map, Option, None, Some, slice_get, slice_set, refl, sym, ◌∙◌, ap, subst, arith}
+use Rattle.std.proofs.Common.{◌≡◌, ℕ, ◌+◌, ◌-◌, ◌<◌, inl, inr, ◌==◌, ◌||◌, Bool, true, false, List, [], ◌∷◌, ◌++◌, length, Option, None, Some, slice_get, slice_set, refl, sym, ◌∙◌, ap, subst, arith}
 use Rattle.std.specs.List.{list_all}
 use Rattle.std.proofs.lemmas.Bool.Decides.{nat_tests}
 use Rattle.std.proofs.lemmas.List.{length-set, length-replicate}
@@ -10,7 +10,7 @@ use Rattle.clause_form.specs.declared.path.Parent.{Parent}
 use Rattle.kernel.specs.Statements.{Statements}
 use Rattle.kernel.specs.Entries.{with_formula}
 use Rattle.kernel.specs.declared.entry.Entry.{Entry}
-use Rattle.elaborate.specs.ByRule.{IsFirst, IsNone, IsFirstAlone, IsNoneAlone, ByRule, ByNone, LeafRule, ByNoLeafRule, rules, leaf_rules}
+use Rattle.elaborate.specs.ByRule.{IsFirst, IsNone, IsFirstAlone, IsNoneAlone, rules, leaf_rules}
 use Rattle.elaborate.specs.declared.answer.Rule.{Rule}
 use Rattle.elaborate.specs.declared.answer.Reason.{Reason}
 use Rattle.elaborate.specs.declared.answer.Reason.TheVariants.{NotYet, Leaf}
@@ -19,10 +19,10 @@ use Rattle.tstp_graph.specs.declared.shape.Ref.{Ref}
 use Rattle.tstp_graph.specs.declared.shape.Ref.TheVariants as ref
 use Rattle.tstp_graph.specs.declared.shape.Node.{Node}
 use Rattle.tstp_graph.specs.Order.{is_taken, is_done, TakesInTurn, first_left}
-use Rattle.verifier.specs.Good.{form_of, forms_of, HaveForms, FollowsAs, Follows, IsGood}
-use Rattle.verifier.specs.Lines.{Derivation, Line, IsLineAt, numbered, parent_of, both, parents_of, candidates_of}
+use Rattle.verifier.specs.Good.{form_of, forms_of, HaveForms, FollowsAs, IsGood}
+use Rattle.verifier.specs.Lines.{Derivation, Line, numbered, parent_of, parents_of, candidates_of}
 use Rattle.verifier.specs.Report.{AreAccepted}
-use Rattle.verifier.specs.Run.{Progress, AnswersKind, AnswersPlace, AreAnswered, IsAnswered, IsRun, begun, with_line}
+use Rattle.verifier.specs.Run.{Progress, AnswersKind, AnswersPlace, AreAnswered, IsAnswered, IsRun, begun}
 use Rattle.verifier.specs.declared.answer.LineAnswer.{LineAnswer}
 use Rattle.verifier.specs.declared.answer.LineAnswer.TheVariants.{Accepted, Unverified, Skipped}
 use Rattle.verifier.proofs.Counting.{IsAccepted, all_accepted}

@@ -1,9 +1,8 @@
 -- What is known of the theory so far: that the parents of a line stand in it, and how it goes on.
-use Rattle.std.proofs.Common.{◌≡◌, ℕ, zero, suc, ◌+◌, ◌-◌, ◌<◌, ◌⊎◌, inl, inr, List, [], ◌∷◌, ◌++◌, length, map, Option, None, Some, slice_get, slice_set, replicate, refl, sym, ◌∙◌, ap, subst, arith, length-append}
+use Rattle.std.proofs.Common.{◌≡◌, ℕ, suc, ◌+◌, ◌-◌, ◌⊎◌, inl, inr, List, [], ◌∷◌, ◌++◌, length, Option, None, Some, slice_get, replicate, refl, sym, ◌∙◌, ap, subst, arith, length-append}
 use Rattle.std.specs.List.{All}
 use Rattle.std.proofs.lemmas.List.{length-set, length-replicate}
 use Rattle.std.proofs.lemmas.List.Elements.{All-nil, All-cons, All-weaker}
-use Rattle.fof_terms.specs.Vocabulary.{Vocabulary}
 use Rattle.fof_terms.specs.declared.form.Form.{Form}
 use Rattle.clause_form.specs.declared.path.Parent.{Parent}
 use Rattle.clause_rules.specs.Steps.{IsReady, AreReady}
@@ -16,7 +15,7 @@ use Rattle.verifier.specs.Lines.{Derivation, numbered, given_from, with_number, 
 use Rattle.verifier.specs.Numbered.{Knows, IsOver, AreNumbered, forms_in, progress_of, derivation_in}
 use Rattle.verifier.specs.declared.lines.Lines.{Lines}
 use Rattle.verifier.specs.Run.{Progress, begun, with_line}
-use Rattle.verifier.proofs.Slots.{set_here, set_cases, of_all, stays_behind, comes_last, one_value, in_replicate}
+use Rattle.verifier.proofs.Slots.{set_cases, of_all, stays_behind, comes_last, one_value, in_replicate}
 
 -- the parent stands in the theory, and the rules may be asked about it
 pub record Stands (t : Statements) (p : Parent) : Type 0 where

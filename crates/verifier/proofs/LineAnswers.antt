@@ -1,5 +1,5 @@
 -- The answer to one line, and what is taken of it.
-use Rattle.std.proofs.Common.{◌≡◌, ℕ, ◌<◌, ◌≤◌, Bool, true, false, List, [], ◌∷◌, length, get_or, Option, None, Some, Result, Ok, Err, IfOk, OnOk, refl, sym, ◌∙◌, subst, arith}
+use Rattle.std.proofs.Common.{◌≡◌, ℕ, ◌<◌, ◌≤◌, Bool, true, false, List, [], length, get_or, Option, None, Some, Result, IfOk, OnOk, refl, sym, ◌∙◌, subst, arith}
 use Rattle.std.proofs.lemmas.Option.{slice_get-get_or}
 use Rattle.std.proofs.lemmas.Result.{IfOk-weaker}
 use Rattle.tptp_base.specs.Sink.{Takes}
@@ -9,16 +9,16 @@ use Rattle.clause_form.specs.declared.path.Parent.{Parent}
 use Rattle.kernel.specs.Statements.{Statements}
 use Rattle.kernel.specs.Entries.{Admits, with_formula}
 use Rattle.kernel.specs.declared.entry.Entry.{Entry}
-use Rattle.elaborate.specs.Answers.{IsStepAnswer, IsLeafAnswer}
+use Rattle.elaborate.specs.Answers.{IsLeafAnswer}
 use Rattle.elaborate.specs.declared.answer.Rule.{Rule}
 use Rattle.elaborate.specs.declared.answer.StepAnswer.{StepAnswer}
 use Rattle.elaborate.specs.declared.answer.StepAnswer.TheVariants as step
 use Rattle.tstp_graph.specs.declared.shape.Node.{Node}
-use Rattle.verifier.specs.Lines.{Derivation, Line, IsLineAt, given_from, candidates_of, parents_of}
+use Rattle.verifier.specs.Lines.{Derivation, Line, IsLineAt, given_from, parents_of}
 use Rattle.verifier.specs.Logged.{CanAdmit}
 use Rattle.verifier.specs.Numbered.{Knows}
 use Rattle.verifier.specs.Run.{Progress, AnswersKind, Answers, IsAnswered}
-use Rattle.verifier.specs.Taking.{Adds, CanTake, TakesAnswer, AnswersLine}
+use Rattle.verifier.specs.Taking.{CanTake, TakesAnswer, AnswersLine}
 use Rattle.verifier.specs.declared.answer.LineAnswer.{LineAnswer}
 use Rattle.verifier.specs.declared.answer.LineAnswer.TheVariants.{Accepted, Unverified, Skipped}
 use Rattle.verifier.proofs.Derived.{some_formula, accepted_theory}

@@ -11,10 +11,9 @@ use Rattle.kernel.specs.Entries.{Admits, Refutes, with_formula}
 use Rattle.kernel.specs.EntryLaws.{admits_append, admits_more}
 use Rattle.kernel.specs.Proves.{Proves}
 use Rattle.kernel.specs.Rules.{Proves-Line}
-use Rattle.kernel.specs.declared.proof.Proof.{Proof, Line as Cited}
+use Rattle.kernel.specs.declared.proof.Proof.{Line as Cited}
 use Rattle.kernel.specs.declared.entry.Entry.{Entry}
 use Rattle.kernel.specs.declared.entry.Entry.TheVariants.{Lemma}
-use Rattle.tstp_graph.specs.declared.shape.Node.{Node}
 use Rattle.tstp_graph.specs.Order.{is_taken, first_left}
 use Rattle.szs_report.specs.declared.answer.Verdict.{Verdict}
 use Rattle.szs_report.specs.declared.answer.Verdict.TheVariants.{Failed, NoFalse, BadClaim, Verified}
@@ -25,7 +24,7 @@ use Rattle.verifier.specs.Closing.{Closes, ClosesLog, IsVerified}
 use Rattle.verifier.specs.Logged.{LogsSome}
 use Rattle.verifier.specs.Lines.{Derivation, Line, parents_of}
 use Rattle.verifier.specs.Report.{HasFalse, AreAccepted}
-use Rattle.verifier.specs.Run.{Progress, AnswersPlace, AreAnswered, IsAnswered, IsRun}
+use Rattle.verifier.specs.Run.{Progress, AreAnswered, IsAnswered, IsRun}
 use Rattle.verifier.specs.declared.answer.LineAnswer.{LineAnswer}
 use Rattle.verifier.specs.declared.answer.LineAnswer.TheVariants.{Accepted, Unverified, Skipped}
 use Rattle.verifier.proofs.Counting.{IsAccepted, one_accepted}

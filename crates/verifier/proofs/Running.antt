@@ -1,5 +1,5 @@
 -- How lines are run one by one.
-use Rattle.std.proofs.Common.{◌≡◌, ℕ, zero, suc, ◌+◌, ◌-◌, ◌<◌, ◌≤◌, Bool, true, false, List, [], ◌∷◌, ◌++◌, length, take, drop, get_or, Option, None, Some, Result, IfOk, slice_get, slice_set, replicate, refl, sym, ◌∙◌, ap, subst, append_assoc, drop-cons, add-one, arith}
+use Rattle.std.proofs.Common.{◌≡◌, ℕ, zero, suc, ◌+◌, ◌<◌, true, List, [], ◌∷◌, ◌++◌, length, take, drop, get_or, Option, None, Some, Result, IfOk, slice_get, slice_set, replicate, refl, sym, ◌∙◌, ap, subst, append_assoc, drop-cons, add-one, arith}
 use Rattle.std.proofs.lemmas.List.{append-nil, length-set, take_more}
 use Rattle.fof_terms.specs.declared.form.Form.{Form}
 use Rattle.tptp_base.specs.Sink.{Takes}
@@ -9,19 +9,18 @@ use Rattle.kernel.specs.Entries.{Admits}
 use Rattle.kernel.specs.EntryLaws.{admits_append}
 use Rattle.kernel.specs.declared.entry.Entry.{Entry}
 use Rattle.clause_form.specs.declared.path.Parent.{Parent}
-use Rattle.elaborate.specs.declared.answer.StepAnswer.TheVariants as step
 use Rattle.tstp_graph.specs.declared.shape.Node.{Node}
 use Rattle.tstp_graph.specs.Order.{is_taken, TakesInTurn}
-use Rattle.verifier.specs.Lines.{Derivation, Line, IsLineAt, parents_of}
+use Rattle.verifier.specs.Lines.{Derivation, Line, parents_of}
 use Rattle.verifier.specs.Logged.{LogsSome, LogsRun, entries_text}
 use Rattle.verifier.specs.Numbered.{progress_of}
-use Rattle.verifier.specs.Run.{Progress, IsAnswered, AnswersPlace, AreAnswered, IsRun, begun, with_line}
+use Rattle.verifier.specs.Run.{Progress, IsAnswered, AnswersPlace, AreAnswered, begun}
 use Rattle.verifier.specs.Taking.{AnswersLine}
 use Rattle.verifier.specs.declared.answer.LineAnswer.{LineAnswer}
 use Rattle.verifier.specs.declared.answer.LineAnswer.TheVariants.{Accepted, Unverified, Skipped}
-use Rattle.verifier.proofs.Logs.{takes_more_entries, logs_all, logs_more}
+use Rattle.verifier.proofs.Logs.{takes_more_entries, logs_more}
 use Rattle.verifier.proofs.Slots.{set_here, set_elsewhere}
-use Rattle.verifier.proofs.Turns.{HasTurn, turn_of, taken_more, taken_last, taken_still, taken_apart}
+use Rattle.verifier.proofs.Turns.{HasTurn, turn_of, taken_last, taken_still, taken_apart}
 
 -- the entries of one answer are legal in turn
 pub answer_admits : (d : Derivation) (old : Progress) (place : ℕ) (line : Line) (parents : Option (List Parent)) (answer : LineAnswer) (entries : List Entry) (new : Progress) → IsAnswered d.given old place line parents answer entries new → Admits old.theory entries new.theory

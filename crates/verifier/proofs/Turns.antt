@@ -1,11 +1,9 @@
 -- The order of a graph: each place is new, has a node, and comes behind its parents; and no place is left out.
-use Rattle.std.proofs.Common.{◌≡◌, ℕ, zero, suc, ◌+◌, ◌<◌, ◌==◌, ◌||◌, ◌&&◌, Bool, true, false, not, cond, List, [], ◌∷◌, ◌++◌, length, Option, None, Some, slice_get, refl, sym, ◌∙◌, ap, subst, arith}
-use Rattle.std.specs.List.{list_any, list_all}
+use Rattle.std.proofs.Common.{◌≡◌, ℕ, zero, suc, ◌+◌, ◌==◌, ◌||◌, ◌&&◌, Bool, true, false, not, cond, List, [], ◌∷◌, ◌++◌, None, Some, slice_get, refl, sym, ◌∙◌, ap, arith}
+use Rattle.std.specs.List.{list_all}
 use Rattle.std.proofs.lemmas.Bool.Decides.{nat_tests}
-use Rattle.tstp_graph.specs.declared.shape.Ref.{Ref}
-use Rattle.tstp_graph.specs.declared.shape.Ref.TheVariants as ref
 use Rattle.tstp_graph.specs.declared.shape.Node.{Node}
-use Rattle.tstp_graph.specs.Order.{is_taken, is_done, is_ready, first_ready, TakesInTurn, first_left}
+use Rattle.tstp_graph.specs.Order.{is_taken, is_done, is_ready, first_ready, first_left}
 
 -- a place has its turn behind those that are taken
 pub record HasTurn (nodes : List Node) (taken : List ℕ) (place : ℕ) : Type 0 where

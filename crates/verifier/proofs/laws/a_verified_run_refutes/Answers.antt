@@ -1,5 +1,3 @@
-use Rattle.std.proofs.Common.{sym, subst, append_assoc}
-use Rattle.kernel.specs.Entries.{Refutes}
 use Rattle.verifier.proofs.Refuting.{falsehood_stands, run_refutes}
 use Rattle.verifier.proofs.laws.a_verified_run_refutes.Goals as goal
 

@@ -1,8 +1,6 @@
-use Rattle.std.proofs.Common.{◌∙◌, sym, ap, Some}
-use Rattle.clause_rules.specs.Steps.{AreReady}
-use Rattle.elaborate.specs.Derived.{AreOfTheory}
-use Rattle.verifier.specs.Numbered.{forms_in, derivation_in, progress_of}
-use Rattle.verifier.proofs.Knowing.{parents_stand, given_stand, of_theory, are_ready, numbered_of_theory, numbered_ready}
+use Rattle.std.proofs.Common.{◌∙◌, sym}
+use Rattle.verifier.specs.Numbered.{derivation_in, progress_of}
+use Rattle.verifier.proofs.Knowing.{parents_stand, of_theory, are_ready, numbered_of_theory, numbered_ready}
 use Rattle.verifier.proofs.LineAnswers.{skips_line, call_takes, call_knows, line_at}
 use Rattle.verifier.proofs.line.run_line.Goals as goal
 
