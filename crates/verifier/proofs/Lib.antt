@@ -9,6 +9,7 @@ pub mod LineAnswers
 pub mod Logs
 pub mod OneConclusion
 pub mod Refuting
+pub mod Renumbering
 pub mod Running
 pub mod Slots
 pub mod Turns
