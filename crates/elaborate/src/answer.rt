@@ -1,0 +1,39 @@
+use kernel::Entry;
+use tptp_base::List;
+
+/// A rule that gives a line from its parents.
+#[derive(Clone, Copy, Debug, PartialEq, Eq)]
+pub enum Rule {
+    /// `norm`: a parent has the line's normal form.
+    Norm,
+    /// `tautology`: the line is a clause that is true by its form.
+    Tautology,
+    /// `resolution`: two literals of two parents become complementary, and the line covers what else the two have.
+    Resolution,
+    /// `eqfactor`: two equations of a parent get one side in common, and their other sides are denied to be equal in
+    /// place of the first.
+    EqFactor,
+}
+
+/// Why a line isn't verified.
+#[derive(Clone, Copy, Debug, PartialEq, Eq)]
+pub enum Reason {
+    /// `not-yet`: no rule that is built gives it.
+    NotYet,
+    /// `leaf`: a leaf that names no formula of the problem, and that no rule for leaves gives.
+    Leaf,
+}
+
+/// The answer to one line of a derivation.
+#[derive(Drop)]
+pub enum StepAnswer {
+    /// The first rule that gives the line, the numbers of the formulas of the theory that the line cites, and the
+    /// entries that derive it, the last of which adds it.
+    Accepted {
+        rule: Rule,
+        cites: List<u64>,
+        entries: List<Entry>,
+    },
+    /// No rule gives the line.
+    Unverified(Reason),
+}

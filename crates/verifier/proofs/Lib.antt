@@ -1,0 +1,12 @@
+pub mod Adding
+pub mod Counting
+pub mod Declaring
+pub mod Derived
+pub mod Goodness
+pub mod Knowing
+pub mod Logs
+pub mod OneConclusion
+pub mod Refuting
+pub mod Running
+pub mod Slots
+pub mod Turns

@@ -1,0 +1,11 @@
+pub mod Claim
+pub mod Closing
+pub mod Declarations
+pub mod Faults
+pub mod Good
+pub mod Lines
+pub mod Logged
+pub mod Numbered
+pub mod Report
+pub mod Run
+pub mod Taking

@@ -1,0 +1,70 @@
+-- What a run of a derivation is: each line, in an order in which it comes behind its parents, is skipped, or answered in
+-- the theory so far, which takes the entries of the answer.
+use Rattle.std.specs.Prelude.{ℕ, ◌≡◌, ◌-◌, Bool, true, false, List, [], ◌∷◌, ◌++◌, length, Option, None, Some, replicate, slice_get, slice_set}
+use Rattle.fof_terms.specs.declared.form.Form.{Form}
+use Rattle.clause_form.specs.declared.path.Parent.{Parent}
+use Rattle.kernel.specs.Statements.{Statements}
+use Rattle.kernel.specs.Entries.{Admits}
+use Rattle.kernel.specs.declared.entry.Entry.{Entry}
+use Rattle.elaborate.specs.Answers.{IsStepAnswer, IsLeafAnswer}
+use Rattle.elaborate.specs.declared.answer.StepAnswer.{StepAnswer}
+use Rattle.elaborate.specs.declared.answer.StepAnswer.TheVariants as step
+use Rattle.verifier.specs.Lines.{Derivation, Line, IsLineAt, parents_of, candidates_of}
+use Rattle.verifier.specs.declared.answer.LineAnswer.{LineAnswer}
+use Rattle.verifier.specs.declared.answer.LineAnswer.TheVariants.{Accepted, Unverified, Skipped}
+
+-- How far a derivation is run: the theory so far, and for each line, by its place in the text, the number of its formula
+-- in that theory, if the line is accepted so far.
+pub record Progress : Type 0 where
+  pub theory : Statements
+  pub numbers : List (Option ℕ)
+
+-- the line at this place is accepted: its formula is the last of the theory
+abbrev pub with_line : Progress → ℕ → Statements → Progress
+with_line old place theory = record { theory = theory; numbers = slice_set old.numbers place (Some (length theory.formulas - 1)) }
+
+-- in a theory, the answer to a leaf or to a step that has these parents
+abbrev pub AnswersKind : Bool → Statements → List Form → Bool → List Parent → Form → StepAnswer → Type 0
+AnswersKind true t given cited parents form answer = IsLeafAnswer t (candidates_of given cited parents) cited form answer
+AnswersKind false t given cited parents form answer = IsStepAnswer t parents form answer
+
+-- in a theory, the answer to a line that has these parents
+abbrev pub Answers : Statements → List Form → Line → List Parent → StepAnswer → Type 0
+Answers t given line parents answer = AnswersKind line.node.leaf t given line.node.cited parents line.form answer
+
+-- The line at this place is answered, where these are its parents: it is skipped exactly where one of them is not
+-- accepted.
+abbrev pub IsAnswered : List Form → Progress → ℕ → Line → Option (List Parent) → LineAnswer → List Entry → Progress → Type 0
+IsAnswered given old place line None Skipped entries new = (entries ≡ []) × (new ≡ old)
+IsAnswered given old place line None (Accepted rule cites) entries new = ⊥
+IsAnswered given old place line None (Unverified reason) entries new = ⊥
+IsAnswered given old place line (Some parents) Skipped entries new = ⊥
+IsAnswered given old place line (Some parents) (Accepted rule cites) entries new =
+    Answers old.theory given line parents (step.Accepted rule cites entries) × ((theory : Statements) × Admits old.theory entries theory × (new ≡ with_line old place theory))
+IsAnswered given old place line (Some parents) (Unverified reason) entries new = Answers old.theory given line parents (step.Unverified reason) × (entries ≡ []) × (new ≡ old)
+
+-- The line at this place has its answer among these, which are in the order of the text.
+pub record AnswersPlace (d : Derivation) (answers : List LineAnswer) (old : Progress) (place : ℕ) (entries : List Entry) (new : Progress) : Type 0 where
+  pub line : Line
+  pub there : IsLineAt d place line
+  pub answer : LineAnswer
+  pub answer_there : slice_get answers place ≡ Some answer
+  pub is : IsAnswered d.given old place line (parents_of d.given d.forms old.numbers line.node.parents) answer entries new
+
+-- the lines at these places are answered in order, with these entries
+abbrev pub AreAnswered : Derivation → List LineAnswer → Progress → List ℕ → List Entry → Progress → Type 0
+AreAnswered d answers old [] entries new = (entries ≡ []) × (new ≡ old)
+AreAnswered d answers old (place ∷ places) entries new =
+    (own : List Entry) × (mid : Progress) × AnswersPlace d answers old place own mid
+    × ((later : List Entry) × (entries ≡ own ++ later) × AreAnswered d answers mid places later new)
+
+-- before the first line
+abbrev pub begun : Statements → Derivation → Progress
+begun start d = record { theory = start; numbers = replicate (length d.nodes) None }
+
+-- A run of the lines of a derivation from a theory, in this order: an answer for each line, in the order of the text,
+-- the entries of all answers, and the theory behind them.
+pub record IsRun (start : Statements) (d : Derivation) (order : List ℕ) (answers : List LineAnswer) (entries : List Entry) (end : Statements) : Type 0 where
+  pub count : length answers ≡ length d.nodes
+  pub numbers : List (Option ℕ)
+  pub answered : AreAnswered d answers (begun start d) order entries (record { theory = end; numbers = numbers })

@@ -1,0 +1,27 @@
+//! The lines of a derivation are run in the theory of its problem: each is accepted by a rule, with entries that go to the
+//! log, or is not verified, or is skipped; and how the whole ends.
+#![tactic(auto)]
+
+mod answer;
+mod claim;
+mod closing;
+mod declarations;
+mod entries;
+mod fault;
+mod laws;
+mod line;
+mod lines;
+mod names;
+mod parents;
+mod run;
+mod verdict;
+
+pub use answer::LineAnswer;
+pub use claim::{Claim, cites_marked, is_justified, status_of};
+pub use closing::close_log;
+pub use declarations::declare;
+pub use fault::RunFault;
+pub use laws::{a_good_derivation_is_accepted, a_verified_run_refutes};
+pub use names::{answer_of, reason_name, rule_name};
+pub use run::run_lines;
+pub use verdict::{has_false, verdict};

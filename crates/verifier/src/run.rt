@@ -1,0 +1,97 @@
+// The lines of a derivation are run.
+ghost use Rattle.std.specs.Prelude.{◌≡◌, ◌≤◌, [], length, replicate, None, IfOk, IfErr, OnErr};
+ghost use Rattle.std.specs.List.{All};
+ghost use Rattle.tptp_base.specs.Count.{Rose};
+ghost use Rattle.tstp_graph.specs.Graphs.{IsOrdered};
+ghost use Rattle.tstp_graph.specs.Order.{TakesInTurn};
+ghost use Rattle.clause_rules.specs.Steps.{IsReady};
+ghost use Rattle.verifier.specs.Faults.{HasCause};
+ghost use Rattle.verifier.specs.Logged.{LogsSome, LogsRun};
+ghost use Rattle.verifier.specs.Numbered.{derivation_in, IsOver};
+
+use crate::answer::LineAnswer;
+use crate::fault::RunFault;
+use crate::line::run_line;
+use crate::lines::Lines;
+use crate::parents::given_parents;
+use fof_terms::Form;
+use kernel::Theory;
+use std::alloc::{AllocError, Global};
+use tptp_base::{List, Sink};
+use tstp_graph::Graph;
+
+/// Runs the lines of a derivation in the theory of its given formulas, in the order of its graph, and answers each in the
+/// order of the text. The entries of an accepted line are added to the theory and logged before the next line is
+/// looked at. A line with a parent that is not accepted is skipped.
+///
+/// # Errors
+///
+/// `Sink` where the log failed, and `Memory`. The log has then taken a prefix of the lines of legal entries.
+pub fn run_lines<K: Sink>(
+    alloc: Global,
+    forms: &[Form],
+    graph: &Graph,
+    theory: &mut Theory,
+    log: &mut K,
+) -> Result<List<LineAnswer>, RunFault>
+    requires same { length forms.now ≡ length graph.now.nodes }
+    requires ordered { IsOrdered graph.now.nodes graph.now }
+    requires given { All (IsReady theory.old.vocabulary) theory.old.formulas }
+    requires lines { All (IsReady theory.old.vocabulary) forms.now }
+    ensures ran { IfOk result (λ answers. LogsRun theory.old (record { given = theory.old.formulas; nodes = graph.now.nodes; forms = forms.now }) graph.now.order answers theory.new (K.taken log.old) (K.taken log.new)) }
+    ensures cut { OnErr result (LogsSome theory.old (K.taken log.old) (K.taken log.new)) }
+    ensures cause { IfErr result (λ fault. HasCause fault (Rose (K.faults log.old) (K.faults log.new))) }
+    ensures more_faults { K.faults log.old ≤ K.faults log.new }
+{
+    let given = given_parents(alloc, theory)?;
+    let lines = Lines {
+        given: given.as_slice(),
+        nodes: graph.nodes.as_slice(),
+        forms,
+    };
+    run_in_order(alloc, &lines, graph.order.as_slice(), theory, log)
+}
+
+// Runs the lines at these places.
+fn run_in_order<K: Sink>(
+    alloc: Global,
+    lines: &Lines<'_>,
+    order: &[u32],
+    theory: &mut Theory,
+    log: &mut K,
+) -> Result<List<LineAnswer>, RunFault>
+    requires over { IsOver theory.old lines.now }
+    requires turns { TakesInTurn lines.now.nodes.now [] order.now }
+    ensures ran { IfOk result (λ answers. LogsRun theory.old (derivation_in lines.now) order.now answers theory.new (K.taken log.old) (K.taken log.new)) }
+    ensures cut { OnErr result (LogsSome theory.old (K.taken log.old) (K.taken log.new)) }
+    ensures cause { IfErr result (λ fault. HasCause fault (Rose (K.faults log.old) (K.faults log.new))) }
+    ensures more_faults { K.faults log.old ≤ K.faults log.new }
+{
+    let count = lines.nodes.len();
+    let mut numbers = no_numbers(alloc, count)?;
+    let mut answers = no_answers(alloc, count)?;
+    for place in order {
+        let place = *place as usize;
+        let answer = run_line(alloc, lines, place, &mut numbers, theory, log)?;
+        answers.set(place, answer);
+    }
+    Ok(answers)
+}
+
+// No line has a number yet.
+fn no_numbers(alloc: Global, count: usize) -> Result<List<Option<u64>>, AllocError>
+    ensures { IfOk result (λ numbers. numbers ≡ replicate count None) }
+{
+    Ok(List::from_vec(vec![in alloc; None; count]?))
+}
+
+// An answer for each line, to be replaced.
+fn no_answers(alloc: Global, count: usize) -> Result<List<LineAnswer>, AllocError>
+    ensures { IfOk result (λ answers. length answers ≡ count) }
+{
+    let mut answers = List::new(alloc);
+    for _ in 0..count {
+        answers.push(LineAnswer::Skipped)?;
+    }
+    Ok(answers)
+}
