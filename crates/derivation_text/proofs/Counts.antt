@@ -1,5 +1,5 @@
 -- A text spells fewer than 2^32 items.
-use Rattle.std.proofs.Common.{◌≡◌, ◌≤◌, ◌<◌, ◌^◌, ◌-◌, ℕ, ◌+◌, List, [], ◌∷◌, ◌++◌, length, arith, length-append, slice_range, Ok}
+use Rattle.std.proofs.Common.{◌≡◌, ◌≤◌, ◌<◌, ◌^◌, ◌-◌, ℕ, ◌+◌, List, [], ◌∷◌, ◌++◌, length, arith, length-append, slice_range, drop, Ok}
 use Rattle.std.proofs.lemmas.List.{length-take, length-drop}
 use Rattle.tptp_base.specs.declared.item.Item.{Item}
 use Rattle.tptp_base.specs.declared.read.TheConstants.{FILE_SIZE}

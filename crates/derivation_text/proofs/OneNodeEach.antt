@@ -76,16 +76,16 @@ nothing_has None e = refl
 nothing_has (Some node) e = absurd cc
 
 -- an item makes a node exactly where it gives a line
-alike : (means : Means) (kind : TextKind) (names : List Text) (at number place : ℕ) (i : Item) (s t : Reading) (node : Option Node) (found : Option Line)
-    → item_answer means at number i ≡ Ok node → line_item kind names place i s ≡ Ok (found, t) → has node ≡ has found
-alike means kind names at number place (it.Comment text) s t node found e k = nothing_has node e ∙ sym (none_has s t found k)
-alike means kind names at number place (it.Include include) s t node found e k = absurd cc
-alike means kind names at number place (it.Formula a) s t node found e k = by (is_type a.role) (is_typing a.role) (same_type a.role) e k
+alike : (means : Means) (kind : TextKind) (names : List Text) (at number place : ℕ) (i : Item) (s t : Reading) (made : Option Node) (found : Option Line)
+    → item_answer means at number i ≡ Ok made → line_item kind names place i s ≡ Ok (found, t) → has made ≡ has found
+alike means kind names at number place (it.Comment text) s t made found e k = nothing_has made e ∙ sym (none_has s t found k)
+alike means kind names at number place (it.Include include) s t made found e k = absurd cc
+alike means kind names at number place (it.Formula a) s t made found e k = by (is_type a.role) (is_typing a.role) (same_type a.role) e k
   where
-    by : (b c : Bool) → c ≡ b → ◌≡◌ {A = Node_answer} (cond c (Ok None) (line_answer means at number a)) (Ok node)
-        → ◌≡◌ {A = Outcome SortFault Reading (Option Line)} (cond b (Ok (None, s)) (at_line a (mapped (λ form. Some (line_of place a form)) (line_form kind names a s)))) (Ok (found, t)) → has node ≡ has found
-    by true true same e k = nothing_has node e ∙ sym (none_has s t found k)
-    by false false same e k = line_has means at number a node e ∙ sym (at_has place a (line_form kind names a s) found t k)
+    by : (b c : Bool) → c ≡ b → ◌≡◌ {A = Node_answer} (cond c (Ok None) (line_answer means at number a)) (Ok made)
+        → ◌≡◌ {A = Outcome SortFault Reading (Option Line)} (cond b (Ok (None, s)) (at_line a (mapped (λ form. Some (line_of place a form)) (line_form kind names a s)))) (Ok (found, t)) → has made ≡ has found
+    by true true same e k = nothing_has made e ∙ sym (none_has s t found k)
+    by false false same e k = line_has means at number a made e ∙ sym (at_has place a (line_form kind names a s) found t k)
     by true false same e k = absurd cc
     by false true same e k = absurd cc
 
@@ -105,27 +105,26 @@ no_line_counts : (found : Option Line) (lines : List Line) → has found ≡ fal
 no_line_counts (Some l) lines e = absurd cc
 no_line_counts None lines e = refl
 
+-- an item and those behind it
+one_more : (means : Means) (kind : TextKind) (names : List Text) (at place : ℕ) (i : Item) (items : List Item) (nodes more : List Node) (s u : Reading) (found : Option Line) (later lines : List Line) (answer : Node_answer)
+    → item_answer means at (length nodes) i ≡ answer → line_item kind names place i s ≡ Ok (found, u) → with_line found later ≡ lines → go_on answer (nodes_from means (at + 1) items) nodes ≡ Ok more
+    → ((before : List Node) → nodes_from means (at + 1) items before ≡ Ok more → length more ≡ length before + length later) → length more ≡ length nodes + length lines
+one_more means kind names at place i items nodes more s u found later lines (Err fault) is gives whole go count = absurd cc
+one_more means kind names at place i items nodes more s u found later lines (Ok None) is gives whole go count =
+    let same = alike means kind names at (length nodes) place i s u None found is gives in
+    omega (arith, count nodes go, no_line_counts found later (sym same), ap length whole)
+one_more means kind names at place i items nodes more s u found later lines (Ok (Some made)) is gives whole go count =
+    let same = alike means kind names at (length nodes) place i s u (Some made) found is gives in
+    omega (arith, count (nodes ++ made ∷ []) go, line_counts found later (sym same), ap length whole, length-append nodes (made ∷ []))
+
 counted : (means : Means) (kind : TextKind) (names : List Text) (at place : ℕ) (items : List Item) (nodes more : List Node) (s t : Reading) (lines : List Line)
     → nodes_from means at items nodes ≡ Ok more → lines_from kind names place items s ≡ Ok (lines, t) → length more ≡ length nodes + length lines
 counted means kind names at place [] nodes more s t lines e k = omega (arith, ap length (kept_nodes nodes more e), no_lines s t lines k)
-counted means kind names at place (i ∷ items) nodes more s t lines e k = by (item_answer means at (length nodes) i) refl e
-  where
-    parts : (y : Option Line) × (u : Reading) × (line_item kind names place i s ≡ Ok (y, u)) × (mapped (with_line y) (lines_from kind names (place + 1) items u) ≡ Ok (lines, t))
-    parts = then_ok (line_item kind names place i s) (λ found u. mapped (with_line found) (lines_from kind names (place + 1) items u)) lines t k
-
-    rest : (ls : List Line) × (lines_from kind names (place + 1) items parts.1 ≡ Ok (ls, t)) × (with_line parts.0 ls ≡ lines)
-    rest = mapped_ok (with_line parts.0) (lines_from kind names (place + 1) items parts.1) lines t parts.3
-
-    by : (answer : Node_answer) → item_answer means at (length nodes) i ≡ answer → go_on answer (nodes_from means (at + 1) items) nodes ≡ Ok more → length more ≡ length nodes + length lines
-    by (Err fault) is go = absurd cc
-    by (Ok None) is go =
-        let same = alike means kind names at (length nodes) place i s parts.1 None parts.0 is parts.2 in
-        let later = counted means kind names (at + 1) (place + 1) items nodes more parts.1 t rest.0 go rest.1 in
-        omega (arith, later, no_line_counts parts.0 rest.0 (sym same), ap length rest.2)
-    by (Ok (Some node)) is go =
-        let same = alike means kind names at (length nodes) place i s parts.1 (Some node) parts.0 is parts.2 in
-        let later = counted means kind names (at + 1) (place + 1) items (nodes ++ node ∷ []) more parts.1 t rest.0 go rest.1 in
-        omega (arith, later, line_counts parts.0 rest.0 (sym same), ap length rest.2, length-append nodes (node ∷ []))
+counted means kind names at place (i ∷ items) nodes more s t lines e k =
+    let parts = then_ok (line_item kind names place i s) (λ found u. mapped (with_line found) (lines_from kind names (place + 1) items u)) lines t k in
+    let rest = mapped_ok (with_line parts.0) (lines_from kind names (place + 1) items parts.1) lines t parts.3 in
+    one_more means kind names at place i items nodes more s parts.1 parts.0 rest.0 lines (item_answer means at (length nodes) i) refl parts.2 rest.2 e
+    (λ before go. counted means kind names (at + 1) (place + 1) items before more parts.1 t rest.0 go rest.1)
 
 only_ok : (o : Outcome SortFault Reading (List Line)) (lines : List Line) (w : Vocabulary) → only_vocabulary o ≡ Ok (lines, w) → (t : Reading) × (o ≡ Ok (lines, t))
 only_ok (Err x) lines w e = absurd cc

@@ -39,10 +39,10 @@ module _ (items : List Item) (given : List Name) (v w : Vocabulary) (graph : Gra
   count = as_many (means_of items given) kind.Derivation items v w graph.nodes lines is_graph.is_graph.nodes denotes
 
   pub each_form : (d : Derivation) → d.graph ≡ graph → d.forms ≡ forms_of lines → length d.forms ≡ length d.graph.nodes
-  each_form d graph_is forms_are = ap length forms_are ∙ length-map form_of lines ∙ sym count ∙ ap (λ (g : Graph). length g.nodes) (sym graph_is)
+  each_form d graph_is forms_are = ap length forms_are ∙ length-map lines form_of ∙ sym count ∙ ap (λ (g : Graph). length g.nodes) (sym graph_is)
 
   pub each_name : (d : Derivation) → d.graph ≡ graph → d.names ≡ names_of lines → length d.names ≡ length d.graph.nodes
-  each_name d graph_is names_are = ap length names_are ∙ length-map (λ (l : Line). l.name) lines ∙ sym count ∙ ap (λ (g : Graph). length g.nodes) (sym graph_is)
+  each_name d graph_is names_are = ap length names_are ∙ length-map lines (λ (l : Line). l.name) ∙ sym count ∙ ap (λ (g : Graph). length g.nodes) (sym graph_is)
 
 pub are_sentences : (v : Vocabulary) (lines : List Line) (d : Derivation) → AreSorted v lines → d.forms ≡ forms_of lines → All (IsSentence v) d.forms
 are_sentences v lines d all forms_are = subst (All (IsSentence v)) (sym forms_are) (forms_sorted v lines all)

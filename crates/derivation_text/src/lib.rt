@@ -11,3 +11,6 @@ mod text;
 pub use derivation::Derivation;
 pub use fault::DerivationFault;
 pub use reading::read_derivation;
+
+#[cfg(test)]
+mod tests;

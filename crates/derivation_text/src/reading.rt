@@ -71,6 +71,7 @@ fn over_items(
 }
 
 // The derivation that items with this graph are.
+#[tactic(auto, using(crate::proofs::Readings::are_derivation, crate::proofs::Readings::each_form, crate::proofs::Readings::each_name, crate::proofs::Readings::are_sentences))]
 fn over_graph(
     alloc: Global,
     items: &[Item],

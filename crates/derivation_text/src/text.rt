@@ -11,7 +11,6 @@ use tptp_grammar::parse;
 use tptp_lexer::{Style, Tokens, tokens};
 
 /// The items that a text spells.
-#[tactic(auto, using(crate::proofs::Counts::few_items))]
 pub fn items_of(alloc: Global, text: &[u8]) -> Result<List<Item>, DerivationFault>
     requires { length text.now ≤ file_size }
     ensures spelled { IfOk result (λ items. Spells text.now items) }
