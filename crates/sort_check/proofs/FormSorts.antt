@@ -177,7 +177,7 @@ the_variable name sort = record { name = name; sort = sort }
 abbrev the_state : Vocabulary → ℕ → State
 the_state v bound = record { vocabulary = v; bound = bound }
 
-found_sort_below : (v : Vocabulary) (word : Text) (n : ℕ) → found_sort v word ≡ Some n → n < length v.sorts
+pub found_sort_below : (v : Vocabulary) (word : Text) (n : ℕ) → found_sort v word ≡ Some n → n < length v.sorts
 found_sort_below v word n e = by (position (λ sort. pointwise nat_eq sort word) (drop 1 v.sorts)) refl e
   where
     by : (o : Option ℕ) → position (λ sort. pointwise nat_eq sort word) (drop 1 v.sorts) ≡ o → option_map (λ i. i + 1) o ≡ Some n → n < length v.sorts

@@ -1,5 +1,5 @@
 -- The formulas of the lines of a text are closed and well-sorted.
-use Rattle.std.proofs.Common.{◌≡◌, ℕ, ◌+◌, ◌<◌, ◌≤◌, ◌==◌, ◌||◌, ◌&&◌, Bool, true, false, cond, List, [], ◌∷◌, ◌++◌, length, map, Option, Some, None, Result, Ok, Err, IfOk, OnOk, refl, ◌∙◌, subst, arith}
+use Rattle.std.proofs.Common.{◌≡◌, ℕ, ◌+◌, ◌<◌, ◌≤◌, ◌==◌, ◌||◌, ◌&&◌, Bool, true, false, cond, List, [], ◌∷◌, ◌++◌, length, map, Option, Some, None, Result, Ok, Err, IfOk, OnOk, refl, sym, ◌∙◌, subst, arith}
 use Rattle.std.specs.List.{AllByRecursion, list_any}
 use Rattle.std.specs.Str.{bytes_eq}
 use Rattle.std.proofs.lemmas.List.{length-append}
@@ -20,7 +20,7 @@ use Rattle.tptp_base.specs.declared.item.Body.TheVariants as body
 use Rattle.tptp_base.specs.declared.item.Annotated.{Annotated}
 use Rattle.tptp_base.specs.declared.item.Item.{Item}
 use Rattle.tptp_base.specs.declared.item.Item.TheVariants as it
-use Rattle.fof_terms.specs.Vocabulary.{Vocabulary, found_sort, found_symbol}
+use Rattle.fof_terms.specs.Vocabulary.{Vocabulary, IsDeclared, found_sort, found_symbol}
 use Rattle.fof_terms.specs.Sorts.{is_sorted, binder_depth}
 use Rattle.fof_terms.specs.SortLaws.{grown_sorted}
 use Rattle.fof_terms.specs.declared.signature.Symbol.{Symbol}
@@ -40,7 +40,7 @@ use Rattle.sort_check.specs.Sorting.{IsSentence, AreSorted, Extends}
 use Rattle.sort_check.proofs.Inducing.{term_induction, form_induction}
 use Rattle.sort_check.proofs.Stepping.{at_ok, then_ok, mapped_ok}
 use Rattle.sort_check.proofs.TermSorts.{grows_not, grows_on, sort_added, symbol_added}
-use Rattle.sort_check.proofs.FormSorts.{forms_fit, closed_fits, closed_depth}
+use Rattle.sort_check.proofs.FormSorts.{forms_fit, closed_fits, closed_depth, found_sort_below}
 
 -- ---- the variables of a clause are individuals, and at most 250
 
@@ -236,19 +236,19 @@ sort_grows word None v w n e = by (length v.sorts == 65536) e
     by true k = absurd (cc)
     by false k = at_ok {E = SortRule} (λ (m : ℕ) u. Extends v u) (length v.sorts) n (record v { sorts = v.sorts ++ word ∷ [] }) w k (sort_added v word)
 
-symbol_grows : (s : Symbol) (v w : Vocabulary) (n : ℕ) → with_symbol s v ≡ Ok (n, w) → Extends v w
-symbol_grows s v w n e = by (length v.symbols == 16777216) e
+symbol_grows : (s : Symbol) (v w : Vocabulary) (n : ℕ) → (0 < length v.sorts → IsDeclared (length v.sorts) s) → with_symbol s v ≡ Ok (n, w) → Extends v w
+symbol_grows s v w n fits e = by (length v.symbols == 16777216) e
   where
     by : (b : Bool) → ◌≡◌ {A = Outcome SortRule Vocabulary ℕ} (cond b (Err (Limit Symbols)) (Ok (length v.symbols, record v { symbols = v.symbols ++ s ∷ [] }))) (Ok (n, w)) → Extends v w
     by true k = absurd (cc)
-    by false k = at_ok {E = SortRule} (λ (m : ℕ) u. Extends v u) (length v.symbols) n (record v { symbols = v.symbols ++ s ∷ [] }) w k (symbol_added v s)
+    by false k = at_ok {E = SortRule} (λ (m : ℕ) u. Extends v u) (length v.symbols) n (record v { symbols = v.symbols ++ s ∷ [] }) w k (symbol_added v s fits)
 
-declared_grows : (s : Symbol) (v w : Vocabulary) (n : ℕ) → declared_symbol s v ≡ Ok (n, w) → Extends v w
-declared_grows s v w n e = by (list_any (differs s) v.symbols) e
+declared_grows : (s : Symbol) (v w : Vocabulary) (n : ℕ) → (0 < length v.sorts → IsDeclared (length v.sorts) s) → declared_symbol s v ≡ Ok (n, w) → Extends v w
+declared_grows s v w n fits e = by (list_any (differs s) v.symbols) e
   where
     at : (o : Option ℕ) → placed s o v ≡ Ok (n, w) → Extends v w
     at (Some number) k = at_ok {E = SortRule} (λ (m : ℕ) u. Extends v u) number n v w k (grows_not v)
-    at None k = symbol_grows s v w n k
+    at None k = symbol_grows s v w n fits k
 
     by : (b : Bool) → cond b (Err Redeclared) (placed s (found_symbol v s.name s.kind (length s.args)) v) ≡ Ok (n, w) → Extends v w
     by true k = absurd (cc)
@@ -282,6 +282,47 @@ symbol_same word args result v w s e =
     let inner = mapped_ok (symbol_of word (result_kind result) parts.0) (result_named result parts.1) s w parts.3 in
     result_same result parts.1 w inner.0 inner.1 ∙ sorts_same args 0 v parts.1 parts.0 parts.2
 
+-- sorts that are looked up are there
+named_there : (sort : SortName) (v w : Vocabulary) (n : ℕ) → 0 < length v.sorts → named_sort sort v ≡ Ok (n, w) → n < length v.sorts
+named_there name.Individual v w n some e = at_ok {E = SortRule} (λ (m : ℕ) u. m < length v.sorts) 0 n v w e some
+named_there name.Truth v w n some e = absurd (cc)
+named_there (name.Word word) v w n some e = by (found_sort v word) refl e
+  where
+    by : (o : Option ℕ) → found_sort v word ≡ o → known o v ≡ Ok (n, w) → n < length v.sorts
+    by None is k = absurd (cc)
+    by (Some m) is k = at_ok {E = SortRule} (λ (j : ℕ) u. j < length v.sorts) m n v w k (found_sort_below v word m is)
+
+sorts_there : (args : List SortName) (place : ℕ) (v w : Vocabulary) (found : List ℕ) → 0 < length v.sorts → each (λ p. named_sort) place args v ≡ Ok (found, w) → AllByRecursion (λ (a : ℕ). a < length v.sorts) found
+sorts_there [] place v w found some e = at_ok {E = SortRule} (λ (ns : List ℕ) u. AllByRecursion (λ (a : ℕ). a < length v.sorts) ns) [] found v w e tt
+sorts_there (arg ∷ args) place v w found some e =
+    let parts = then_ok (named_sort arg v) (λ y u. mapped (λ ys. y ∷ ys) (each (λ p. named_sort) (place + 1) args u)) found w e in
+    let more = mapped_ok (λ (ys : List ℕ). parts.0 ∷ ys) (each (λ p. named_sort) (place + 1) args parts.1) found w parts.3 in
+    let same = named_same arg v parts.1 parts.0 parts.2 in
+    let rest = sorts_there args (place + 1) parts.1 w more.0 (subst (λ (u : Vocabulary). 0 < length u.sorts) (sym same) some) more.1 in
+    subst (AllByRecursion (λ (a : ℕ). a < length v.sorts)) more.2 (named_there arg v parts.1 parts.0 some parts.2, subst (λ (u : Vocabulary). AllByRecursion (λ (a : ℕ). a < length u.sorts) more.0) same rest)
+
+result_there : (sort : SortName) (v w : Vocabulary) (n : ℕ) → 0 < length v.sorts → result_named sort v ≡ Ok (n, w) → n < length v.sorts
+result_there name.Truth v w n some e = at_ok {E = SortRule} (λ (m : ℕ) u. m < length v.sorts) 0 n v w e some
+result_there name.Individual v w n some e = at_ok {E = SortRule} (λ (m : ℕ) u. m < length v.sorts) 0 n v w e some
+result_there (name.Word word) v w n some e = named_there (name.Word word) v w n some e
+
+-- the sorts of a symbol that a type line declares are there
+symbol_there : (word : Text) (args : List SortName) (result : SortName) (v w : Vocabulary) (s : Symbol) → symbol_named word args result v ≡ Ok (s, w) → 0 < length v.sorts → IsDeclared (length v.sorts) s
+symbol_there word args result v w s e some =
+    let parts = then_ok (each (λ p. named_sort) 0 args v) (λ sorts u. mapped (symbol_of word (result_kind result) sorts) (result_named result u)) s w e in
+    let inner = mapped_ok (symbol_of word (result_kind result) parts.0) (result_named result parts.1) s w parts.3 in
+    let same = sorts_same args 0 v parts.1 parts.0 parts.2 in
+    let last : inner.0 < length parts.1.sorts = result_there result parts.1 w inner.0 (subst (λ (u : Vocabulary). 0 < length u.sorts) (sym same) some) inner.1 in
+    subst (IsDeclared (length v.sorts)) inner.2 (record {
+      args = All-from_recursion (λ (a : ℕ). a < length v.sorts) parts.0 (sorts_there args 0 v parts.1 parts.0 some parts.2);
+      result = subst (λ (u : Vocabulary). inner.0 < length u.sorts) same last;
+    })
+
+fits_there : (word : Text) (args : List SortName) (result : SortName) (v w : Vocabulary) (s : Symbol) → symbol_named word args result v ≡ Ok (s, w) → 0 < length w.sorts → IsDeclared (length w.sorts) s
+fits_there word args result v w s e some =
+    let same = symbol_same word args result v w s e in
+    subst (λ (u : Vocabulary). IsDeclared (length u.sorts) s) (sym same) (symbol_there word args result v w s e (subst (λ (u : Vocabulary). 0 < length u.sorts) same some))
+
 declaring_ok : (names : List Text) (o : Outcome SortRule Vocabulary ℕ) (done : Unit {0}) (d : Declared) → declaring names o ≡ Ok (done, d) → (n : ℕ) × (o ≡ Ok (n, d.vocabulary))
 declaring_ok names (Err x) done d e = absurd (cc)
 declaring_ok names (Ok p) done d e = at_ok {E = SortRule} (λ (k : Unit {0}) (u : Declared). (n : ℕ) × (◌≡◌ {A = Outcome SortRule Vocabulary ℕ} (Ok p) (Ok (n, u.vocabulary)))) tt done (record { vocabulary = p.1; names = names }) d e (p.0, refl)
@@ -293,7 +334,7 @@ typed_grows word shape.Sort d e done k =
 typed_grows word (shape.Symbol args result) d e done k =
     let inner = declaring_ok (with_name word d.names) (and_then (symbol_named word args result d.vocabulary) declared_symbol) done e k in
     let parts = then_ok (symbol_named word args result d.vocabulary) declared_symbol inner.0 e.vocabulary inner.1 in
-    subst (λ (u : Vocabulary). Extends u e.vocabulary) (symbol_same word args result d.vocabulary parts.1 parts.0 parts.2) (declared_grows parts.0 parts.1 e.vocabulary inner.0 parts.3)
+    subst (λ (u : Vocabulary). Extends u e.vocabulary) (symbol_same word args result d.vocabulary parts.1 parts.0 parts.2) (declared_grows parts.0 parts.1 e.vocabulary inner.0 (fits_there word args result d.vocabulary parts.1 parts.0 parts.2) parts.3)
 
 body_grows : (b : Body) (d e : Declared) (done : Unit {0}) → typed_body b d ≡ Ok (done, e) → Extends d.vocabulary e.vocabulary
 body_grows (body.Typing t) d e done k = typed_grows t.name t.shape d e done k

@@ -1,17 +1,18 @@
 -- Terms that are denoted have their sorts, and the vocabulary only grows.
-use Rattle.std.proofs.Common.{◌≡◌, ℕ, zero, suc, ◌+◌, ◌==◌, ◌&&◌, Bool, true, false, cond, List, [], ◌∷◌, ◌++◌, length, map, drop, slice_get, position, Option, Some, None, Ok, Err, refl, sym, ◌∙◌, ap, subst, arith, nat_eq, get_or, add-one, append_assoc}
+use Rattle.std.proofs.Common.{◌≡◌, ℕ, zero, suc, ◌+◌, ◌<◌, ◌≤◌, ◌==◌, ◌&&◌, Bool, true, false, cond, List, [], ◌∷◌, ◌++◌, length, map, drop, slice_get, position, Option, Some, None, Ok, Err, refl, sym, ◌∙◌, ap, subst, arith, nat_eq, get_or, add-one, append_assoc}
 use Rattle.std.specs.List.{AllByRecursion}
 use Rattle.std.specs.Str.{bytes_eq}
 use Rattle.std.specs.Cmp.Lexicographic.{pointwise}
 use Rattle.std.proofs.Math.ListN.{replicate}
 use Rattle.std.proofs.lemmas.Bool.Decides.{nat_tests}
-use Rattle.std.proofs.lemmas.List.{drop_all, append-nil}
+use Rattle.std.proofs.lemmas.List.{drop_all, append-nil, length-append}
+use Rattle.std.proofs.lemmas.List.Elements.{All-from_recursion}
 use Rattle.std.proofs.lemmas.List.Quantifiers.{position-Some}
 use Rattle.std.proofs.lemmas.Option.{slice_get-get_or}
 use Rattle.tptp_base.specs.declared.limit.LimitName.TheVariants.{Symbols}
 use Rattle.tptp_base.specs.declared.surface.STerm.{STerm}
 use Rattle.tptp_base.specs.declared.surface.STerm.TheVariants as tm
-use Rattle.fof_terms.specs.Vocabulary.{Vocabulary, is_symbol, is_kind, found_symbol}
+use Rattle.fof_terms.specs.Vocabulary.{Vocabulary, IsDeclared, is_symbol, is_kind, found_symbol}
 use Rattle.fof_terms.specs.Sorts.{is_sort, are_sorts, applied, made_by, sort_of_term, sort_of_term-Var, sort_of_term-App}
 use Rattle.fof_terms.specs.SortLaws.{more_sorts_grow, more_symbols_grow}
 use Rattle.fof_terms.specs.Induction as trees
@@ -70,7 +71,7 @@ nearest_sort (x ∷ scope) outer name p e = by (nearest scope name) (nearest_sor
 -- ---- vocabularies that grow
 
 pub grows_not : (v : Vocabulary) → Extends v v
-grows_not v = record { grows = record { more_sorts = omega arith; same_symbols = λ k s e. e }; sorts = ([], sym (append-nil v.sorts)); symbols = ([], sym (append-nil v.symbols)) }
+grows_not v = record { grows = record { more_sorts = omega arith; same_symbols = λ k s e. e }; sorts = ([], sym (append-nil v.sorts)); symbols = ([], sym (append-nil v.symbols)); declared = λ some h. h }
 
 goes_on : {X : Type 0} (a b c : List X) → GoesOn a b → GoesOn b c → GoesOn a c
 goes_on a b c one two = (one.0 ++ two.0, two.1 ∙ ap (λ front. front ++ two.0) one.1 ∙ append_assoc a one.0 two.0)
@@ -80,14 +81,42 @@ grows_on u v w one two = record {
   grows = record { more_sorts = omega (arith, one.grows.more_sorts, two.grows.more_sorts); same_symbols = λ k s e. two.grows.same_symbols k s (one.grows.same_symbols k s e) };
   sorts = goes_on u.sorts v.sorts w.sorts one.sorts two.sorts;
   symbols = goes_on u.symbols v.symbols w.symbols one.symbols two.symbols;
+  declared = λ some h. two.declared (omega (arith, some, one.grows.more_sorts)) (one.declared some h);
 }
+
+-- symbols whose sorts are there, where there are more sorts, or with a further symbol
+wider : (m n : ℕ) (symbols : List Symbol) → m ≤ n → AllByRecursion (IsDeclared m) symbols → AllByRecursion (IsDeclared n) symbols
+wider m n [] le all = tt
+wider m n (s ∷ symbols) le all = (record { args = λ i d lt. omega (arith, all.0.args i d lt, le); result = omega (arith, all.0.result, le) }, wider m n symbols le all.1)
+
+with_last : {X : Type 0} (P : X → Type 0) (xs : List X) (x : X) → AllByRecursion P xs → P x → AllByRecursion P (xs ++ x ∷ [])
+with_last P [] x all one = (one, tt)
+with_last P (y ∷ xs) x all one = (all.0, with_last P xs x all.1 one)
 
 -- a vocabulary with one sort more, or one symbol more
 pub sort_added : (v : Vocabulary) (name : List ℕ) → Extends v (record v { sorts = v.sorts ++ name ∷ [] })
-sort_added v name = record { grows = more_sorts_grow v name; sorts = (name ∷ [], refl); symbols = ([], sym (append-nil v.symbols)) }
+sort_added v name = record {
+  grows = more_sorts_grow v name;
+  sorts = (name ∷ [], refl);
+  symbols = ([], sym (append-nil v.symbols));
+  declared = λ some h. wider (length v.sorts) (length (v.sorts ++ name ∷ [])) v.symbols (omega (arith, length-append v.sorts (name ∷ []))) h;
+}
 
-pub symbol_added : (v : Vocabulary) (s : Symbol) → Extends v (record v { symbols = v.symbols ++ s ∷ [] })
-symbol_added v s = record { grows = more_symbols_grow v s; sorts = ([], sym (append-nil v.sorts)); symbols = (s ∷ [], refl) }
+pub symbol_added : (v : Vocabulary) (s : Symbol) → (0 < length v.sorts → IsDeclared (length v.sorts) s) → Extends v (record v { symbols = v.symbols ++ s ∷ [] })
+symbol_added v s fits = record {
+  grows = more_symbols_grow v s;
+  sorts = ([], sym (append-nil v.sorts));
+  symbols = (s ∷ [], refl);
+  declared = λ some h. with_last (IsDeclared (length v.sorts)) v.symbols s h (fits some);
+}
+
+zeros : (n arity : ℕ) → 0 < n → AllByRecursion (λ a. a < n) (replicate arity 0)
+zeros n zero some = tt
+zeros n (suc arity) some = (some, zeros n arity some)
+
+-- a symbol of individuals
+undeclared_fits : (n : ℕ) (name : Text) (kind : Kind) (arity : ℕ) → 0 < n → IsDeclared n (undeclared name kind arity)
+undeclared_fits n name kind arity some = record { args = All-from_recursion (λ a. a < n) (replicate arity 0) (zeros n arity some); result = some }
 
 kept_answers : {X : Type 0} (f g : X → Option ℕ) (xs : List X) → AllByRecursion (λ x. (s : ℕ) → f x ≡ Some s → g x ≡ Some s) xs → AllByRecursion (λ x. (s : ℕ) × (f x ≡ Some s)) xs → map g xs ≡ map f xs
 kept_answers f g [] e h = refl
@@ -146,7 +175,7 @@ head_ok declared name kind arity v w number e = by (found_symbol v name kind ari
 
     is_added : IsHead v (record v { symbols = v.symbols ++ undeclared name kind arity ∷ [] }) kind arity (length v.symbols)
     is_added = record {
-      grows = symbol_added v (undeclared name kind arity);
+      grows = symbol_added v (undeclared name kind arity) (undeclared_fits (length v.sorts) name kind arity);
       symbol = undeclared name kind arity;
       at = last_of v.symbols (undeclared name kind arity);
       of_kind = refl;

@@ -1,8 +1,8 @@
 -- What a text denotes is closed and well-sorted in the signature that stands behind it, which goes on from the one before
 -- it (TPTP technical manual, types: what is declared stays declared).
-use Rattle.std.specs.Prelude.{◌≡◌, List, [], ◌++◌}
-use Rattle.std.specs.List.{All}
-use Rattle.fof_terms.specs.Vocabulary.{Vocabulary}
+use Rattle.std.specs.Prelude.{◌≡◌, ◌<◌, List, [], ◌++◌, length}
+use Rattle.std.specs.List.{All, AllByRecursion}
+use Rattle.fof_terms.specs.Vocabulary.{Vocabulary, IsDeclared}
 use Rattle.fof_terms.specs.Sorts.{SortedTo}
 use Rattle.fof_terms.specs.SortLaws.{Grows}
 use Rattle.fof_terms.specs.declared.form.Form.{Form}
@@ -26,8 +26,13 @@ AreGivenSorted v entries = All (λ (entry : GivenEntry). IsSentence v entry.form
 abbrev pub GoesOn : {X : Type 0} → List X → List X → Type 0
 GoesOn {X} front whole = (more : List X) × (whole ≡ front ++ more)
 
+-- the sorts of each symbol are there
+abbrev pub AreDeclared : Vocabulary → Type 0
+AreDeclared v = AllByRecursion (IsDeclared (length v.sorts)) v.symbols
+
 -- The second vocabulary has the sorts and the symbols of the first, each at its number, and then perhaps more.
 pub record Extends (v w : Vocabulary) : Type 0 where
   pub grows : Grows v w
   pub sorts : GoesOn v.sorts w.sorts
   pub symbols : GoesOn v.symbols w.symbols
+  pub declared : 0 < length v.sorts → AreDeclared v → AreDeclared w
