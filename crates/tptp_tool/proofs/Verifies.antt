@@ -20,11 +20,12 @@ use Rattle.tptp_tool.specs.CheckedLog.{given_theory, IsGiven}
 use Rattle.tptp_tool.specs.Denoted.{IsProblemRefusal}
 use Rattle.tptp_tool.specs.Derived.{IsDerivationRefusal}
 use Rattle.tptp_tool.specs.Ending.{Ending, IsReadRefusal, AfterFile}
-use Rattle.tptp_tool.specs.Outcome.{SaysMissing, TakesSomeOfProblemLog}
+use Rattle.tptp_tool.specs.Ends as Said
+use Rattle.tptp_tool.specs.Outcome.{SaysMissing, TakesSomeOfProblemLog, TakesSomeOfTaskLog, TakesSomeOfRunLog}
 use Rattle.tptp_tool.specs.Sources.{IsSource, given_names, conjecture_marks, has_conjecture}
 use Rattle.tptp_tool.specs.Stop.{HasCause, IfAnswer, IfRefused, IfStopped}
 use Rattle.tptp_tool.specs.Verifying.{EndsChecked, EndsVerify, SaysDerivation, asked_by, status_of}
-use Rattle.tptp_tool.specs.Words.{Parse, Verify}
+use Rattle.tptp_tool.specs.Words.{Task, Parse, Verify, Request, IsForm}
 use Rattle.tptp_tool.specs.declared.run.TheConstants.{TOTAL_SIZE}
 use Rattle.tptp_tool.specs.declared.sources.Source.{Source}
 use Rattle.tptp_tool.specs.declared.stop.Answer.{Answer}
@@ -169,3 +170,19 @@ text_stopped (Err (Refused answer)) S L cause = tt
 text_stopped (Err (Stopped Store)) S L cause = absurd cause
 text_stopped (Err (Stopped Sink)) S L cause = cause
 text_stopped (Err (Stopped Memory)) S L cause = tt
+
+-- ---- the words that ask for it
+
+module _ (words : List (List ℕ)) (request : Request) (problem derivation : List ℕ) (named : Option (List ℕ)) (form : IsForm words request) (is : request.task ≡ Verify problem derivation named) where
+  asked_one : (told : Option Files) (answer : Answer) (old new : Option (List ℕ)) → IfSome told (λ files. IsAnswerWithLog (EndsVerify files request.root problem derivation) answer old new) → IfSome told (λ files. IsAnswerWithLog (Said.Ends files words) answer old new)
+  asked_one None answer old new ends = tt
+  asked_one (Some files) answer old new (log, taken, ends) = (log, taken, inr (request, form, subst (λ (task : Task). Said.EndsTask files request.root task (with_log answer log)) (sym is) ends))
+
+  pub verify_asked : (told : Option Files) (r : Result Answer Halt) (old new : Option (List ℕ)) → IfAnswer r (λ answer. IfSome told (λ files. IsAnswerWithLog (EndsVerify files request.root problem derivation) answer old new)) → IfAnswer r (λ answer. IfSome told (λ files. IsAnswerWithLog (Said.Ends files words) answer old new))
+  verify_asked told (Ok answer) old new ends = asked_one told answer old new ends
+  verify_asked told (Err (Refused answer)) old new ends = asked_one told answer old new ends
+  verify_asked told (Err (Stopped stop)) old new ends = tt
+
+  pub verify_logged : (told : Option Files) (old new : Option (List ℕ)) → IfSome told (λ files. TakesSomeOfProblemLog files request.root problem old new) → IfSome told (λ files. TakesSomeOfRunLog files words old new)
+  verify_logged None old new taken = tt
+  verify_logged (Some files) old new taken = inr (request, form, subst (λ (task : Task). TakesSomeOfTaskLog files request.root task old new) (sym is) taken)
