@@ -1,10 +1,10 @@
 -- Going through a list in order, up to the first place that will do.
-use Rattle.std.specs.Prelude.{ℕ, ◌<◌, ◌≤◌, ◌≡◌, ◌↔◌, Bool, true, false, IsTrue, List, Some, slice_get, length, Result, Ok, Err, IfOk}
+use Rattle.std.specs.Prelude.{ℕ, ◌<◌, ◌≤◌, ◌≡◌, ◌↔◌, Bool, true, false, IsTrue, List, Option, Some, None, MatchOption, slice_get, length, Result, Ok, Err, IfOk}
 use Rattle.std.proofs.Common.{sym, subst, ap, get_or, ◌∙◌, arith}
 use Rattle.std.proofs.lemmas.Option.{slice_get_within, slice_get-get_or}
 use Rattle.fof_terms.specs.declared.form.Form.{Form}
 use Rattle.clause_form.specs.declared.path.Parent.{Parent}
-use Rattle.clause_rules.specs.NormRule.{HasNorm, NormsAlike, IsNormStep}
+use Rattle.clause_rules.specs.NormRule.{HasNorm, NormsAlike, IsFirstAlike, IsFirstNorm, IsNormStep}
 
 pub untrue : (b : Bool) (P : Type 0) → b ≡ false → (IsTrue b ↔ P) → P → ⊥
 untrue b P e h p = let t : IsTrue b = h.1 p in cc
@@ -41,3 +41,12 @@ no_norm_step parents line made has none h =
 pub ok_map : {X E : Type 0} {P Q : X → Type 0} (r : Result X E) → ((x : X) → P x → Q x) → IfOk r P → IfOk r Q
 ok_map (Ok x) f p = f x p
 ok_map (Err e) f p = p
+
+-- the first parent with the line's normal form
+pub first_norm_of : (parents : List Parent) (line made : Form) → HasNorm line made → (found : Option ℕ) → MatchOption found ((a : ℕ) → NormsAlike parents made a → ⊥) (IsFirstAlike parents made)
+    → MatchOption found (IsNormStep parents line → ⊥) (IsFirstNorm parents line)
+first_norm_of parents line made has None none = no_norm_step parents line made has none
+first_norm_of parents line made has (Some a) first = (
+  record { made = made; of_line = has; of_parent = first.0 },
+  λ b lt h. first.1 b lt (subst (λ m. NormsAlike parents m b) (sym h.of_line.same ∙ has.same) h.of_parent),
+)

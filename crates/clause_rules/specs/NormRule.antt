@@ -1,5 +1,5 @@
 -- The rule `norm`: a parent has the line's normal form. A formula whose norm size is over 100,000 has none here.
-use Rattle.std.specs.Prelude.{ℕ, ◌≡◌, ◌≤◌, true, List, Some, slice_get}
+use Rattle.std.specs.Prelude.{ℕ, ◌≡◌, ◌<◌, ◌≤◌, true, List, Some, slice_get}
 use Rattle.fof_terms.specs.declared.form.Form.{Form}
 use Rattle.clause_form.specs.declared.path.Parent.{Parent}
 use Rattle.clause_form.specs.Norm.{norm_of}
@@ -21,6 +21,14 @@ pub record HasLinesNorm (parents : List Parent) (line : Form) (a : ℕ) : Type 0
   pub made : Form
   pub of_line : HasNorm line made
   pub of_parent : NormsAlike parents made a
+
+-- and no parent before it has it
+abbrev pub IsFirstNorm : List Parent → Form → ℕ → Type 0
+IsFirstNorm parents line a = HasLinesNorm parents line a × ((b : ℕ) → b < a → HasLinesNorm parents line b → ⊥)
+
+-- the first parent with this normal form
+abbrev pub IsFirstAlike : List Parent → Form → ℕ → Type 0
+IsFirstAlike parents made a = NormsAlike parents made a × ((b : ℕ) → b < a → NormsAlike parents made b → ⊥)
 
 abbrev pub IsNormStep : List Parent → Form → Type 0
 IsNormStep parents line = (a : ℕ) × HasLinesNorm parents line a

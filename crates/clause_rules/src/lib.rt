@@ -22,7 +22,7 @@ mod ways;
 pub use eqfactor_rule::eqfactor_step;
 pub use just::Just;
 pub use laws::what_is_shown_holds;
-pub use norm_rule::norm_step;
+pub use norm_rule::{first_norm, norm_step};
 pub use position::Position;
 pub use ready::{MAX_QUANTIFIERS, are_ready, is_ready};
 pub use resolution_rule::resolution_step;

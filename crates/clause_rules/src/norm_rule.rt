@@ -1,7 +1,7 @@
 ghost use Rattle.std.specs.Prelude.{IfOk, MatchOption, IsTrue, ◌↔◌, ◌<◌, ℕ};
 ghost use Rattle.clause_form.specs.Sizes.{norm_size_of};
 ghost use Rattle.clause_rules.specs.Answers.{IsAnswer, norm as by_norm};
-ghost use Rattle.clause_rules.specs.NormRule.{HasNorm, NormsAlike};
+ghost use Rattle.clause_rules.specs.NormRule.{HasNorm, IsFirstAlike, IsFirstNorm, IsNormStep, NormsAlike};
 
 use crate::just::Just;
 use crate::numbers::number;
@@ -20,11 +20,19 @@ pub fn norm_step(
 ) -> Result<Option<Just>, Memory>
     ensures { IfOk result (λ answer. IsAnswer sig.now parents.now line.now by_norm answer) }
 {
+    match first_norm(alloc, parents, line)? {
+        Some(parent) => Ok(Some(Just::Norm { parent })),
+        None => Ok(None),
+    }
+}
+
+/// The number in the list, counted from 0, of the first parent with the line's normal form. None exactly where no
+/// parent has it.
+pub fn first_norm(alloc: Global, parents: &[Parent], line: &Form) -> Result<Option<u32>, Memory>
+    ensures { IfOk result (λ found. MatchOption found (IsNormStep parents.now line.now → ⊥) (IsFirstNorm parents.now line.now)) }
+{
     match small_norm(alloc, line)? {
-        Some(made) => match first_alike(alloc, parents, made.get())? {
-            Some(parent) => Ok(Some(Just::Norm { parent })),
-            None => Ok(None),
-        },
+        Some(made) => first_alike(alloc, parents, made.get()),
         None => Ok(None),
     }
 }
@@ -42,7 +50,7 @@ fn small_norm(alloc: Global, form: &Form) -> Result<Option<Boxed<Form>>, Memory>
 
 // The number of the first parent with this normal form.
 fn first_alike(alloc: Global, parents: &[Parent], made: &Form) -> Result<Option<u32>, Memory>
-    ensures { IfOk result (λ found. MatchOption found ((a : ℕ) → NormsAlike parents.now made.now a → ⊥) (NormsAlike parents.now made.now)) }
+    ensures { IfOk result (λ found. MatchOption found ((a : ℕ) → NormsAlike parents.now made.now a → ⊥) (IsFirstAlike parents.now made.now)) }
 {
     for at in 0..parents.len() {
         let is_alike = is_norm_of(alloc, made, &parents[at].form)?;

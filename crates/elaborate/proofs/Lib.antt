@@ -1,0 +1,14 @@
+pub mod BodySorts
+pub mod ClosedLines
+pub mod CoveredLiterals
+pub mod Factors
+pub mod Instances
+pub mod Joints
+pub mod LineGoals
+pub mod NormLines
+pub mod Openings
+pub mod Peeling
+pub mod Refutations
+pub mod Resolvents
+pub mod StepAnswers
+pub mod TurnedSides

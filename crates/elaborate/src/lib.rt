@@ -3,9 +3,24 @@
 #![tactic(auto)]
 
 mod answer;
+mod by_eqfactor;
+mod by_norm;
+mod by_resolution;
+mod by_tautology;
+mod closing;
+mod covering;
 mod leaves;
+mod nodes;
+mod opening;
+mod premises;
+mod reach;
+mod refuting;
 mod steps;
+mod turning;
 
 pub use answer::{Reason, Rule, StepAnswer};
 pub use leaves::leaf;
 pub use steps::step;
+
+#[cfg(test)]
+mod tests;

@@ -1,14 +1,22 @@
-ghost use Rattle.std.specs.Prelude.{IfOk};
+ghost use Rattle.std.specs.Prelude.{◌≡◌, [], ◌∷◌, Some, IfOk};
+ghost use Rattle.kernel.specs.declared.entry.Entry.TheVariants.{Lemma};
+ghost use Rattle.elaborate.specs.declared.answer.StepAnswer.TheVariants.{Accepted};
 ghost use Rattle.clause_rules.specs.Steps.{AreReady, IsReady};
 ghost use Rattle.elaborate.specs.Derived.{AreOfTheory};
-ghost use Rattle.elaborate.specs.Answers.{IsStepAnswer};
+ghost use Rattle.elaborate.specs.Answers.{IsStepAnswer, numbers_of};
+ghost use Rattle.elaborate.specs.Proofs.{IsFound};
 
-use crate::answer::StepAnswer;
+use crate::answer::{Reason, Rule, StepAnswer};
+use crate::by_eqfactor::by_eqfactor;
+use crate::by_norm::by_norm;
+use crate::by_resolution::by_resolution;
+use crate::by_tautology::by_tautology;
 use clause_form::Parent;
-use fof_terms::Form;
-use kernel::Theory;
+use derive_kit::Part;
+use fof_terms::{Form, Signature};
+use kernel::{Entry, Theory};
 use std::alloc::Global;
-use tptp_base::Memory;
+use tptp_base::{List, Memory};
 
 /// The first rule by which the line follows from some of the parents, with entries that derive it: they are legal in
 /// turn after the theory, and the last adds the line. They need no formula of the theory but the parents, which the
@@ -24,5 +32,74 @@ pub fn step(
     requires line { IsReady theory.now.vocabulary line.now }
     ensures { IfOk result (IsStepAnswer theory.now parents.now line.now) }
 {
-    Err(Memory)
+    match first_proof(alloc, theory.signature(), parents, line)? {
+        Some(found) => accepted(alloc, parents, found),
+        None => Ok(StepAnswer::Unverified(Reason::NotYet)),
+    }
+}
+
+/// A rule that gives a line, and a proof of the line by it.
+#[derive(Drop)]
+pub struct Found {
+    pub rule: Rule,
+    pub proof: Part,
+}
+
+// The first rule that gives the line, with a proof; None exactly where there is none.
+fn first_proof(
+    alloc: Global,
+    signature: &Signature,
+    parents: &[Parent],
+    line: &Form,
+) -> Result<Option<Found>, Memory>
+    requires ready { AreReady signature.now parents.now }
+    requires line { IsReady signature.now line.now }
+    ensures { IfOk result (IsFound signature.now parents.now line.now) }
+{
+    if let Some(proof) = by_norm(alloc, signature, parents, line)? {
+        return Ok(by_rule(Rule::Norm, proof));
+    }
+    if let Some(proof) = by_tautology(alloc, signature, parents, line)? {
+        return Ok(by_rule(Rule::Tautology, proof));
+    }
+    if let Some(proof) = by_resolution(alloc, signature, parents, line)? {
+        return Ok(by_rule(Rule::Resolution, proof));
+    }
+    if let Some(proof) = by_eqfactor(alloc, signature, parents, line)? {
+        return Ok(by_rule(Rule::EqFactor, proof));
+    }
+    Ok(None)
+}
+
+// The rule with its proof.
+fn by_rule(rule: Rule, proof: Part) -> Option<Found>
+    ensures { result ≡ Some (record { rule = rule; proof = proof }) }
+{
+    Some(Found { rule, proof })
+}
+
+// The answer that the line is accepted, with the lemma of the proof as its only entry, citing all parents.
+fn accepted(alloc: Global, parents: &[Parent], found: Found) -> Result<StepAnswer, Memory>
+    ensures { IfOk result (λ answer. answer ≡ Accepted found.rule (numbers_of parents.now) (Lemma found.proof ∷ [])) }
+{
+    let mut cites = List::new(alloc);
+    for parent in parents {
+        cites.push(parent.number)?;
+    }
+    let Found { rule, proof } = found;
+    let entries = lemma(alloc, proof)?;
+    Ok(StepAnswer::Accepted {
+        rule,
+        cites,
+        entries,
+    })
+}
+
+/// The lemma of the proof, as the only entry.
+pub fn lemma(alloc: Global, proof: Part) -> Result<List<Entry>, Memory>
+    ensures { IfOk result (λ entries. entries ≡ Lemma proof ∷ []) }
+{
+    let mut entries = List::new(alloc);
+    entries.push(Entry::Lemma(proof.into_inner()))?;
+    Ok(entries)
 }

@@ -1,5 +1,5 @@
 -- Answers that are accepted, by counts and one by one.
-use Rattle.std.proofs.Common.{◌≡◌, ℕ, zero, suc, ◌+◌, ◌<◌, ◌≤◌, Bool, true, false, cond, List, [], ◌∷◌, length, Option, Some, slice_get, refl, sym, ◌∙◌, ap, arith}
+use Rattle.std.proofs.Common.{◌≡◌, ℕ, zero, suc, ◌+◌, cond, List, [], ◌∷◌, Some, slice_get, refl, arith}
 use Rattle.std.proofs.lemmas.List.Sums.{sum_by-cons}
 use Rattle.verifier.specs.Report.{is_unverified, is_skipped, unverified_of, skipped_of, AreAccepted}
 use Rattle.verifier.specs.declared.answer.LineAnswer.{LineAnswer}
@@ -31,11 +31,11 @@ one_accepted [] k a all at = absurd (cc)
 one_accepted (x ∷ answers) zero a all at = same x a (cc) (first_accepted x answers all)
   where
     same : (x a : LineAnswer) → x ≡ a → IsAccepted x → IsAccepted a
-    same (Accepted rule cites) (Accepted other more) is yes = tt
-    same (Accepted rule cites) (Unverified reason) is yes = absurd (cc)
-    same (Accepted rule cites) Skipped is yes = absurd (cc)
-    same (Unverified reason) a is yes = absurd yes
-    same Skipped a is yes = absurd yes
+    same (Accepted rule cites) (Accepted other more) is good = tt
+    same (Accepted rule cites) (Unverified reason) is good = absurd (cc)
+    same (Accepted rule cites) Skipped is good = absurd (cc)
+    same (Unverified reason) a is good = absurd good
+    same Skipped a is good = absurd good
 one_accepted (x ∷ answers) (suc k) a all at = one_accepted answers k a (rest_accepted x answers all) at
 
 -- and where each is, all are

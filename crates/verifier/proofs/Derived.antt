@@ -1,5 +1,5 @@
 -- What an answer says of the line that it accepts.
-use Rattle.std.proofs.Common.{◌≡◌, ℕ, ◌+◌, ◌-◌, ◌≤◌, Bool, true, false, List, [], ◌∷◌, ◌++◌, length, Option, None, Some, slice_get, refl, sym, ◌∙◌, ap, subst, arith, length-append}
+use Rattle.std.proofs.Common.{◌≡◌, ℕ, ◌≤◌, Bool, true, false, List, [], ◌∷◌, length, Some, slice_get, ◌∙◌, ap, arith, length-append}
 use Rattle.fof_terms.specs.declared.form.Form.{Form}
 use Rattle.clause_form.specs.declared.path.Parent.{Parent}
 use Rattle.kernel.specs.Statements.{Statements}
@@ -11,12 +11,10 @@ use Rattle.elaborate.specs.Derived.{IsDerivedFrom, derived_admits}
 use Rattle.elaborate.specs.declared.answer.Rule.{Rule}
 use Rattle.elaborate.specs.declared.answer.StepAnswer.{StepAnswer}
 use Rattle.elaborate.specs.declared.answer.StepAnswer.TheVariants as step
-use Rattle.verifier.specs.Lines.{Derivation, Line}
-use Rattle.verifier.specs.Run.{Progress, AnswersKind, IsAnswered, with_line}
-use Rattle.verifier.specs.Taking.{Adds, CanTake}
-use Rattle.verifier.specs.declared.answer.LineAnswer.TheVariants.{Accepted}
+use Rattle.verifier.specs.Run.{AnswersKind}
+use Rattle.verifier.specs.Taking.{Adds}
 use Rattle.verifier.proofs.OneConclusion.{one_admitted}
-use Rattle.verifier.proofs.Slots.{stays_behind, comes_last}
+use Rattle.verifier.proofs.Slots.{stays_behind}
 
 -- the entries of an answer derive the line
 pub kind_derived : (is_leaf : Bool) (t : Statements) (given : List Form) (cited : Bool) (parents : List Parent) (form : Form) (rule : Rule) (cites : List ℕ) (entries : List Entry) → AnswersKind is_leaf t given cited parents form (step.Accepted rule cites entries) → IsDerivedFrom t cites entries form

@@ -1,5 +1,5 @@
 -- A run of a good derivation accepts each line.
-use Rattle.std.proofs.Common.{◌≡◌, ℕ, ◌+◌, ◌-◌, ◌<◌, ◌⊎◌, inl, inr, ◌==◌, ◌||◌, ◌&&◌, Bool, true, false, List, [], ◌∷◌, ◌++◌, length, map, Option, None, Some, slice_get, slice_set, refl, sym, ◌∙◌, ap, subst, arith}
+use Rattle.std.proofs.Common.{◌≡◌, ℕ, ◌+◌, ◌-◌, ◌<◌, inl, inr, ◌==◌, ◌||◌, Bool, true, false, List, [], ◌∷◌, ◌++◌, length, map, Option, None, Some, slice_get, slice_set, refl, sym, ◌∙◌, ap, subst, arith}
 use Rattle.std.specs.List.{list_all}
 use Rattle.std.proofs.lemmas.Bool.Decides.{nat_tests}
 use Rattle.std.proofs.lemmas.List.{length-set, length-replicate}
@@ -10,7 +10,7 @@ use Rattle.clause_form.specs.declared.path.Parent.{Parent}
 use Rattle.kernel.specs.Statements.{Statements}
 use Rattle.kernel.specs.Entries.{with_formula}
 use Rattle.kernel.specs.declared.entry.Entry.{Entry}
-use Rattle.elaborate.specs.ByRule.{IsFirst, IsNone, IsFirstAlone, IsNoneAlone, ByRule, ByNone, LeafRule, ByNoLeafRule, rules, leaf_rules}
+use Rattle.elaborate.specs.ByRule.{IsFirst, IsNone, IsFirstAlone, IsNoneAlone, LeafRule, rules, leaf_rules}
 use Rattle.elaborate.specs.declared.answer.Rule.{Rule}
 use Rattle.elaborate.specs.declared.answer.Reason.{Reason}
 use Rattle.elaborate.specs.declared.answer.Reason.TheVariants.{NotYet, Leaf}
@@ -19,15 +19,16 @@ use Rattle.tstp_graph.specs.declared.shape.Ref.{Ref}
 use Rattle.tstp_graph.specs.declared.shape.Ref.TheVariants as ref
 use Rattle.tstp_graph.specs.declared.shape.Node.{Node}
 use Rattle.tstp_graph.specs.Order.{is_taken, is_done, TakesInTurn, first_left}
-use Rattle.verifier.specs.Good.{form_of, forms_of, HaveForms, FollowsAs, Follows, IsGood}
-use Rattle.verifier.specs.Lines.{Derivation, Line, IsLineAt, numbered, parent_of, both, parents_of, candidates_of}
+use Rattle.verifier.specs.Good.{form_of, forms_of, without_numbers, FollowsAs, IsGood}
+use Rattle.verifier.specs.Lines.{Derivation, Line, numbered, parent_of, parents_of, candidates_of}
 use Rattle.verifier.specs.Report.{AreAccepted}
-use Rattle.verifier.specs.Run.{Progress, AnswersKind, AnswersPlace, AreAnswered, IsAnswered, IsRun, begun, with_line}
+use Rattle.verifier.specs.Run.{Progress, AnswersKind, AnswersPlace, AreAnswered, IsAnswered, IsRun, begun}
 use Rattle.verifier.specs.declared.answer.LineAnswer.{LineAnswer}
 use Rattle.verifier.specs.declared.answer.LineAnswer.TheVariants.{Accepted, Unverified, Skipped}
 use Rattle.verifier.proofs.Counting.{IsAccepted, all_accepted}
 use Rattle.verifier.proofs.Derived.{accepted_theory}
 use Rattle.verifier.proofs.Knowing.{both_is}
+use Rattle.verifier.proofs.Renumbering.{Alike, first_by_forms, alone_by_forms}
 use Rattle.verifier.proofs.Slots.{set_here, set_elsewhere, one_value, has_value}
 use Rattle.verifier.proofs.Turns.{HasTurn, turn_of, taken_more, none_left, both_true}
 
@@ -42,15 +43,29 @@ alone_or_none [] v candidates line rule i first none = first
 alone_or_none (r ∷ rs) v candidates line rule i (inl (same, gives)) none = none.0 i gives.0
 alone_or_none (r ∷ rs) v candidates line rule i (inr (fails, rest)) none = alone_or_none rs v candidates line rule i rest none.1
 
+-- the parents have these formulas
+abbrev HaveForms : List Parent → List Form → Type 0
+HaveForms parents forms = map (λ (p : Parent). p.form) parents ≡ forms
+
+forms_without_numbers : (forms : List Form) → HaveForms (without_numbers forms) forms
+forms_without_numbers [] = refl
+forms_without_numbers (form ∷ forms) = ap (λ (fs : List Form). form ∷ fs) (forms_without_numbers forms)
+
+candidates_alike : (rule : Rule) (v : Vocabulary) (given : List Form) (cited : Bool) (line : Form) (i : ℕ) (ps qs : List Parent) → Alike ps qs → LeafRule v (candidates_of given cited ps) line rule i → LeafRule v (candidates_of given cited qs) line rule i
+candidates_alike rule v given true line i ps qs same holds = alone_by_forms leaf_rules v line rule i ps qs same holds
+candidates_alike rule v given false line i ps qs same holds = holds
+
 -- a line that follows is not unverified
 never_unverified : (is_leaf : Bool) (t : Statements) (given : List Form) (cited : Bool) (parents : List Parent) (forms : List Form) (form : Form) (reason : Reason) → HaveForms parents forms → FollowsAs is_leaf t.vocabulary given cited forms form → AnswersKind is_leaf t given cited parents form (step.Unverified reason) → ⊥
-never_unverified true t given cited parents forms form NotYet have (rule, follows) answers =
-    let found = follows parents have in
-    alone_or_none leaf_rules t.vocabulary (candidates_of given cited parents) form rule found.0 found.1 answers.0
-never_unverified true t given cited parents forms form Leaf have (rule, follows) answers =
-    let found = follows parents have in
-    alone_or_none leaf_rules t.vocabulary (candidates_of given cited parents) form rule found.0 found.1 answers.0
-never_unverified false t given cited parents forms form NotYet have (rule, follows) answers = first_or_none rules t.vocabulary parents form rule (follows parents have) answers
+never_unverified true t given cited parents forms form NotYet have (rule, i, follows) answers =
+    let same : Alike (without_numbers forms) parents = forms_without_numbers forms ∙ sym have in
+    alone_or_none leaf_rules t.vocabulary (candidates_of given cited parents) form rule i (candidates_alike rule t.vocabulary given cited form i (without_numbers forms) parents same follows) answers.0
+never_unverified true t given cited parents forms form Leaf have (rule, i, follows) answers =
+    let same : Alike (without_numbers forms) parents = forms_without_numbers forms ∙ sym have in
+    alone_or_none leaf_rules t.vocabulary (candidates_of given cited parents) form rule i (candidates_alike rule t.vocabulary given cited form i (without_numbers forms) parents same follows) answers.0
+never_unverified false t given cited parents forms form NotYet have (rule, follows) answers =
+    let same : Alike (without_numbers forms) parents = forms_without_numbers forms ∙ sym have in
+    first_or_none rules t.vocabulary parents form rule (first_by_forms rules t.vocabulary form rule (without_numbers forms) parents same follows) answers
 never_unverified false t given cited parents forms form Leaf have (rule, follows) answers = answers
 
 -- what is known of a run of a good derivation: the lines that are taken have numbers
@@ -87,28 +102,25 @@ accepts v d taken old place line parents forms (Accepted rule cites) entries new
   tt,
   subst (IsSound v d (taken ++ place ∷ [])) (sym is) (record {
     vocabulary = ap (λ (t : Statements). t.vocabulary) made ∙ sound.vocabulary;
-    count = length-set old.numbers place (Some last) ∙ sound.count;
+    count = length-set old.numbers place (Some (length theory.formulas - 1)) ∙ sound.count;
     numbers = numbers;
   }),
 )
   where
-    last : ℕ
-    last = length theory.formulas - 1
-
     made : theory ≡ with_formula old.theory line.form
     made = accepted_theory line.node.leaf old.theory theory d.given line.node.cited parents line.form rule cites entries answers admits
 
-    numbers : (k : ℕ) → is_taken (taken ++ place ∷ []) k ≡ true → (n : ℕ) × (slice_get (slice_set old.numbers place (Some last)) k ≡ Some (Some n))
+    numbers : (k : ℕ) → is_taken (taken ++ place ∷ []) k ≡ true → (n : ℕ) × (slice_get (slice_set old.numbers place (Some (length theory.formulas - 1))) k ≡ Some (Some n))
     numbers k is_now = by (k == place) refl
       where
-        by : (b : Bool) → (k == place) ≡ b → (n : ℕ) × (slice_get (slice_set old.numbers place (Some last)) k ≡ Some (Some n))
+        by : (b : Bool) → (k == place) ≡ b → (n : ℕ) × (slice_get (slice_set old.numbers place (Some (length theory.formulas - 1))) k ≡ Some (Some n))
         by true test =
             let same : k ≡ place = grind (arith, nat_tests) in
-            (last, ap (slice_get (slice_set old.numbers place (Some last))) same ∙ set_here old.numbers place (Some last) (omega (arith, within, sound.count)))
+            (length theory.formulas - 1, ap (slice_get (slice_set old.numbers place (Some (length theory.formulas - 1)))) same ∙ set_here old.numbers place (Some (length theory.formulas - 1)) (omega (arith, within, sound.count)))
         by false test =
             let apart : k ≡ place → ⊥ = λ same. grind (arith, nat_tests) in
             let before = sound.numbers k (taken_more taken place k is_now apart) in
-            (before.0, set_elsewhere old.numbers place k (Some last) apart ∙ before.1)
+            (before.0, set_elsewhere old.numbers place k (Some (length theory.formulas - 1)) apart ∙ before.1)
 
 -- the line that has its turn is accepted
 turn_accepted : (v : Vocabulary) (d : Derivation) (answers : List LineAnswer) (taken : List ℕ) (old : Progress) (place : ℕ) (entries : List Entry) (new : Progress) → IsGood v d → IsSound v d taken old → HasTurn d.nodes taken place → AnswersPlace d answers old place entries new → ((a : LineAnswer) × (slice_get answers place ≡ Some a) × IsAccepted a) × IsSound v d (taken ++ place ∷ []) new

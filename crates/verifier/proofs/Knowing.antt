@@ -1,9 +1,8 @@
 -- What is known of the theory so far: that the parents of a line stand in it, and how it goes on.
-use Rattle.std.proofs.Common.{◌≡◌, ℕ, zero, suc, ◌+◌, ◌-◌, ◌<◌, ◌⊎◌, inl, inr, List, [], ◌∷◌, ◌++◌, length, map, Option, None, Some, slice_get, slice_set, replicate, refl, sym, ◌∙◌, ap, subst, arith, length-append}
+use Rattle.std.proofs.Common.{◌≡◌, ℕ, suc, ◌+◌, ◌-◌, ◌⊎◌, inl, inr, List, [], ◌∷◌, ◌++◌, length, Option, None, Some, slice_get, replicate, refl, sym, ◌∙◌, ap, subst, arith, length-append}
 use Rattle.std.specs.List.{All}
 use Rattle.std.proofs.lemmas.List.{length-set, length-replicate}
 use Rattle.std.proofs.lemmas.List.Elements.{All-nil, All-cons, All-weaker}
-use Rattle.fof_terms.specs.Vocabulary.{Vocabulary}
 use Rattle.fof_terms.specs.declared.form.Form.{Form}
 use Rattle.clause_form.specs.declared.path.Parent.{Parent}
 use Rattle.clause_rules.specs.Steps.{IsReady, AreReady}
@@ -13,9 +12,10 @@ use Rattle.elaborate.specs.Derived.{AreOfTheory}
 use Rattle.tstp_graph.specs.declared.shape.Ref.{Ref}
 use Rattle.tstp_graph.specs.declared.shape.Ref.TheVariants as ref
 use Rattle.verifier.specs.Lines.{Derivation, numbered, given_from, with_number, accepted, parent_of, both, parents_of}
-use Rattle.verifier.specs.Numbered.{Knows, forms_in, progress_of}
+use Rattle.verifier.specs.Numbered.{Knows, IsOver, AreNumbered, forms_in, progress_of, derivation_in}
+use Rattle.verifier.specs.declared.lines.Lines.{Lines}
 use Rattle.verifier.specs.Run.{Progress, begun, with_line}
-use Rattle.verifier.proofs.Slots.{set_here, set_cases, of_all, stays_behind, comes_last, one_value, in_replicate}
+use Rattle.verifier.proofs.Slots.{set_cases, of_all, stays_behind, comes_last, one_value, in_replicate}
 
 -- the parent stands in the theory, and the rules may be asked about it
 pub record Stands (t : Statements) (p : Parent) : Type 0 where
@@ -35,6 +35,10 @@ pub both_is : {X : Type 0} (x : Option X) (xs : Option (List X)) (ys : List X) �
 both_is None xs ys is = absurd (cc)
 both_is (Some x) None ys is = absurd (cc)
 both_is (Some x) (Some xs) ys is = (x, xs, refl, refl, cc)
+
+-- the number of a formula that comes behind others
+abbrev pub last_number : List Form → Form → ℕ
+last_number forms form = length (forms ++ form ∷ []) - 1
 
 module _ (d : Derivation) (p : Progress) (knows : Knows d p) where
   pub parent_stands : (r : Ref) (q : Parent) → parent_of d.given d.forms p.numbers r ≡ Some q → Stands p.theory q
@@ -63,8 +67,8 @@ module _ (d : Derivation) (p : Progress) (knows : Knows d p) where
       let same : number + 0 ≡ number = omega arith in
       let here : slice_get d.given number ≡ Some form = ap (slice_get d.given) (sym same) ∙ at 0 form refl in
       All-cons (Stands p.theory) (numbered number form) (given_from (number + 1) forms)
-          (record { at = knows.given number form here; ready = of_all (IsReady p.theory.vocabulary) d.given number form knows.given_ready here })
-          (given_on (number + 1) forms (λ k a is. let next : number + 1 + k ≡ number + suc k = omega arith in ap (slice_get d.given) next ∙ at (suc k) a is))
+      (record { at = knows.given number form here; ready = of_all (IsReady p.theory.vocabulary) d.given number form knows.given_ready here })
+      (given_on (number + 1) forms (λ k a is. let next : number + 1 + k ≡ number + suc k = omega arith in ap (slice_get d.given) next ∙ at (suc k) a is))
 
   pub given_stand : All (Stands p.theory) (given_from 0 d.given)
   given_stand = given_on 0 d.given (λ k a is. let same : 0 + k ≡ k = omega arith in ap (slice_get d.given) same ∙ is)
@@ -74,22 +78,18 @@ module _ (d : Derivation) (p : Progress) (knows : Knows d p) where
   knows_more place form u at is =
       subst (λ (w : Statements). Knows d (with_line p place w)) (sym is) (record {
         given = λ k a there. stays_behind p.theory.formulas (form ∷ []) k a (knows.given k a there);
-        lines = λ k n a number there. line k n a there (set_cases p.numbers place k (Some last) (Some n) number);
+        lines = λ k n a number there. line k n a there (set_cases p.numbers place k (Some (last_number p.theory.formulas form)) (Some n) number);
         given_ready = knows.given_ready;
         lines_ready = knows.lines_ready;
-        count = length-set p.numbers place (Some last) ∙ knows.count;
+        count = length-set p.numbers place (Some (last_number p.theory.formulas form)) ∙ knows.count;
       })
     where
-      last : ℕ
-      last = length (with_formula p.theory form).formulas - 1
-
-      at_last : last ≡ length p.theory.formulas
-      unfolding last
+      at_last : last_number p.theory.formulas form ≡ length p.theory.formulas
       at_last = omega (arith, length-append p.theory.formulas (form ∷ []))
 
-      line : (k n : ℕ) (a : Form) → slice_get d.forms k ≡ Some a → ((k ≡ place) × (Some n ≡ Some last)) ⊎ (slice_get p.numbers k ≡ Some (Some n)) → slice_get (p.theory.formulas ++ form ∷ []) n ≡ Some a
+      line : (k n : ℕ) (a : Form) → slice_get d.forms k ≡ Some a → ((k ≡ place) × (Some n ≡ Some (last_number p.theory.formulas form))) ⊎ (slice_get p.numbers k ≡ Some (Some n)) → slice_get (p.theory.formulas ++ form ∷ []) n ≡ Some a
       line k n a there (inl (same, number)) =
-          let n_is : n ≡ length p.theory.formulas = (let e : n ≡ last = cc in e ∙ at_last) in
+          let n_is : n ≡ length p.theory.formulas = (let e : n ≡ last_number p.theory.formulas form = cc in e ∙ at_last) in
           let form_is : form ≡ a = one_value (slice_get d.forms place) form a at (ap (slice_get d.forms) (sym same) ∙ there) in
           ap (slice_get (p.theory.formulas ++ form ∷ [])) n_is ∙ comes_last p.theory.formulas form ∙ ap Some form_is
       line k n a there (inr number) = stays_behind p.theory.formulas (form ∷ []) n a (knows.lines k n a number there)
@@ -117,3 +117,23 @@ knows_none t d same count given_ready lines_ready = record {
 pub forms_of_given : (number : ℕ) (forms : List Form) → forms_in (given_from number forms) ≡ forms
 forms_of_given number [] = refl
 forms_of_given number (form ∷ forms) = ap (λ (fs : List Form). form ∷ fs) (forms_of_given (number + 1) forms)
+
+-- ---- the lines in memory
+
+pub numbered_of_theory : (lines : Lines) (t : Statements) (numbers : List (Option ℕ)) → AreNumbered lines.given.now → Knows (derivation_in lines) (progress_of t numbers) → AreOfTheory t lines.given.now
+numbered_of_theory lines t numbers numbered knows = subst (AreOfTheory t) (sym numbered) (of_theory t (given_from 0 (forms_in lines.given.now)) (given_stand (derivation_in lines) (progress_of t numbers) knows))
+
+pub numbered_ready : (lines : Lines) (t : Statements) (numbers : List (Option ℕ)) → AreNumbered lines.given.now → Knows (derivation_in lines) (progress_of t numbers) → AreReady t.vocabulary lines.given.now
+numbered_ready lines t numbers numbered knows = subst (AreReady t.vocabulary) (sym numbered) (are_ready t (given_from 0 (forms_in lines.given.now)) (given_stand (derivation_in lines) (progress_of t numbers) knows))
+
+-- what is made of the formulas of a theory has these formulas
+pub given_forms : (given : List Parent) (forms : List Form) → given ≡ given_from 0 forms → forms_in given ≡ forms
+given_forms given forms is = ap forms_in is ∙ forms_of_given 0 forms
+
+pub over_numbered : (t : Statements) (lines : Lines) → IsOver t lines → AreNumbered lines.given.now
+over_numbered t lines over = over.given ∙ ap (given_from 0) (sym (given_forms lines.given.now t.formulas over.given))
+
+pub over_knows : (t : Statements) (lines : Lines) (numbers : List (Option ℕ)) (count : ℕ) → IsOver t lines → numbers ≡ replicate count None → count ≡ length lines.nodes.now → Knows (derivation_in lines) (progress_of t numbers)
+over_knows t lines numbers count over is all =
+    subst (λ (ns : List (Option ℕ)). Knows (derivation_in lines) (progress_of t ns)) (sym (is ∙ ap (λ (n : ℕ). replicate n None) all))
+    (knows_none t (derivation_in lines) (given_forms lines.given.now t.formulas over.given) over.same over.given_ready over.lines_ready)

@@ -1,12 +1,15 @@
 pub mod Adding
+pub mod Collecting
 pub mod Counting
 pub mod Declaring
 pub mod Derived
 pub mod Goodness
 pub mod Knowing
+pub mod LineAnswers
 pub mod Logs
 pub mod OneConclusion
 pub mod Refuting
+pub mod Renumbering
 pub mod Running
 pub mod Slots
 pub mod Turns

@@ -1,8 +1,7 @@
 -- How the lines of entries make up what a log has taken.
-use Rattle.std.proofs.Common.{◌≡◌, ℕ, List, [], ◌++◌, Option, refl, sym, ap, subst}
+use Rattle.std.proofs.Common.{◌≡◌, ℕ, List, [], ◌++◌, Option, refl, sym, subst}
 use Rattle.std.proofs.lemmas.List.{append-nil}
 use Rattle.std.proofs.lemmas.Grind.{flat_map-append}
-use Rattle.std.specs.Io.KnownBytes.{append_known}
 use Rattle.tptp_base.specs.Sink.{Takes, TakesPrefix}
 use Rattle.tptp_base.proofs.Taken.{takes_nothing, takes_both, takes_then_prefix}
 use Rattle.kernel.specs.Statements.{Statements}

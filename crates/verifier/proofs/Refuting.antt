@@ -8,20 +8,23 @@ use Rattle.fof_terms.specs.Sorts.{Sorted}
 use Rattle.clause_form.specs.declared.path.Parent.{Parent}
 use Rattle.kernel.specs.Statements.{Statements}
 use Rattle.kernel.specs.Entries.{Admits, Refutes, with_formula}
-use Rattle.kernel.specs.EntryLaws.{admits_more}
+use Rattle.kernel.specs.EntryLaws.{admits_append, admits_more}
 use Rattle.kernel.specs.Proves.{Proves}
 use Rattle.kernel.specs.Rules.{Proves-Line}
-use Rattle.kernel.specs.declared.proof.Proof.{Proof, Line as Cited}
+use Rattle.kernel.specs.declared.proof.Proof.{Line as Cited}
 use Rattle.kernel.specs.declared.entry.Entry.{Entry}
 use Rattle.kernel.specs.declared.entry.Entry.TheVariants.{Lemma}
-use Rattle.tstp_graph.specs.declared.shape.Node.{Node}
 use Rattle.tstp_graph.specs.Order.{is_taken, first_left}
 use Rattle.szs_report.specs.declared.answer.Verdict.{Verdict}
 use Rattle.szs_report.specs.declared.answer.Verdict.TheVariants.{Failed, NoFalse, BadClaim, Verified}
-use Rattle.verifier.specs.Closing.{Closes, IsVerified}
+use Rattle.std.proofs.lemmas.List.{append-nil}
+use Rattle.tptp_base.specs.Sink.{Takes, TakesPrefix}
+use Rattle.proof_log.specs.Entries.{entry_text}
+use Rattle.verifier.specs.Closing.{Closes, ClosesLog, IsVerified}
+use Rattle.verifier.specs.Logged.{LogsSome}
 use Rattle.verifier.specs.Lines.{Derivation, Line, parents_of}
 use Rattle.verifier.specs.Report.{HasFalse, AreAccepted}
-use Rattle.verifier.specs.Run.{Progress, AnswersPlace, AreAnswered, IsAnswered, IsRun}
+use Rattle.verifier.specs.Run.{Progress, AreAnswered, IsAnswered, IsRun}
 use Rattle.verifier.specs.declared.answer.LineAnswer.{LineAnswer}
 use Rattle.verifier.specs.declared.answer.LineAnswer.TheVariants.{Accepted, Unverified, Skipped}
 use Rattle.verifier.proofs.Counting.{IsAccepted, one_accepted}
@@ -32,10 +35,10 @@ use Rattle.verifier.proofs.Turns.{none_left}
 
 -- an accepted line stands in the theory
 accepted_stands : (d : Derivation) (old : Progress) (place : ℕ) (line : Line) (parents : Option (List Parent)) (answer : LineAnswer) (entries : List Entry) (new : Progress) → IsAccepted answer → IsAnswered d.given old place line parents answer entries new → (i : ℕ) × (slice_get new.theory.formulas i ≡ Some line.form)
-accepted_stands d old place line parents Skipped entries new yes is = absurd yes
-accepted_stands d old place line parents (Unverified reason) entries new yes is = absurd yes
-accepted_stands d old place line None (Accepted rule cites) entries new yes is = absurd is
-accepted_stands d old place line (Some parents) (Accepted rule cites) entries new yes is =
+accepted_stands d old place line parents Skipped entries new good is = absurd good
+accepted_stands d old place line parents (Unverified reason) entries new good is = absurd good
+accepted_stands d old place line None (Accepted rule cites) entries new good is = absurd is
+accepted_stands d old place line (Some parents) (Accepted rule cites) entries new good is =
     let made : is.1.0 ≡ with_formula old.theory line.form = accepted_theory line.node.leaf old.theory is.1.0 d.given line.node.cited parents line.form rule cites entries is.0 is.1.1 in (
       length old.theory.formulas,
       ap (λ (p : Progress). slice_get p.theory.formulas (length old.theory.formulas)) is.1.2
@@ -87,3 +90,27 @@ closed_refutes t u entries last (BadClaim word) admits verified closes = absurd 
 closed_refutes t u entries last (Verified word problem lines) admits verified (proof, shows, is) =
     subst (λ (es : List Entry). Refutes t (entries ++ es)) (sym is)
     (with_formula u (Or []), admits_more t u (with_formula u (Or [])) entries (Lemma proof) admits (Or [], shows) (Or [], shows, refl), last_is u.formulas (Or []))
+
+-- behind entries that lead to where a run begins
+pub run_refutes : (t start : Statements) (before : List Entry) (d : Derivation) (order : List ℕ) (answers : List LineAnswer) (entries : List Entry) (end : Statements) (verdict : Verdict) (last : List Entry) → Admits t before start → IsRun start d order answers entries end → IsVerified verdict → Closes verdict end last → Refutes t (before ++ entries ++ last)
+run_refutes t start before d order answers entries end verdict last first run verified closes =
+    closed_refutes t end (before ++ entries) last verdict (admits_append t start end before entries first (run_admits start d order answers entries end run)) verified closes
+
+-- ---- the last entry
+
+-- the lemma that is logged where all is verified
+pub last_closes : (verdict : Verdict) (t : Statements) (number : ℕ) (old new : Option (List ℕ)) → IsVerified verdict → slice_get t.formulas number ≡ Some (Or []) → Takes old new (entry_text (Lemma (Cited number))) → ClosesLog verdict t old new
+last_closes (Failed unverified skipped lines) t number old new verified at taken = absurd verified
+last_closes NoFalse t number old new verified at taken = absurd verified
+last_closes (BadClaim word) t number old new verified at taken = absurd verified
+last_closes (Verified word problem lines) t number old new verified at taken =
+    (Lemma (Cited number) ∷ [], (Cited number, line_shows t number at, refl), subst (Takes old new) (sym (append-nil (entry_text (Lemma (Cited number))))) taken)
+
+-- the last entry is cut
+pub last_cut : (t : Statements) (number : ℕ) (old new : Option (List ℕ)) → slice_get t.formulas number ≡ Some (Or []) → TakesPrefix old new (entry_text (Lemma (Cited number))) → LogsSome t old new
+last_cut t number old new at cut = record {
+  entries = Lemma (Cited number) ∷ [];
+  theory = with_formula t (Or []);
+  legal = ((Or [], line_shows t number at), (with_formula t (Or []), (Or [], line_shows t number at, refl), refl));
+  taken = subst (TakesPrefix old new) (sym (append-nil (entry_text (Lemma (Cited number))))) cut;
+}

@@ -1,6 +1,7 @@
 -- How lines are run one by one.
-use Rattle.std.proofs.Common.{◌≡◌, ℕ, zero, suc, ◌+◌, ◌-◌, ◌<◌, ◌≤◌, Bool, true, false, List, [], ◌∷◌, ◌++◌, length, take, drop, get_or, Option, None, Some, slice_get, slice_set, refl, sym, ◌∙◌, ap, subst, append_assoc, arith}
-use Rattle.std.proofs.lemmas.List.{append-nil, length-set}
+use Rattle.std.proofs.Common.{◌≡◌, ℕ, zero, suc, ◌+◌, ◌<◌, true, List, [], ◌∷◌, ◌++◌, length, take, drop, get_or, Option, None, Some, Result, IfOk, slice_get, slice_set, replicate, refl, sym, ◌∙◌, ap, subst, append_assoc, drop-cons, add-one, arith}
+use Rattle.std.proofs.lemmas.List.{append-nil, length-set, take_more}
+use Rattle.fof_terms.specs.declared.form.Form.{Form}
 use Rattle.tptp_base.specs.Sink.{Takes}
 use Rattle.tptp_base.proofs.Taken.{takes_nothing}
 use Rattle.kernel.specs.Statements.{Statements}
@@ -8,19 +9,18 @@ use Rattle.kernel.specs.Entries.{Admits}
 use Rattle.kernel.specs.EntryLaws.{admits_append}
 use Rattle.kernel.specs.declared.entry.Entry.{Entry}
 use Rattle.clause_form.specs.declared.path.Parent.{Parent}
-use Rattle.elaborate.specs.declared.answer.StepAnswer.TheVariants as step
 use Rattle.tstp_graph.specs.declared.shape.Node.{Node}
 use Rattle.tstp_graph.specs.Order.{is_taken, TakesInTurn}
-use Rattle.verifier.specs.Lines.{Derivation, Line, IsLineAt, parents_of}
+use Rattle.verifier.specs.Lines.{Derivation, Line, parents_of}
 use Rattle.verifier.specs.Logged.{LogsSome, LogsRun, entries_text}
 use Rattle.verifier.specs.Numbered.{progress_of}
-use Rattle.verifier.specs.Run.{Progress, IsAnswered, AnswersPlace, AreAnswered, IsRun, begun, with_line}
+use Rattle.verifier.specs.Run.{Progress, IsAnswered, AnswersPlace, AreAnswered, begun}
 use Rattle.verifier.specs.Taking.{AnswersLine}
 use Rattle.verifier.specs.declared.answer.LineAnswer.{LineAnswer}
 use Rattle.verifier.specs.declared.answer.LineAnswer.TheVariants.{Accepted, Unverified, Skipped}
-use Rattle.verifier.proofs.Logs.{takes_more_entries, logs_all, logs_more}
+use Rattle.verifier.proofs.Logs.{takes_more_entries, logs_more}
 use Rattle.verifier.proofs.Slots.{set_here, set_elsewhere}
-use Rattle.verifier.proofs.Turns.{HasTurn, turn_of, taken_more, taken_last, taken_still, taken_apart}
+use Rattle.verifier.proofs.Turns.{HasTurn, turn_of, taken_last, taken_still, taken_apart}
 
 -- the entries of one answer are legal in turn
 pub answer_admits : (d : Derivation) (old : Progress) (place : ℕ) (line : Line) (parents : Option (List Parent)) (answer : LineAnswer) (entries : List Entry) (new : Progress) → IsAnswered d.given old place line parents answer entries new → Admits old.theory entries new.theory
@@ -120,3 +120,25 @@ running_all d t order end numbers answers done rest log_old log_now none so_far 
       };
       taken = all.taken;
     }
+
+-- ---- the places in an order
+
+pub place_here : (order : List ℕ) (i : ℕ) → i < length order → drop i order ≡ get_or order i 0 ∷ drop (i + 1) order
+place_here order i lt = rw add-one (drop-cons order i 0 lt)
+
+pub place_done : (order : List ℕ) (i : ℕ) → i < length order → take (i + 1) order ≡ take i order ++ get_or order i 0 ∷ []
+place_done order i lt = take_more order i 0 lt
+
+pub running_begins : (d : Derivation) (t : Statements) (order : List ℕ) (numbers : List (Option ℕ)) (answers : List LineAnswer) (count : ℕ) (log : Option (List ℕ)) → numbers ≡ replicate count None → count ≡ length d.nodes → length answers ≡ count → TakesInTurn d.nodes [] order → IsRunning d (begun t d) order (progress_of t numbers) answers [] order log log
+running_begins d t order numbers answers count log is all same turns =
+    subst (λ (ns : List (Option ℕ)). IsRunning d (begun t d) order (progress_of t ns) answers [] order log log) (sym (is ∙ ap (λ (n : ℕ). replicate n None) all))
+    (running_none d (begun t d) order answers log turns (same ∙ all))
+
+-- a run over the formulas of a theory, which are the given formulas
+module _ {E : Type 0} (result : Result (List LineAnswer) E) (t end : Statements) (old new : Option (List ℕ)) where
+  pub ran_over : (given all : List Form) (nodes graph : List Node) (forms : List Form) (places order : List ℕ) → given ≡ all → nodes ≡ graph → places ≡ order
+      → IfOk result (λ answers. LogsRun t (record { given = given; nodes = nodes; forms = forms }) places answers end old new) → IfOk result (λ answers. LogsRun t (record { given = all; nodes = graph; forms = forms }) order answers end old new)
+  ran_over given all nodes graph forms places order one two three ran =
+      subst (λ (ps : List ℕ). IfOk result (λ answers. LogsRun t (record { given = all; nodes = graph; forms = forms }) ps answers end old new)) three
+      (subst (λ (ns : List Node). IfOk result (λ answers. LogsRun t (record { given = all; nodes = ns; forms = forms }) places answers end old new)) two
+      (subst (λ (fs : List Form). IfOk result (λ answers. LogsRun t (record { given = fs; nodes = nodes; forms = forms }) places answers end old new)) one ran))

@@ -1,11 +1,9 @@
 -- The order of a graph: each place is new, has a node, and comes behind its parents; and no place is left out.
-use Rattle.std.proofs.Common.{◌≡◌, ℕ, zero, suc, ◌+◌, ◌<◌, ◌==◌, ◌||◌, ◌&&◌, Bool, true, false, not, cond, List, [], ◌∷◌, ◌++◌, length, Option, None, Some, slice_get, refl, sym, ◌∙◌, ap, subst, arith}
-use Rattle.std.specs.List.{list_any, list_all}
+use Rattle.std.proofs.Common.{◌≡◌, ℕ, zero, suc, ◌+◌, ◌==◌, ◌||◌, ◌&&◌, Bool, true, false, not, cond, List, [], ◌∷◌, ◌++◌, None, Some, slice_get, refl, sym, ◌∙◌, ap, arith}
+use Rattle.std.specs.List.{list_all}
 use Rattle.std.proofs.lemmas.Bool.Decides.{nat_tests}
-use Rattle.tstp_graph.specs.declared.shape.Ref.{Ref}
-use Rattle.tstp_graph.specs.declared.shape.Ref.TheVariants as ref
 use Rattle.tstp_graph.specs.declared.shape.Node.{Node}
-use Rattle.tstp_graph.specs.Order.{is_taken, is_done, is_ready, first_ready, TakesInTurn, first_left}
+use Rattle.tstp_graph.specs.Order.{is_taken, is_done, is_ready, first_ready, first_left}
 
 -- a place has its turn behind those that are taken
 pub record HasTurn (nodes : List Node) (taken : List ℕ) (place : ℕ) : Type 0 where
@@ -58,27 +56,27 @@ turn_of nodes taken place first =
 -- one more is taken
 pub taken_more : (taken : List ℕ) (place k : ℕ) → is_taken (taken ++ place ∷ []) k ≡ true → (k ≡ place → ⊥) → is_taken taken k ≡ true
 taken_more [] place k is apart = absurd (apart (grind (arith, nat_tests)))
-taken_more (one ∷ taken) place k is apart = by (one == k) is
+taken_more (one ∷ taken) place k is apart = by (one == k) (λ more. taken_more taken place k more apart) is
   where
-    by : (b : Bool) → (b || is_taken (taken ++ place ∷ []) k) ≡ true → (b || is_taken taken k) ≡ true
-    by true is = refl
-    by false is = taken_more taken place k is apart
+    by : (b : Bool) → (is_taken (taken ++ place ∷ []) k ≡ true → is_taken taken k ≡ true) → (b || is_taken (taken ++ place ∷ []) k) ≡ true → (b || is_taken taken k) ≡ true
+    by true on is = refl
+    by false on is = on is
 
 pub taken_last : (taken : List ℕ) (place : ℕ) → is_taken (taken ++ place ∷ []) place ≡ true
 taken_last [] place = grind (arith, nat_tests)
-taken_last (one ∷ taken) place = by (one == place)
+taken_last (one ∷ taken) place = by (one == place) (taken_last taken place)
   where
-    by : (b : Bool) → (b || is_taken (taken ++ place ∷ []) place) ≡ true
-    by true = refl
-    by false = taken_last taken place
+    by : (b : Bool) → is_taken (taken ++ place ∷ []) place ≡ true → (b || is_taken (taken ++ place ∷ []) place) ≡ true
+    by true on = refl
+    by false on = on
 
 pub taken_still : (taken : List ℕ) (place k : ℕ) → is_taken taken k ≡ true → is_taken (taken ++ place ∷ []) k ≡ true
 taken_still [] place k is = absurd (cc)
-taken_still (one ∷ taken) place k is = by (one == k) is
+taken_still (one ∷ taken) place k is = by (one == k) (taken_still taken place k) is
   where
-    by : (b : Bool) → (b || is_taken taken k) ≡ true → (b || is_taken (taken ++ place ∷ []) k) ≡ true
-    by true is = refl
-    by false is = taken_still taken place k is
+    by : (b : Bool) → (is_taken taken k ≡ true → is_taken (taken ++ place ∷ []) k ≡ true) → (b || is_taken taken k) ≡ true → (b || is_taken (taken ++ place ∷ []) k) ≡ true
+    by true on is = refl
+    by false on is = on is
 
 -- what is taken and what is not are apart
 pub taken_apart : (taken : List ℕ) (place k : ℕ) → is_taken taken place ≡ false → is_taken taken k ≡ true → k ≡ place → ⊥
@@ -87,9 +85,10 @@ taken_apart taken place k is_new is same = let e : true ≡ false = sym is ∙ a
 -- where none is left, each place is taken
 pub none_left : (taken : ℕ → Bool) (number : ℕ) (nodes : List Node) (k : ℕ) (node : Node) → first_left taken number nodes ≡ None → slice_get nodes k ≡ Some node → taken (number + k) ≡ true
 none_left taken number [] k node none at = absurd (cc)
-none_left taken number (first ∷ nodes) k node none at = by (taken number) refl k at none
+none_left taken number (first ∷ nodes) k node none at = by (taken number) refl k at (λ j rest there. none_left taken (number + 1) nodes j node rest there) none
   where
-    by : (b : Bool) → taken number ≡ b → (k : ℕ) → slice_get (first ∷ nodes) k ≡ Some node → cond b (first_left taken (number + 1) nodes) (Some number) ≡ None → taken (number + k) ≡ true
-    by false is k at none = absurd (cc)
-    by true is zero at none = let same : number + 0 ≡ number = omega arith in ap taken same ∙ is
-    by true is (suc k) at none = let on : number + suc k ≡ number + 1 + k = omega arith in ap taken on ∙ none_left taken (number + 1) nodes k node none at
+    by : (b : Bool) → taken number ≡ b → (k : ℕ) → slice_get (first ∷ nodes) k ≡ Some node → ((j : ℕ) → first_left taken (number + 1) nodes ≡ None → slice_get nodes j ≡ Some node → taken (number + 1 + j) ≡ true)
+        → cond b (first_left taken (number + 1) nodes) (Some number) ≡ None → taken (number + k) ≡ true
+    by false is k at on none = absurd (cc)
+    by true is zero at on none = let same : number + 0 ≡ number = omega arith in ap taken same ∙ is
+    by true is (suc k) at on none = let next : number + suc k ≡ number + 1 + k = omega arith in ap taken next ∙ on k none at

@@ -1,8 +1,7 @@
 -- The declarations by which a signature grows to a longer one: its new sorts, and then its new symbols, each in the order
 -- of their numbers.
-use Rattle.std.specs.Prelude.{◌≡◌, ◌++◌, List, drop, length, map}
+use Rattle.std.specs.Prelude.{◌++◌, List, drop, length, map}
 use Rattle.fof_terms.specs.Vocabulary.{Vocabulary}
-use Rattle.fof_terms.specs.declared.signature.Symbol.{Symbol as Sign}
 use Rattle.kernel.specs.declared.entry.Decl.TheVariants.{Sort, Symbol}
 use Rattle.kernel.specs.declared.entry.Entry.{Entry}
 use Rattle.kernel.specs.declared.entry.Entry.TheVariants.{Declare}

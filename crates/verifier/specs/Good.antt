@@ -1,5 +1,6 @@
 -- What a good derivation is, by its text alone: each line follows from its parents by a rule, each leaf from what is given,
--- and some line is falsehood.
+-- and some line is falsehood. No rule that is built so far asks that a symbol be new to earlier lines, so each line is
+-- judged by itself.
 use Rattle.std.specs.Prelude.{ℕ, ◌≡◌, Bool, true, false, List, [], ◌∷◌, Option, Some, map, slice_get}
 use Rattle.fof_terms.specs.Vocabulary.{Vocabulary}
 use Rattle.fof_terms.specs.declared.form.Form.{Form}
@@ -8,7 +9,7 @@ use Rattle.elaborate.specs.ByRule.{ByRule, LeafRule}
 use Rattle.elaborate.specs.declared.answer.Rule.{Rule}
 use Rattle.tstp_graph.specs.declared.shape.Ref.{Ref}
 use Rattle.tstp_graph.specs.declared.shape.Ref.TheVariants as ref
-use Rattle.verifier.specs.Lines.{Derivation, Line, IsLineAt, both, candidates_of}
+use Rattle.verifier.specs.Lines.{Derivation, Line, IsLineAt, numbered, both, candidates_of}
 use Rattle.verifier.specs.Report.{HasFalse}
 
 -- the formula of a parent
@@ -20,14 +21,14 @@ abbrev pub forms_of : List Form → List Form → List Ref → Option (List Form
 forms_of given forms [] = Some []
 forms_of given forms (ref ∷ refs) = both (form_of given forms ref) (forms_of given forms refs)
 
--- these are the formulas, by whatever numbers they have
-abbrev pub HaveForms : List Parent → List Form → Type 0
-HaveForms parents forms = map (λ (p : Parent). p.form) parents ≡ forms
+-- The rules look at the formulas of parents alone, and so these have no numbers of their own.
+abbrev pub without_numbers : List Form → List Parent
+without_numbers forms = map (numbered 0) forms
 
--- the first rule of leaves, or of steps, that holds, from parents with these formulas
+-- the first rule of leaves, or of steps, that gives the line from parents with these formulas
 abbrev pub FollowsAs : Bool → Vocabulary → List Form → Bool → List Form → Form → Type 0
-FollowsAs true v given cited forms line = (rule : Rule) × ((parents : List Parent) → HaveForms parents forms → (i : ℕ) × LeafRule v (candidates_of given cited parents) line rule i)
-FollowsAs false v given cited forms line = (rule : Rule) × ((parents : List Parent) → HaveForms parents forms → ByRule v parents line rule)
+FollowsAs true v given cited forms line = (rule : Rule) × (i : ℕ) × LeafRule v (candidates_of given cited (without_numbers forms)) line rule i
+FollowsAs false v given cited forms line = (rule : Rule) × ByRule v (without_numbers forms) line rule
 
 -- a rule gives the line
 abbrev pub Follows : Vocabulary → Derivation → Line → Type 0

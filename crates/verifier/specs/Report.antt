@@ -1,6 +1,6 @@
 -- What the report on a derivation says of the answers to its lines: the printed names of rules and reasons, and how the
 -- whole ends.
-use Rattle.std.specs.Prelude.{◌≡◌, ℕ, ◌+◌, ◌<◌, Bool, true, false, List, [], ◌∷◌, ◌++◌, length, codes, count_by, map, slice_get, Some}
+use Rattle.std.specs.Prelude.{◌≡◌, ℕ, ◌+◌, ◌<◌, Bool, true, false, List, [], ◌∷◌, ◌++◌, length, codes, count_by, slice_get, Some}
 use Rattle.tptp_base.specs.declared.name.Name.{Name}
 use Rattle.fof_terms.specs.declared.form.Form.{Form, Or}
 use Rattle.elaborate.specs.declared.answer.Rule.{Rule}

@@ -1,5 +1,5 @@
 -- What the code that runs one line has done.
-use Rattle.std.specs.Prelude.{ℕ, ◌≡◌, ⊤, ◌-◌, List, [], length, Option, Some, slice_set}
+use Rattle.std.specs.Prelude.{ℕ, ◌≡◌, ⊤, List, Option}
 use Rattle.tptp_base.specs.Sink.{Takes}
 use Rattle.fof_terms.specs.declared.form.Form.{Form}
 use Rattle.kernel.specs.Statements.{Statements}
@@ -11,7 +11,7 @@ use Rattle.verifier.specs.Lines.{Derivation, Line, IsLineAt, parents_of}
 use Rattle.verifier.specs.Logged.{entries_text}
 use Rattle.verifier.specs.Run.{Progress, IsAnswered, with_line}
 use Rattle.verifier.specs.declared.answer.LineAnswer.{LineAnswer}
-use Rattle.verifier.specs.declared.answer.LineAnswer.TheVariants.{Accepted, Unverified, Skipped}
+use Rattle.verifier.specs.declared.answer.LineAnswer.TheVariants.{Accepted, Unverified}
 
 -- the entries of the answer, if there are any, add this formula to the theory
 abbrev pub Adds : Statements → Form → StepAnswer → Type 0

@@ -1,6 +1,6 @@
 // What a derivation claims.
 ghost use Rattle.std.specs.Prelude.{◌≡◌, ◌↔◌, IsTrue, IfOk};
-ghost use Rattle.verifier.specs.Claim;
+ghost use Rattle.verifier.specs.Claim as claims;
 ghost use Rattle.verifier.specs.Claim.{IsJustified};
 
 use crate::answer::LineAnswer;
@@ -20,14 +20,14 @@ pub struct Claim {
 
 /// Whether some line cites a given formula that is marked.
 pub fn cites_marked(marks: &[bool], answers: &[LineAnswer]) -> bool
-    ensures { result ≡ Claim.cites_marked marks.now answers.now }
+    ensures { result ≡ claims.cites_marked marks.now answers.now }
 {
     answers.iter().any(|answer| cites_one(marks, answer))
 }
 
 // Whether a line cites a given formula that is marked.
 fn cites_one(marks: &[bool], answer: &LineAnswer) -> bool
-    ensures { result ≡ Claim.answer_cites_marked marks.now answer.now }
+    ensures { result ≡ claims.answer_cites_marked marks.now answer.now }
 {
     match answer {
         LineAnswer::Accepted { cites, .. } => has_marked(marks, cites.as_slice()),
@@ -37,14 +37,14 @@ fn cites_one(marks: &[bool], answer: &LineAnswer) -> bool
 
 // Whether one of these numbers is marked.
 fn has_marked(marks: &[bool], numbers: &[u64]) -> bool
-    ensures { result ≡ Claim.some_marked marks.now numbers.now }
+    ensures { result ≡ claims.some_marked marks.now numbers.now }
 {
     numbers.iter().any(|number| is_marked(marks, *number))
 }
 
 // Whether the given formula of this number is marked.
 fn is_marked(marks: &[bool], number: u64) -> bool
-    ensures { result ≡ Claim.is_marked marks.now number }
+    ensures { result ≡ claims.is_marked marks.now number }
 {
     match marks.get(number as usize) {
         Some(mark) => *mark,
@@ -68,7 +68,7 @@ pub fn is_justified(claim: &Claim) -> bool
 
 // Whether a refutation justifies this word.
 fn justifies(word: &[u8], has_conjecture: bool, cites_conjecture: bool) -> bool
-    ensures { IsTrue result ↔ Claim.Justifies word.now has_conjecture cites_conjecture }
+    ensures { IsTrue result ↔ claims.Justifies word.now has_conjecture cites_conjecture }
 {
     (word == b"Theorem".as_slice() && has_conjecture)
         || (word == b"Unsatisfiable".as_slice() && !has_conjecture)
@@ -77,7 +77,7 @@ fn justifies(word: &[u8], has_conjecture: bool, cites_conjecture: bool) -> bool
 
 /// The status that is printed for a justified claim.
 pub fn status_of(alloc: Global, claim: &Claim) -> Result<Text, AllocError>
-    ensures { IfOk result (λ word. word ≡ Claim.status_word claim.now) }
+    ensures { IfOk result (λ word. word ≡ claims.status_word claim.now) }
 {
     match &claim.word {
         Some(word) => List::from_slice(alloc, word.as_slice()),
@@ -87,7 +87,7 @@ pub fn status_of(alloc: Global, claim: &Claim) -> Result<Text, AllocError>
 
 // The status of a derivation that claims nothing.
 fn default_status(has_conjecture: bool) -> &'static [u8]
-    ensures { result.now ≡ Claim.default_word has_conjecture }
+    ensures { result.now ≡ claims.default_word has_conjecture }
 {
     if has_conjecture {
         b"Theorem"

@@ -7,8 +7,8 @@ ghost use Rattle.verifier.specs.Faults.{HasCause};
 ghost use Rattle.verifier.specs.Logged.{LogsSome};
 ghost use Rattle.verifier.specs.Report.{HasFalse};
 
+use crate::ending::is_false;
 use crate::fault::RunFault;
-use crate::verdict::is_false;
 use kernel::{Entry, Proof, Theory};
 use proof_log::write_entry;
 use std::alloc::Global;

@@ -6,7 +6,6 @@ ghost use Rattle.kernel.specs.Statements.{Statements};
 ghost use Rattle.kernel.specs.declared.entry.Entry.{Entry as LogEntry};
 ghost use Rattle.tstp_graph.specs.Order.{TakesInTurn, is_taken, first_left};
 ghost use Rattle.szs_report.specs.declared.answer.Verdict.{Verdict as Ending};
-ghost use Rattle.verifier.specs.Claim;
 ghost use Rattle.verifier.specs.Closing.{Closes, IsVerified};
 ghost use Rattle.verifier.specs.Good.{IsGood};
 ghost use Rattle.verifier.specs.Lines.{Derivation};

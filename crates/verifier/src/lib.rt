@@ -6,6 +6,7 @@ mod answer;
 mod claim;
 mod closing;
 mod declarations;
+mod ending;
 mod entries;
 mod fault;
 mod laws;
@@ -14,14 +15,16 @@ mod lines;
 mod names;
 mod parents;
 mod run;
-mod verdict;
 
 pub use answer::LineAnswer;
 pub use claim::{Claim, cites_marked, is_justified, status_of};
 pub use closing::close_log;
 pub use declarations::declare;
+pub use ending::{has_false, verdict};
 pub use fault::RunFault;
 pub use laws::{a_good_derivation_is_accepted, a_verified_run_refutes};
 pub use names::{answer_of, reason_name, rule_name};
 pub use run::run_lines;
-pub use verdict::{has_false, verdict};
+
+#[cfg(test)]
+mod tests;

@@ -4,6 +4,7 @@ use fof_terms::Form;
 use tstp_graph::Node;
 
 /// The lines of a derivation, with what they are over.
+#[derive(Clone, Copy)]
 pub struct Lines<'a> {
     /// The given formulas, each with its place as its number.
     pub given: &'a [Parent],

@@ -10,6 +10,6 @@ returns-in_err-add_entry-clause-cut g c =
 
 pub loop-entry-preserved : goal.loop-entry-preserved
 loop-entry-preserved g c = record {
-  adding = adding_more _ _ _ _ _ _ _ _ c.entry-item.result _ _ _ (entry_here c.args.entries.now c.loop-entry.entry-index c.entry-item.result c.loop-entry-test.true c.entry-item.is) (entry_done c.args.entries.now c.loop-entry.entry-index c.entry-item.result c.loop-entry-test.true c.entry-item.is) c.loop-entry.invariant.adding c.in_ok-add_entry.ensures.after c.in_ok-add_entry.ensures.written;
+  adding = adding_more _ _ _ _ _ _ _ _ c.entry-item.result _ _ _ (entry_here c.args.entries.now c.loop-entry.entry-index c.entry-item.result c.loop-entry-test.true c.entry-item.is) (entry_done c.args.entries.now c.loop-entry.entry-index c.entry-item.result c.loop-entry-test.true c.entry-item.is) c.loop-entry.invariant.adding c.in_ok-add_entry.ensures.after c.in_ok-add_entry.ensures.logged;
   faults = omega arith;
 }

@@ -1,0 +1,12 @@
+use Rattle.derive_kit.specs.Built.{ok_map}
+use Rattle.elaborate.proofs.StepAnswers.{leaf_found, leaf_unverified}
+use Rattle.elaborate.proofs.leaves.leaf.Goals as goal
+
+pub returns-in_ok-proof-in-Some : goal.returns-in_ok-proof-in-Some
+returns-in_ok-proof-in-Some c =
+    ok_map c.accepted.result
+    (λ answer e. rw e (leaf_found c.args.theory.now c.signature.result.now c.args.candidates.now c.args.cited c.args.line.now c.in_ok-at.field-0 c.in-Some.at c.index-candidates-at.result c.in_ok-proof-in-Some.proof c.requires.candidates c.signature.ensures c.index-candidates-at.is c.in-Some.is c.in_ok-at.ensures c.in_ok-proof-in-Some.ensures))
+    c.accepted.ensures
+
+pub returns-in-None : goal.returns-in-None
+returns-in-None c = leaf_unverified c.args.theory.now c.args.candidates.now c.args.cited c.args.line.now c.in_ok-at.field-0 c.reason.result c.in-None.is c.reason.ensures c.in_ok-at.ensures

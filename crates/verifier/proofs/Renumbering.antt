@@ -1,0 +1,171 @@
+-- The rules look at the formulas of parents alone: their numbers do not matter.
+use Rattle.std.proofs.Common.{◌≡◌, ℕ, zero, suc, inl, inr, List, [], ◌∷◌, map, Option, Some, slice_get, refl, sym, ◌∙◌, ap, subst}
+use Rattle.fof_terms.specs.Vocabulary.{Vocabulary}
+use Rattle.fof_terms.specs.declared.form.Form.{Form}
+use Rattle.clause_form.specs.ClauseView.{clause_of}
+use Rattle.clause_form.specs.declared.clause.Clause.{Clause}
+use Rattle.clause_form.specs.declared.path.Parent.{Parent}
+use Rattle.clause_rules.specs.Answers.{Rule as Word, norm, cover, tautology, resolution, paramodulation, eqfactor, rewrite, Holds as Gives}
+use Rattle.clause_rules.specs.NormRule.{HasNorm}
+use Rattle.clause_rules.specs.Steps.{IsClauseAt, clauses_of}
+use Rattle.elaborate.specs.ByRule.{Holds, by_shape, IsFirst, GivesAlone, GivesNowhere, IsFirstAlone}
+use Rattle.elaborate.specs.declared.answer.Rule.{Rule}
+
+-- both have the same formulas
+abbrev pub Alike : List Parent → List Parent → Type 0
+Alike ps qs = map (λ (p : Parent). p.form) ps ≡ map (λ (p : Parent). p.form) qs
+
+first_alike : (p q : Parent) (ps qs : List Parent) → Alike (p ∷ ps) (q ∷ qs) → (p.form ≡ q.form) × Alike ps qs
+first_alike p q ps qs same = (cc, cc)
+
+record IsAlikeAt (qs : List Parent) (a : ℕ) (p : Parent) : Type 0 where
+  parent : Parent
+  there : slice_get qs a ≡ Some parent
+  same : parent.form ≡ p.form
+
+alike_at : (ps qs : List Parent) (a : ℕ) (p : Parent) → Alike ps qs → slice_get ps a ≡ Some p → IsAlikeAt qs a p
+alike_at [] qs a p same at = absurd (cc)
+alike_at (x ∷ ps) [] a p same at = absurd (cc)
+alike_at (x ∷ ps) (y ∷ qs) zero p same at =
+    let parts = first_alike x y ps qs same in
+    let is : x ≡ p = cc in
+    record { parent = y; there = refl; same = sym parts.0 ∙ ap (λ (q : Parent). q.form) is }
+alike_at (x ∷ ps) (y ∷ qs) (suc a) p same at =
+    let found = alike_at ps qs a p (first_alike x y ps qs same).1 at in
+    record { parent = found.parent; there = found.there; same = found.same }
+
+clauses_alike : (ps qs : List Parent) → Alike ps qs → clauses_of ps ≡ clauses_of qs
+clauses_alike [] [] same = refl
+clauses_alike [] (y ∷ qs) same = absurd (cc)
+clauses_alike (x ∷ ps) [] same = absurd (cc)
+clauses_alike (x ∷ ps) (y ∷ qs) same =
+    let parts = first_alike x y ps qs same in
+    ap (λ (f : Form). clause_of f ∷ clauses_of ps) parts.0 ∙ ap (λ (cs : List (Option Clause)). clause_of y.form ∷ cs) (clauses_alike ps qs parts.1)
+
+clause_alike : (ps qs : List Parent) (a : ℕ) (c : Clause) → Alike ps qs → IsClauseAt ps a c → IsClauseAt qs a c
+clause_alike ps qs a c same is = ap (λ (cs : List (Option Clause)). slice_get cs a) (sym (clauses_alike ps qs same)) ∙ is
+
+-- each rule that is recognised by shape
+gives_alike : (v : Vocabulary) (line : Form) (word : Word) (ps qs : List Parent) → Alike ps qs → Gives v ps line word → Gives v qs line word
+gives_alike v line norm ps qs same (a, h) =
+    let p = alike_at ps qs a h.of_parent.parent same h.of_parent.there in (
+      a,
+      record {
+        made = h.made;
+        of_line = h.of_line;
+        of_parent = record { parent = p.parent; there = p.there; alike = subst (λ (f : Form). HasNorm f h.made) (sym p.same) h.of_parent.alike };
+      },
+    )
+gives_alike v line cover ps qs same (a, path, c, e, more, s, h) =
+    let p = alike_at ps qs a h.reaches.parent same h.reaches.there in (
+      a,
+      path,
+      c,
+      e,
+      more,
+      s,
+      record {
+        reaches = record { parent = p.parent; there = p.there; small = rw p.same h.reaches.small; clause = rw p.same h.reaches.clause };
+        line_clause = h.line_clause;
+        covers = h.covers;
+      },
+    )
+gives_alike v line tautology ps qs same h = h
+gives_alike v line resolution ps qs same (a, b, i, j, left, right, e, more, s, h) = (
+  a,
+  b,
+  i,
+  j,
+  left,
+  right,
+  e,
+  more,
+  s,
+  record {
+    line_clause = h.line_clause;
+    left_clause = clause_alike ps qs a left same h.left_clause;
+    right_clause = clause_alike ps qs b right same h.right_clause;
+    resolves = h.resolves;
+  },
+)
+gives_alike v line paramodulation ps qs same (a, b, i, place, j, flipped, into, from, e, more, s, h) = (
+  a,
+  b,
+  i,
+  place,
+  j,
+  flipped,
+  into,
+  from,
+  e,
+  more,
+  s,
+  record {
+    line_clause = h.line_clause;
+    into_clause = clause_alike ps qs a into same h.into_clause;
+    from_clause = clause_alike ps qs b from same h.from_clause;
+    paramodulates = h.paramodulates;
+  },
+)
+gives_alike v line eqfactor ps qs same (a, i, first_flipped, j, second_flipped, c, e, more, s, h) = (
+  a,
+  i,
+  first_flipped,
+  j,
+  second_flipped,
+  c,
+  e,
+  more,
+  s,
+  record {
+    line_clause = h.line_clause;
+    parent_clause = clause_alike ps qs a c same h.parent_clause;
+    factors = h.factors;
+  },
+)
+gives_alike v line rewrite ps qs same (a, b, target, flipped, into, by, e, further, r, more, s, h) = (
+  a,
+  b,
+  target,
+  flipped,
+  into,
+  by,
+  e,
+  further,
+  r,
+  more,
+  s,
+  record {
+    line_clause = h.line_clause;
+    into_clause = clause_alike ps qs a into same h.into_clause;
+    by_clause = clause_alike ps qs b by same h.by_clause;
+    rewrites = h.rewrites;
+  },
+)
+
+holds_alike : (v : Vocabulary) (line : Form) (rule : Rule) (ps qs : List Parent) → Alike ps qs → Holds v ps line rule → Holds v qs line rule
+holds_alike v line rule ps qs same holds = gives_alike v line (by_shape rule) ps qs same holds
+
+-- the first rule of steps that holds
+pub first_by_forms : (rs : List Rule) (v : Vocabulary) (line : Form) (rule : Rule) (ps qs : List Parent) → Alike ps qs → IsFirst rs v ps line rule → IsFirst rs v qs line rule
+first_by_forms [] v line rule ps qs same first = first
+first_by_forms (r ∷ rs) v line rule ps qs same (inl (is, holds)) = inl (is, holds_alike v line r ps qs same holds)
+first_by_forms (r ∷ rs) v line rule ps qs same (inr (fails, rest)) =
+    inr (λ holds. fails (holds_alike v line r qs ps (sym same) holds), first_by_forms rs v line rule ps qs same rest)
+
+-- ---- leaves
+
+gives_alone : (v : Vocabulary) (line : Form) (rule : Rule) (ps qs : List Parent) (i : ℕ) → Alike ps qs → GivesAlone v ps line rule i → GivesAlone v qs line rule i
+gives_alone v line rule ps qs i same (p, there, holds) =
+    let q = alike_at ps qs i p same there in
+    (q.parent, q.there, holds_alike v line rule (p ∷ []) (q.parent ∷ []) (ap (λ (f : Form). f ∷ []) (sym q.same)) holds)
+
+gives_nowhere : (v : Vocabulary) (line : Form) (rule : Rule) (ps qs : List Parent) → Alike ps qs → GivesNowhere v ps line rule → GivesNowhere v qs line rule
+gives_nowhere v line rule ps qs same none = λ j gives. none j (gives_alone v line rule qs ps j (sym same) gives)
+
+-- the first rule of leaves that holds
+pub alone_by_forms : (rs : List Rule) (v : Vocabulary) (line : Form) (rule : Rule) (i : ℕ) (ps qs : List Parent) → Alike ps qs → IsFirstAlone rs v ps line rule i → IsFirstAlone rs v qs line rule i
+alone_by_forms [] v line rule i ps qs same first = first
+alone_by_forms (r ∷ rs) v line rule i ps qs same (inl (is, (gives, before))) =
+    inl (is, (gives_alone v line r ps qs i same gives, λ j lt found. before j lt (gives_alone v line r qs ps j (sym same) found)))
+alone_by_forms (r ∷ rs) v line rule i ps qs same (inr (none, rest)) = inr (gives_nowhere v line r ps qs same none, alone_by_forms rs v line rule i ps qs same rest)

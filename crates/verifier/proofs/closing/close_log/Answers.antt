@@ -1,0 +1,16 @@
+use Rattle.std.proofs.Common.{sym, subst}
+use Rattle.std.proofs.lemmas.Result.{err_from_is_err_and}
+use Rattle.verifier.specs.Closing.{IsVerified}
+use Rattle.verifier.proofs.Refuting.{last_closes, last_cut}
+use Rattle.verifier.proofs.closing.close_log.Goals as goal
+
+pub returns-in_err-write_entry-in-Verified-clause-cut :
+    goal.returns-in_err-write_entry-in-Verified-clause-cut
+returns-in_err-write_entry-in-Verified-clause-cut g c =
+    let p = err_from_is_err_and c.from_residual.result c.from_residual.ensures.1 in
+    rw p.1 (last_cut c.args.theory.now c.in-Some.number _ _ c.in-Some.ensures c.in_err-write_entry-in-Verified.ensures.err)
+
+pub returns-in_ok-write_entry-in-Verified-clause-closes :
+    goal.returns-in_ok-write_entry-in-Verified-clause-closes
+returns-in_ok-write_entry-in-Verified-clause-closes g c =
+    last_closes c.args.verdict.now c.args.theory.now c.in-Some.number _ _ (subst IsVerified (sym c.in-Verified.is) tt) c.in-Some.ensures c.in_ok-write_entry-in-Verified.ensures.ok
