@@ -14,6 +14,8 @@ mod saying;
 mod sources;
 mod spelled;
 mod stop;
+#[cfg(test)]
+mod tests;
 mod verify;
 mod words;
 
