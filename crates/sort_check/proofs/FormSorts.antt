@@ -18,7 +18,7 @@ use Rattle.tptp_base.specs.declared.surface.Quant.TheVariants as q
 use Rattle.fof_terms.specs.Vocabulary.{Vocabulary, found_sort}
 use Rattle.fof_terms.specs.Lift.{greatest}
 use Rattle.fof_terms.specs.Sorts.{are_sorts, holds_of, stated_by, sort_of_term, is_sorted, binder_depth, is_sorted-Atom, is_sorted-Eq, is_sorted-Not, is_sorted-And, is_sorted-Or, is_sorted-Imp, is_sorted-Iff, is_sorted-All, is_sorted-Ex, binder_depth-Atom, binder_depth-Eq, binder_depth-Not, binder_depth-And, binder_depth-Or, binder_depth-Imp, binder_depth-Iff, binder_depth-All, binder_depth-Ex}
-use Rattle.fof_terms.specs.SortLaws.{Grows, grown_fits}
+use Rattle.fof_terms.specs.SortLaws.{grown_fits}
 use Rattle.fof_terms.specs.declared.signature.Kind.TheVariants.{Predicate}
 use Rattle.fof_terms.specs.declared.form.Form.{Form, Atom, Eq, Not, And, Or}
 use Rattle.sort_check.specs.declared.fault.SortRule.{SortRule}
@@ -29,20 +29,21 @@ use Rattle.sort_check.specs.Outcomes.{Outcome, and_then, mapped, each}
 use Rattle.sort_check.specs.Symbols.{Text, head, known}
 use Rattle.sort_check.specs.Denotation.{Setting, State, beside, atom, equal, equation, joined, variable_sort, bound_variable, quantified, closed, bound, argument, denoted_term, denoted_form}
 use Rattle.sort_check.specs.Equations.{denoted_form-True, denoted_form-False, denoted_form-Atom, denoted_form-Eq, denoted_form-Neq, denoted_form-Not, denoted_form-And, denoted_form-Or, denoted_form-Binary, denoted_form-Bind}
+use Rattle.sort_check.specs.Sorting.{Extends}
 use Rattle.sort_check.proofs.Inducing.{form_induction}
 use Rattle.sort_check.proofs.Stepping.{at_ok, then_ok, mapped_ok}
 use Rattle.sort_check.proofs.TermSorts.{sorts_of, sorts_over-append, grows_not, grows_on, kept_sort, head_ok, HasSort, terms_fit, arguments_fit}
 
 -- The formula is well-sorted in the vocabulary behind it, and all that it binds was counted.
 pub record IsDenoted (s t : State) (scope : List ℕ) (a : Form) : Type 0 where
-  pub grows : Grows s.vocabulary t.vocabulary
+  pub grows : Extends s.vocabulary t.vocabulary
   pub depth : s.bound + binder_depth a ≤ t.bound
   pub few : s.bound ≤ 250 → t.bound ≤ 250
   pub fits : is_sorted t.vocabulary scope a ≡ true
 
 -- The same of a formula without binders, and its vocabularies.
 pub record IsPlain (v w : Vocabulary) (scope : List ℕ) (a : Form) : Type 0 where
-  pub grows : Grows v w
+  pub grows : Extends v w
   pub depth : binder_depth a ≡ 0
   pub fits : is_sorted w scope a ≡ true
 
@@ -58,7 +59,7 @@ atom_fits here scope p ts v w a e =
     let fit = arguments_fit here scope parts.0 found.symbol ts 0 parts.1 w made_of.0 (terms_of_each ts) found.at (omega (arith, found.args)) made_of.1 in
     let fits : is_sorted w (sorts_of scope) (Atom parts.0 made_of.0) ≡ true =
     is_sorted-Atom w (sorts_of scope) parts.0 made_of.0
-    ∙ ap (λ r. holds_of r (map (sort_of_term w (sorts_of scope)) made_of.0)) (fit.grows.same_symbols parts.0 found.symbol found.at)
+    ∙ ap (λ r. holds_of r (map (sort_of_term w (sorts_of scope)) made_of.0)) (fit.grows.grows.same_symbols parts.0 found.symbol found.at)
     ∙ ap (λ k. stated_by k (are_sorts (map (sort_of_term w (sorts_of scope)) made_of.0) found.symbol.args)) found.of_kind
     ∙ fit.sorts in
     subst (IsPlain v w (sorts_of scope)) made_of.2 (record {
@@ -76,7 +77,7 @@ equation_fits here scope l r v w a e =
     let sort : sort_of_term right.1 (sorts_of scope) left.0.term ≡ Some left.0.sort = kept_sort left.1 right.1 two.grows (sorts_of scope) left.0.term left.0.sort one.sort in
     by left.0 right.0 right.1 sort two.sort (grows_on v left.1 right.1 one.grows two.grows) (left.0.sort == right.0.sort) refl right.3
   where
-    by : (x y : Sorted) (u : Vocabulary) → sort_of_term u (sorts_of scope) x.term ≡ Some x.sort → sort_of_term u (sorts_of scope) y.term ≡ Some y.sort → Grows v u
+    by : (x y : Sorted) (u : Vocabulary) → sort_of_term u (sorts_of scope) x.term ≡ Some x.sort → sort_of_term u (sorts_of scope) y.term ≡ Some y.sort → Extends v u
         → (b : Bool) → (x.sort == y.sort) ≡ b → ◌≡◌ {A = Outcome SortRule Vocabulary Form} (cond b (Ok (Eq x.term y.term, u)) (Err WrongSort)) (Ok (a, w)) → IsPlain v w (sorts_of scope) a
     by x y u left right grows false is k = absurd (cc)
     by x y u left right grows true is k =
@@ -105,7 +106,7 @@ FormFits a = (here : Setting) (scope : List Variable) (s t : State) (form : Form
 
 -- Each of the formulas is well-sorted in the vocabulary behind them all.
 pub record AreDenoted (s t : State) (scope : List ℕ) (as_ : List Form) : Type 0 where
-  pub grows : Grows s.vocabulary t.vocabulary
+  pub grows : Extends s.vocabulary t.vocabulary
   pub depth : s.bound + greatest (map binder_depth as_) ≤ t.bound
   pub few : s.bound ≤ 250 → t.bound ≤ 250
   pub fits : list_all (is_sorted t.vocabulary scope) as_ ≡ true
@@ -117,8 +118,8 @@ each_fits here scope (a ∷ as_) place s t forms all some e =
     let parts = then_ok (denoted_form here a scope s) (λ y u. mapped (λ ys. y ∷ ys) (each (λ p b. denoted_form here b scope) (place + 1) as_ u)) forms t e in
     let one = all.0 here scope s parts.1 parts.0 some parts.2 in
     let more = mapped_ok (λ (ys : List Form). parts.0 ∷ ys) (each (λ p b. denoted_form here b scope) (place + 1) as_ parts.1) forms t parts.3 in
-    let rest = each_fits here scope as_ (place + 1) parts.1 t more.0 all.1 (omega (arith, some, one.grows.more_sorts)) more.1 in
-    let first : is_sorted t.vocabulary (sorts_of scope) parts.0 ≡ true = grown_fits parts.1.vocabulary t.vocabulary rest.grows parts.0 (sorts_of scope) one.fits in
+    let rest = each_fits here scope as_ (place + 1) parts.1 t more.0 all.1 (omega (arith, some, one.grows.grows.more_sorts)) more.1 in
+    let first : is_sorted t.vocabulary (sorts_of scope) parts.0 ≡ true = grown_fits parts.1.vocabulary t.vocabulary rest.grows.grows parts.0 (sorts_of scope) one.fits in
     subst (AreDenoted s t (sorts_of scope)) more.2 (record {
       grows = grows_on s.vocabulary parts.1.vocabulary t.vocabulary one.grows rest.grows;
       depth = omega (arith, one.depth, rest.depth);
@@ -137,7 +138,7 @@ binary_fits o s u t scope a b one two = record {
 }
   where
     left : is_sorted t.vocabulary scope a ≡ true
-    left = grown_fits u.vocabulary t.vocabulary two.grows a scope one.fits
+    left = grown_fits u.vocabulary t.vocabulary two.grows.grows a scope one.fits
 
     low : s.bound + binder_depth a ≤ t.bound
     low = omega (arith, one.depth, two.depth)
@@ -176,7 +177,7 @@ the_variable name sort = record { name = name; sort = sort }
 abbrev the_state : Vocabulary → ℕ → State
 the_state v bound = record { vocabulary = v; bound = bound }
 
-found_sort_below : (v : Vocabulary) (word : Text) (n : ℕ) → found_sort v word ≡ Some n → n < length v.sorts
+pub found_sort_below : (v : Vocabulary) (word : Text) (n : ℕ) → found_sort v word ≡ Some n → n < length v.sorts
 found_sort_below v word n e = by (position (λ sort. pointwise nat_eq sort word) (drop 1 v.sorts)) refl e
   where
     by : (o : Option ℕ) → position (λ sort. pointwise nat_eq sort word) (drop 1 v.sorts) ≡ o → option_map (λ i. i + 1) o ≡ Some n → n < length v.sorts
@@ -257,17 +258,17 @@ closed_fits quant (x ∷ vs) scope w a known fits =
     by q.All under = rw (is_sorted-All, less_test x.sort (length w.sorts) known.0) under
     by q.Ex under = rw (is_sorted-Ex, less_test x.sort (length w.sorts) known.0) under
 
-known_on : (v w : Vocabulary) → Grows v w → (vs : List Variable) → AllByRecursion (λ (x : Variable). x.sort < length v.sorts) vs → AllByRecursion (λ (x : Variable). x.sort < length w.sorts) vs
+known_on : (v w : Vocabulary) → Extends v w → (vs : List Variable) → AllByRecursion (λ (x : Variable). x.sort < length v.sorts) vs → AllByRecursion (λ (x : Variable). x.sort < length w.sorts) vs
 known_on v w grows [] known = tt
-known_on v w grows (x ∷ vs) known = (omega (arith, known.0, grows.more_sorts), known_on v w grows vs known.1)
+known_on v w grows (x ∷ vs) known = (omega (arith, known.0, grows.grows.more_sorts), known_on v w grows vs known.1)
 
 bind_fits : (here : Setting) (quant : Quant) (xs : List BoundVar) (a : Surface) → FormFits a → (scope : List Variable) (s t : State) (form : Form) → 0 < length s.vocabulary.sorts → bound here quant xs a scope s ≡ Ok (form, t) → IsDenoted s t (sorts_of scope) form
 bind_fits here quant xs a fits scope s t form some e =
     let parts = then_ok (each (λ p. bound_variable) 0 xs s) (λ vs u. mapped (closed quant vs) (denoted_form here a (scope ++ vs) u)) form t e in
     let vars = bound_each xs 0 s parts.1 parts.0 some parts.2 in
     let inner = mapped_ok (closed quant parts.0) (denoted_form here a (scope ++ parts.0) parts.1) form t parts.3 in
-    let grew : Grows s.vocabulary parts.1.vocabulary = subst (Grows s.vocabulary) (sym vars.same) (grows_not s.vocabulary) in
-    let body = fits here (scope ++ parts.0) parts.1 t inner.0 (omega (arith, some, grew.more_sorts)) inner.1 in
+    let grew : Extends s.vocabulary parts.1.vocabulary = subst (Extends s.vocabulary) (sym vars.same) (grows_not s.vocabulary) in
+    let body = fits here (scope ++ parts.0) parts.1 t inner.0 (omega (arith, some, grew.grows.more_sorts)) inner.1 in
     let grows = grows_on s.vocabulary parts.1.vocabulary t.vocabulary grew body.grows in
     subst (IsDenoted s t (sorts_of scope)) inner.2 (record {
       grows = grows;
@@ -303,7 +304,7 @@ forms_fit = form_induction FormFits (record {
       let parts = then_ok (denoted_form here a scope s) (λ x u. mapped (joined o x) (denoted_form here b scope u)) form t (rw denoted_form-Binary at e) in
       let left = one here scope s parts.1 parts.0 some parts.2 in
       let inner = mapped_ok (joined o parts.0) (denoted_form here b scope parts.1) form t parts.3 in
-      let right = two here scope parts.1 t inner.0 (omega (arith, some, left.grows.more_sorts)) inner.1 in
+      let right = two here scope parts.1 t inner.0 (omega (arith, some, left.grows.grows.more_sorts)) inner.1 in
       subst (IsDenoted s t (sorts_of scope)) inner.2 (binary_fits o s parts.1 t (sorts_of scope) parts.0 inner.0 left right);
   bind = λ quant xs a fits here scope s t form some e. bind_fits here quant xs a fits scope s t form some (rw denoted_form-Bind at e);
 })

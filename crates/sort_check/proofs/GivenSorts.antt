@@ -6,24 +6,24 @@ use Rattle.tptp_base.specs.declared.memory.Memory.{Memory}
 use Rattle.tptp_base.specs.declared.item.Role.{Role}
 use Rattle.tptp_base.specs.declared.item.Role.TheVariants as role
 use Rattle.fof_terms.specs.Vocabulary.{Vocabulary}
-use Rattle.fof_terms.specs.Sorts.{Sorted, is_sorted-Not, binder_depth-Not}
+use Rattle.fof_terms.specs.Sorts.{is_sorted-Not, binder_depth-Not}
 use Rattle.fof_terms.specs.declared.form.Form.{Form, Not}
 use Rattle.sort_check.specs.declared.line.Line.{Line}
 use Rattle.sort_check.specs.declared.line.GivenEntry.{GivenEntry}
 use Rattle.sort_check.specs.Given.{given_form, with_entry, given_entries}
-use Rattle.sort_check.specs.Sorting.{AreSorted, AreGivenSorted}
+use Rattle.sort_check.specs.Sorting.{IsSentence, AreSorted, AreGivenSorted}
 
-negated : (v : Vocabulary) (a : Form) → Sorted v [] a → Sorted v [] (Not a)
+negated : (v : Vocabulary) (a : Form) → IsSentence v a → IsSentence v (Not a)
 negated v a good = record { scope_fits = good.scope_fits; few_binders = rw binder_depth-Not good.few_binders; fits = rw is_sorted-Not good.fits }
 
 abbrev EntriesFit : Vocabulary → List GivenEntry → Type 0
-EntriesFit v entries = AllByRecursion (λ (entry : GivenEntry). Sorted v [] entry.form) entries
+EntriesFit v entries = AllByRecursion (λ (entry : GivenEntry). IsSentence v entry.form) entries
 
 abbrev IsFit : Vocabulary → Option Form → Type 0
 IsFit v None = Unit {0}
-IsFit v (Some a) = Sorted v [] a
+IsFit v (Some a) = IsSentence v a
 
-form_fits : (v : Vocabulary) (r : Role) (a : Form) → Sorted v [] a → IsFit v (given_form r a)
+form_fits : (v : Vocabulary) (r : Role) (a : Form) → IsSentence v a → IsFit v (given_form r a)
 form_fits v role.Axiom a good = good
 form_fits v role.Hypothesis a good = good
 form_fits v role.Definition a good = good
@@ -44,13 +44,13 @@ with_fits : (v : Vocabulary) (l : Line) (o : Option Form) (entries : List GivenE
 with_fits v l None entries one all = all
 with_fits v l (Some a) entries one all = (one, all)
 
-entries_fit : (v : Vocabulary) (lines : List Line) → AllByRecursion (λ (l : Line). Sorted v [] l.form) lines → EntriesFit v (given_entries lines)
+entries_fit : (v : Vocabulary) (lines : List Line) → AllByRecursion (λ (l : Line). IsSentence v l.form) lines → EntriesFit v (given_entries lines)
 entries_fit v [] all = tt
 entries_fit v (l ∷ lines) all = with_fits v l (given_form l.role l.form) (given_entries lines) (form_fits v l.role l.form all.0) (entries_fit v lines all.1)
 
 fit : (v : Vocabulary) (lines : List Line) → AreSorted v lines → AreGivenSorted v (given_entries lines)
 fit v lines good =
-    All-from_recursion (λ (entry : GivenEntry). Sorted v [] entry.form) (given_entries lines) (entries_fit v lines (recursion_from_All (λ (l : Line). Sorted v [] l.form) lines good))
+    All-from_recursion (λ (entry : GivenEntry). IsSentence v entry.form) (given_entries lines) (entries_fit v lines (recursion_from_All (λ (l : Line). IsSentence v l.form) lines good))
 
 pub given_sorted : (lines : List Line) (result : Result (List GivenEntry) Memory) → IfOk result (λ entries. entries ≡ given_entries lines) → IfOk result (λ entries. (v : Vocabulary) → AreSorted v lines → AreGivenSorted v entries)
 given_sorted lines (Ok entries) is = λ v good. subst (AreGivenSorted v) (sym is) (fit v lines good)

@@ -1,5 +1,5 @@
 -- The formulas of the lines of a text are closed and well-sorted.
-use Rattle.std.proofs.Common.{◌≡◌, ℕ, ◌+◌, ◌<◌, ◌≤◌, ◌==◌, ◌||◌, ◌&&◌, Bool, true, false, cond, List, [], ◌∷◌, ◌++◌, length, map, Option, Some, None, Result, Ok, Err, IfOk, OnOk, refl, ◌∙◌, subst, arith}
+use Rattle.std.proofs.Common.{◌≡◌, ℕ, ◌+◌, ◌<◌, ◌≤◌, ◌==◌, ◌||◌, ◌&&◌, Bool, true, false, cond, List, [], ◌∷◌, ◌++◌, length, map, Option, Some, None, Result, Ok, Err, IfOk, OnOk, refl, sym, ◌∙◌, subst, arith}
 use Rattle.std.specs.List.{AllByRecursion, list_any}
 use Rattle.std.specs.Str.{bytes_eq}
 use Rattle.std.proofs.lemmas.List.{length-append}
@@ -20,9 +20,9 @@ use Rattle.tptp_base.specs.declared.item.Body.TheVariants as body
 use Rattle.tptp_base.specs.declared.item.Annotated.{Annotated}
 use Rattle.tptp_base.specs.declared.item.Item.{Item}
 use Rattle.tptp_base.specs.declared.item.Item.TheVariants as it
-use Rattle.fof_terms.specs.Vocabulary.{Vocabulary, found_sort, found_symbol}
-use Rattle.fof_terms.specs.Sorts.{Sorted, is_sorted, binder_depth}
-use Rattle.fof_terms.specs.SortLaws.{Grows, grown_sorted, more_sorts_grow, more_symbols_grow}
+use Rattle.fof_terms.specs.Vocabulary.{Vocabulary, IsDeclared, found_sort, found_symbol}
+use Rattle.fof_terms.specs.Sorts.{is_sorted, binder_depth}
+use Rattle.fof_terms.specs.SortLaws.{grown_sorted}
 use Rattle.fof_terms.specs.declared.signature.Symbol.{Symbol}
 use Rattle.fof_terms.specs.declared.form.Form.{Form}
 use Rattle.sort_check.specs.declared.fault.SortRule.{SortRule}
@@ -36,11 +36,11 @@ use Rattle.sort_check.specs.Symbols.{Text, named_sort, with_symbol, known, with_
 use Rattle.sort_check.specs.Denotation.{Setting, State, denoted_form, closed, noted, in_turn, variables_of_term, variables_of, without_count, sentence, clause, formula}
 use Rattle.sort_check.specs.VariableEquations.{of_term-Var, of_term-App, of-True, of-False, of-Atom, of-Eq, of-Neq, of-Not, of-And, of-Or, of-Binary, of-Bind}
 use Rattle.sort_check.specs.Texts.{Declared, sort_at, declared_sort, symbol_named, symbol_of, result_named, result_kind, differs, placed, declared_symbol, declaring, typed, typed_body, is_type, at_line, type_item, type_lines, Reading, is_conjecture, is_single, line_of, reading, body_form, line_form, line, line_item, with_line, lines_from, only_vocabulary, denoted, Gives}
-use Rattle.sort_check.specs.Sorting.{AreSorted}
+use Rattle.sort_check.specs.Sorting.{IsSentence, AreSorted, Extends}
 use Rattle.sort_check.proofs.Inducing.{term_induction, form_induction}
 use Rattle.sort_check.proofs.Stepping.{at_ok, then_ok, mapped_ok}
-use Rattle.sort_check.proofs.TermSorts.{grows_not, grows_on}
-use Rattle.sort_check.proofs.FormSorts.{forms_fit, closed_fits, closed_depth}
+use Rattle.sort_check.proofs.TermSorts.{grows_not, grows_on, sort_added, symbol_added}
+use Rattle.sort_check.proofs.FormSorts.{forms_fit, closed_fits, closed_depth, found_sort_below}
 
 -- ---- the variables of a clause are individuals, and at most 250
 
@@ -108,10 +108,10 @@ individuals_known v (x ∷ found) some all = (omega (arith, some, all.0), indivi
 
 -- The formula is closed and well-sorted, and the vocabulary only grew.
 pub record IsWhole (v w : Vocabulary) (a : Form) : Type 0 where
-  pub grows : Grows v w
-  pub sorted : Sorted w [] a
+  pub grows : Extends v w
+  pub sorted : IsSentence w a
 
-whole : (v w : Vocabulary) (a : Form) → Grows v w → binder_depth a ≤ 500 → is_sorted w [] a ≡ true → IsWhole v w a
+whole : (v w : Vocabulary) (a : Form) → Extends v w → binder_depth a ≤ 500 → is_sorted w [] a ≡ true → IsWhole v w a
 whole v w a grows depth fits = record {
   grows = grows;
   sorted = record { scope_fits = record { few_variables = omega arith; sorts_exist = tt }; few_binders = omega (arith, depth); fits = fits };
@@ -141,7 +141,7 @@ clause_fits names f v w a some e =
     let good = forms_fit f here scope start inner.0 last.0 some inner.1 in
     let few : inner.0.bound ≤ 250 = good.few (omega arith) in
     let deep : binder_depth (closed q.All scope last.0) ≤ 500 = omega (arith, closed_depth q.All scope last.0, good.depth, few, vars.few) in
-    let known = individuals_known inner.0.vocabulary scope (omega (arith, some, good.grows.more_sorts)) vars.sorts in
+    let known = individuals_known inner.0.vocabulary scope (omega (arith, some, good.grows.grows.more_sorts)) vars.sorts in
     let fits : is_sorted inner.0.vocabulary [] (closed q.All scope last.0) ≡ true = closed_fits q.All scope [] inner.0.vocabulary last.0 known good.fits in
     subst (λ (u : Vocabulary). IsWhole v u a) inner.2 (subst (IsWhole v inner.0.vocabulary) last.2 (whole v inner.0.vocabulary (closed q.All scope last.0) good.grows deep fits))
 
@@ -154,11 +154,11 @@ formula_fits lang.Tff names f v w a some e = sentence_fits names f v w a some e
 
 abbrev IsLineFit : Vocabulary → Option Line → Type 0
 IsLineFit v None = Unit {0}
-IsLineFit v (Some l) = Sorted v [] l.form
+IsLineFit v (Some l) = IsSentence v l.form
 
 -- What an item gives is well-sorted.
 pub record IsItemFit (v w : Vocabulary) (found : Option Line) : Type 0 where
-  pub grows : Grows v w
+  pub grows : Extends v w
   pub fits : IsLineFit w found
 
 abbrev ReadingOutcome : Type 0
@@ -203,16 +203,16 @@ item_fits kind names number (it.Comment text) s t found some e = at_ok {E = Sort
 item_fits kind names number (it.Include i) s t found some e = at_ok {E = SortFault} (λ x (u : Reading). IsItemFit s.vocabulary u.vocabulary x) None found s t e (record { grows = grows_not s.vocabulary; fits = tt })
 
 abbrev LinesFit : Vocabulary → List Line → Type 0
-LinesFit v lines = AllByRecursion (λ (l : Line). Sorted v [] l.form) lines
+LinesFit v lines = AllByRecursion (λ (l : Line). IsSentence v l.form) lines
 
 -- What items give is well-sorted.
 pub record AreItemsFit (v w : Vocabulary) (lines : List Line) : Type 0 where
-  pub grows : Grows v w
+  pub grows : Extends v w
   pub fits : LinesFit w lines
 
-with_fits : (v w : Vocabulary) → Grows v w → (found : Option Line) (lines : List Line) → IsLineFit v found → LinesFit w lines → LinesFit w (with_line found lines)
+with_fits : (v w : Vocabulary) → Extends v w → (found : Option Line) (lines : List Line) → IsLineFit v found → LinesFit w lines → LinesFit w (with_line found lines)
 with_fits v w grows None lines one all = all
-with_fits v w grows (Some l) lines one all = (grown_sorted v w grows 2147483647 [] l.form one, all)
+with_fits v w grows (Some l) lines one all = (grown_sorted v w grows.grows 500 [] l.form one, all)
 
 lines_fit : (kind : TextKind) (names : List Text) (number : ℕ) (items : List Item) (s t : Reading) (lines : List Line) → 0 < length s.vocabulary.sorts → lines_from kind names number items s ≡ Ok (lines, t) → AreItemsFit s.vocabulary t.vocabulary lines
 lines_fit kind names number [] s t lines some e = at_ok {E = SortFault} (λ (ls : List Line) (u : Reading). AreItemsFit s.vocabulary u.vocabulary ls) [] lines s t e (record { grows = grows_not s.vocabulary; fits = tt })
@@ -220,7 +220,7 @@ lines_fit kind names number (i ∷ items) s t lines some e =
     let parts = then_ok (line_item kind names number i s) (λ found u. mapped (with_line found) (lines_from kind names (number + 1) items u)) lines t e in
     let one = item_fits kind names number i s parts.1 parts.0 some parts.2 in
     let more = mapped_ok (with_line parts.0) (lines_from kind names (number + 1) items parts.1) lines t parts.3 in
-    let rest = lines_fit kind names (number + 1) items parts.1 t more.0 (omega (arith, some, one.grows.more_sorts)) more.1 in
+    let rest = lines_fit kind names (number + 1) items parts.1 t more.0 (omega (arith, some, one.grows.grows.more_sorts)) more.1 in
     subst (AreItemsFit s.vocabulary t.vocabulary) more.2 (record {
       grows = grows_on s.vocabulary parts.1.vocabulary t.vocabulary one.grows rest.grows;
       fits = with_fits parts.1.vocabulary t.vocabulary rest.grows parts.0 more.0 one.fits rest.fits;
@@ -228,29 +228,29 @@ lines_fit kind names number (i ∷ items) s t lines some e =
 
 -- ---- type lines
 
-sort_grows : (word : Text) (o : Option ℕ) (v w : Vocabulary) (n : ℕ) → sort_at word o v ≡ Ok (n, w) → Grows v w
-sort_grows word (Some number) v w n e = at_ok {E = SortRule} (λ (m : ℕ) u. Grows v u) number n v w e (grows_not v)
+sort_grows : (word : Text) (o : Option ℕ) (v w : Vocabulary) (n : ℕ) → sort_at word o v ≡ Ok (n, w) → Extends v w
+sort_grows word (Some number) v w n e = at_ok {E = SortRule} (λ (m : ℕ) u. Extends v u) number n v w e (grows_not v)
 sort_grows word None v w n e = by (length v.sorts == 65536) e
   where
-    by : (b : Bool) → ◌≡◌ {A = Outcome SortRule Vocabulary ℕ} (cond b (Err (Limit Sorts)) (Ok (length v.sorts, record v { sorts = v.sorts ++ word ∷ [] }))) (Ok (n, w)) → Grows v w
+    by : (b : Bool) → ◌≡◌ {A = Outcome SortRule Vocabulary ℕ} (cond b (Err (Limit Sorts)) (Ok (length v.sorts, record v { sorts = v.sorts ++ word ∷ [] }))) (Ok (n, w)) → Extends v w
     by true k = absurd (cc)
-    by false k = at_ok {E = SortRule} (λ (m : ℕ) u. Grows v u) (length v.sorts) n (record v { sorts = v.sorts ++ word ∷ [] }) w k (more_sorts_grow v word)
+    by false k = at_ok {E = SortRule} (λ (m : ℕ) u. Extends v u) (length v.sorts) n (record v { sorts = v.sorts ++ word ∷ [] }) w k (sort_added v word)
 
-symbol_grows : (s : Symbol) (v w : Vocabulary) (n : ℕ) → with_symbol s v ≡ Ok (n, w) → Grows v w
-symbol_grows s v w n e = by (length v.symbols == 16777216) e
+symbol_grows : (s : Symbol) (v w : Vocabulary) (n : ℕ) → (0 < length v.sorts → IsDeclared (length v.sorts) s) → with_symbol s v ≡ Ok (n, w) → Extends v w
+symbol_grows s v w n fits e = by (length v.symbols == 16777216) e
   where
-    by : (b : Bool) → ◌≡◌ {A = Outcome SortRule Vocabulary ℕ} (cond b (Err (Limit Symbols)) (Ok (length v.symbols, record v { symbols = v.symbols ++ s ∷ [] }))) (Ok (n, w)) → Grows v w
+    by : (b : Bool) → ◌≡◌ {A = Outcome SortRule Vocabulary ℕ} (cond b (Err (Limit Symbols)) (Ok (length v.symbols, record v { symbols = v.symbols ++ s ∷ [] }))) (Ok (n, w)) → Extends v w
     by true k = absurd (cc)
-    by false k = at_ok {E = SortRule} (λ (m : ℕ) u. Grows v u) (length v.symbols) n (record v { symbols = v.symbols ++ s ∷ [] }) w k (more_symbols_grow v s)
+    by false k = at_ok {E = SortRule} (λ (m : ℕ) u. Extends v u) (length v.symbols) n (record v { symbols = v.symbols ++ s ∷ [] }) w k (symbol_added v s fits)
 
-declared_grows : (s : Symbol) (v w : Vocabulary) (n : ℕ) → declared_symbol s v ≡ Ok (n, w) → Grows v w
-declared_grows s v w n e = by (list_any (differs s) v.symbols) e
+declared_grows : (s : Symbol) (v w : Vocabulary) (n : ℕ) → (0 < length v.sorts → IsDeclared (length v.sorts) s) → declared_symbol s v ≡ Ok (n, w) → Extends v w
+declared_grows s v w n fits e = by (list_any (differs s) v.symbols) e
   where
-    at : (o : Option ℕ) → placed s o v ≡ Ok (n, w) → Grows v w
-    at (Some number) k = at_ok {E = SortRule} (λ (m : ℕ) u. Grows v u) number n v w k (grows_not v)
-    at None k = symbol_grows s v w n k
+    at : (o : Option ℕ) → placed s o v ≡ Ok (n, w) → Extends v w
+    at (Some number) k = at_ok {E = SortRule} (λ (m : ℕ) u. Extends v u) number n v w k (grows_not v)
+    at None k = symbol_grows s v w n fits k
 
-    by : (b : Bool) → cond b (Err Redeclared) (placed s (found_symbol v s.name s.kind (length s.args)) v) ≡ Ok (n, w) → Grows v w
+    by : (b : Bool) → cond b (Err Redeclared) (placed s (found_symbol v s.name s.kind (length s.args)) v) ≡ Ok (n, w) → Extends v w
     by true k = absurd (cc)
     by false k = at (found_symbol v s.name s.kind (length s.args)) k
 
@@ -282,34 +282,75 @@ symbol_same word args result v w s e =
     let inner = mapped_ok (symbol_of word (result_kind result) parts.0) (result_named result parts.1) s w parts.3 in
     result_same result parts.1 w inner.0 inner.1 ∙ sorts_same args 0 v parts.1 parts.0 parts.2
 
+-- sorts that are looked up are there
+named_there : (sort : SortName) (v w : Vocabulary) (n : ℕ) → 0 < length v.sorts → named_sort sort v ≡ Ok (n, w) → n < length v.sorts
+named_there name.Individual v w n some e = at_ok {E = SortRule} (λ (m : ℕ) u. m < length v.sorts) 0 n v w e some
+named_there name.Truth v w n some e = absurd (cc)
+named_there (name.Word word) v w n some e = by (found_sort v word) refl e
+  where
+    by : (o : Option ℕ) → found_sort v word ≡ o → known o v ≡ Ok (n, w) → n < length v.sorts
+    by None is k = absurd (cc)
+    by (Some m) is k = at_ok {E = SortRule} (λ (j : ℕ) u. j < length v.sorts) m n v w k (found_sort_below v word m is)
+
+sorts_there : (args : List SortName) (place : ℕ) (v w : Vocabulary) (found : List ℕ) → 0 < length v.sorts → each (λ p. named_sort) place args v ≡ Ok (found, w) → AllByRecursion (λ (a : ℕ). a < length v.sorts) found
+sorts_there [] place v w found some e = at_ok {E = SortRule} (λ (ns : List ℕ) u. AllByRecursion (λ (a : ℕ). a < length v.sorts) ns) [] found v w e tt
+sorts_there (arg ∷ args) place v w found some e =
+    let parts = then_ok (named_sort arg v) (λ y u. mapped (λ ys. y ∷ ys) (each (λ p. named_sort) (place + 1) args u)) found w e in
+    let more = mapped_ok (λ (ys : List ℕ). parts.0 ∷ ys) (each (λ p. named_sort) (place + 1) args parts.1) found w parts.3 in
+    let same = named_same arg v parts.1 parts.0 parts.2 in
+    let rest = sorts_there args (place + 1) parts.1 w more.0 (subst (λ (u : Vocabulary). 0 < length u.sorts) (sym same) some) more.1 in
+    subst (AllByRecursion (λ (a : ℕ). a < length v.sorts)) more.2 (named_there arg v parts.1 parts.0 some parts.2, subst (λ (u : Vocabulary). AllByRecursion (λ (a : ℕ). a < length u.sorts) more.0) same rest)
+
+result_there : (sort : SortName) (v w : Vocabulary) (n : ℕ) → 0 < length v.sorts → result_named sort v ≡ Ok (n, w) → n < length v.sorts
+result_there name.Truth v w n some e = at_ok {E = SortRule} (λ (m : ℕ) u. m < length v.sorts) 0 n v w e some
+result_there name.Individual v w n some e = at_ok {E = SortRule} (λ (m : ℕ) u. m < length v.sorts) 0 n v w e some
+result_there (name.Word word) v w n some e = named_there (name.Word word) v w n some e
+
+-- the sorts of a symbol that a type line declares are there
+symbol_there : (word : Text) (args : List SortName) (result : SortName) (v w : Vocabulary) (s : Symbol) → symbol_named word args result v ≡ Ok (s, w) → 0 < length v.sorts → IsDeclared (length v.sorts) s
+symbol_there word args result v w s e some =
+    let parts = then_ok (each (λ p. named_sort) 0 args v) (λ sorts u. mapped (symbol_of word (result_kind result) sorts) (result_named result u)) s w e in
+    let inner = mapped_ok (symbol_of word (result_kind result) parts.0) (result_named result parts.1) s w parts.3 in
+    let same = sorts_same args 0 v parts.1 parts.0 parts.2 in
+    let last : inner.0 < length parts.1.sorts = result_there result parts.1 w inner.0 (subst (λ (u : Vocabulary). 0 < length u.sorts) (sym same) some) inner.1 in
+    subst (IsDeclared (length v.sorts)) inner.2 (record {
+      args = All-from_recursion (λ (a : ℕ). a < length v.sorts) parts.0 (sorts_there args 0 v parts.1 parts.0 some parts.2);
+      result = subst (λ (u : Vocabulary). inner.0 < length u.sorts) same last;
+    })
+
+fits_there : (word : Text) (args : List SortName) (result : SortName) (v w : Vocabulary) (s : Symbol) → symbol_named word args result v ≡ Ok (s, w) → 0 < length w.sorts → IsDeclared (length w.sorts) s
+fits_there word args result v w s e some =
+    let same = symbol_same word args result v w s e in
+    subst (λ (u : Vocabulary). IsDeclared (length u.sorts) s) (sym same) (symbol_there word args result v w s e (subst (λ (u : Vocabulary). 0 < length u.sorts) same some))
+
 declaring_ok : (names : List Text) (o : Outcome SortRule Vocabulary ℕ) (done : Unit {0}) (d : Declared) → declaring names o ≡ Ok (done, d) → (n : ℕ) × (o ≡ Ok (n, d.vocabulary))
 declaring_ok names (Err x) done d e = absurd (cc)
 declaring_ok names (Ok p) done d e = at_ok {E = SortRule} (λ (k : Unit {0}) (u : Declared). (n : ℕ) × (◌≡◌ {A = Outcome SortRule Vocabulary ℕ} (Ok p) (Ok (n, u.vocabulary)))) tt done (record { vocabulary = p.1; names = names }) d e (p.0, refl)
 
-typed_grows : (word : Text) (s : Shape) (d e : Declared) (done : Unit {0}) → typed word s d ≡ Ok (done, e) → Grows d.vocabulary e.vocabulary
+typed_grows : (word : Text) (s : Shape) (d e : Declared) (done : Unit {0}) → typed word s d ≡ Ok (done, e) → Extends d.vocabulary e.vocabulary
 typed_grows word shape.Sort d e done k =
     let inner = declaring_ok d.names (declared_sort word d.vocabulary) done e k in
     sort_grows word (found_sort d.vocabulary word) d.vocabulary e.vocabulary inner.0 inner.1
 typed_grows word (shape.Symbol args result) d e done k =
     let inner = declaring_ok (with_name word d.names) (and_then (symbol_named word args result d.vocabulary) declared_symbol) done e k in
     let parts = then_ok (symbol_named word args result d.vocabulary) declared_symbol inner.0 e.vocabulary inner.1 in
-    subst (λ (u : Vocabulary). Grows u e.vocabulary) (symbol_same word args result d.vocabulary parts.1 parts.0 parts.2) (declared_grows parts.0 parts.1 e.vocabulary inner.0 parts.3)
+    subst (λ (u : Vocabulary). Extends u e.vocabulary) (symbol_same word args result d.vocabulary parts.1 parts.0 parts.2) (declared_grows parts.0 parts.1 e.vocabulary inner.0 (fits_there word args result d.vocabulary parts.1 parts.0 parts.2) parts.3)
 
-body_grows : (b : Body) (d e : Declared) (done : Unit {0}) → typed_body b d ≡ Ok (done, e) → Grows d.vocabulary e.vocabulary
+body_grows : (b : Body) (d e : Declared) (done : Unit {0}) → typed_body b d ≡ Ok (done, e) → Extends d.vocabulary e.vocabulary
 body_grows (body.Typing t) d e done k = typed_grows t.name t.shape d e done k
 body_grows (body.Logic f) d e done k = absurd (cc)
 
-type_item_grows : (i : Item) (d e : Declared) (done : Unit {0}) → type_item i d ≡ Ok (done, e) → Grows d.vocabulary e.vocabulary
-type_item_grows (it.Comment text) d e done k = at_ok {E = SortFault} (λ (u : Unit {0}) (f : Declared). Grows d.vocabulary f.vocabulary) tt done d e k (grows_not d.vocabulary)
-type_item_grows (it.Include i) d e done k = at_ok {E = SortFault} (λ (u : Unit {0}) (f : Declared). Grows d.vocabulary f.vocabulary) tt done d e k (grows_not d.vocabulary)
+type_item_grows : (i : Item) (d e : Declared) (done : Unit {0}) → type_item i d ≡ Ok (done, e) → Extends d.vocabulary e.vocabulary
+type_item_grows (it.Comment text) d e done k = at_ok {E = SortFault} (λ (u : Unit {0}) (f : Declared). Extends d.vocabulary f.vocabulary) tt done d e k (grows_not d.vocabulary)
+type_item_grows (it.Include i) d e done k = at_ok {E = SortFault} (λ (u : Unit {0}) (f : Declared). Extends d.vocabulary f.vocabulary) tt done d e k (grows_not d.vocabulary)
 type_item_grows (it.Formula l) d e done k = by (is_type l.role) k
   where
-    by : (b : Bool) → ◌≡◌ {A = Outcome SortFault Declared (Unit {0})} (cond b (at_line l (typed_body l.body d)) (Ok (tt, d))) (Ok (done, e)) → Grows d.vocabulary e.vocabulary
+    by : (b : Bool) → ◌≡◌ {A = Outcome SortFault Declared (Unit {0})} (cond b (at_line l (typed_body l.body d)) (Ok (tt, d))) (Ok (done, e)) → Extends d.vocabulary e.vocabulary
     by true m = body_grows l.body d e done (at_line_ok l (typed_body l.body d) done e m)
-    by false m = at_ok {E = SortFault} (λ (u : Unit {0}) (f : Declared). Grows d.vocabulary f.vocabulary) tt done d e m (grows_not d.vocabulary)
+    by false m = at_ok {E = SortFault} (λ (u : Unit {0}) (f : Declared). Extends d.vocabulary f.vocabulary) tt done d e m (grows_not d.vocabulary)
 
-type_lines_grow : (items : List Item) (d e : Declared) (done : Unit {0}) → type_lines items d ≡ Ok (done, e) → Grows d.vocabulary e.vocabulary
-type_lines_grow [] d e done k = at_ok {E = SortFault} (λ (u : Unit {0}) (f : Declared). Grows d.vocabulary f.vocabulary) tt done d e k (grows_not d.vocabulary)
+type_lines_grow : (items : List Item) (d e : Declared) (done : Unit {0}) → type_lines items d ≡ Ok (done, e) → Extends d.vocabulary e.vocabulary
+type_lines_grow [] d e done k = at_ok {E = SortFault} (λ (u : Unit {0}) (f : Declared). Extends d.vocabulary f.vocabulary) tt done d e k (grows_not d.vocabulary)
 type_lines_grow (i ∷ items) d e done k =
     let parts = then_ok (type_item i d) (λ u f. type_lines items f) done e k in
     grows_on d.vocabulary parts.1.vocabulary e.vocabulary (type_item_grows i d parts.1 parts.0 parts.2) (type_lines_grow items parts.1 e done parts.3)
@@ -321,19 +362,19 @@ only_ok (Err x) lines w e = absurd (cc)
 only_ok (Ok p) lines w e = at_ok {E = SortFault} (λ ls u. (t : Reading) × (◌≡◌ {A = Outcome SortFault Reading (List Line)} (Ok p) (Ok (ls, t))) × (t.vocabulary ≡ u)) p.0 lines p.1.vocabulary w e (p.1, refl, refl)
 
 -- the lines are closed and well-sorted in the vocabulary behind the text, which only grew
-pub text_fits : (items : List Item) (v w : Vocabulary) (kind : TextKind) (lines : List Line) → 0 < length v.sorts → denoted items v kind ≡ Ok (lines, w) → Grows v w × AreSorted w lines
+pub text_fits : (items : List Item) (v w : Vocabulary) (kind : TextKind) (lines : List Line) → 0 < length v.sorts → denoted items v kind ≡ Ok (lines, w) → Extends v w × AreSorted w lines
 text_fits items v w kind lines some e =
     let start : Declared = record { vocabulary = v; names = [] } in
     let parts = then_ok (type_lines items start) (λ done d. only_vocabulary (lines_from kind d.names 0 items (record { vocabulary = d.vocabulary; conjectured = false }))) lines w e in
     let grew = type_lines_grow items start parts.1 parts.0 parts.2 in
     let inner = only_ok (lines_from kind parts.1.names 0 items (record { vocabulary = parts.1.vocabulary; conjectured = false })) lines w parts.3 in
-    let good = lines_fit kind parts.1.names 0 items (record { vocabulary = parts.1.vocabulary; conjectured = false }) inner.0 lines (omega (arith, some, grew.more_sorts)) inner.1 in
-    subst (λ (u : Vocabulary). Grows v u × AreSorted u lines) inner.2
-    (grows_on v parts.1.vocabulary inner.0.vocabulary grew good.grows, All-from_recursion (λ (l : Line). Sorted inner.0.vocabulary [] l.form) lines good.fits)
+    let good = lines_fit kind parts.1.names 0 items (record { vocabulary = parts.1.vocabulary; conjectured = false }) inner.0 lines (omega (arith, some, grew.grows.more_sorts)) inner.1 in
+    subst (λ (u : Vocabulary). Extends v u × AreSorted u lines) inner.2
+    (grows_on v parts.1.vocabulary inner.0.vocabulary grew good.grows, All-from_recursion (λ (l : Line). IsSentence inner.0.vocabulary l.form) lines good.fits)
 
-pub text_grows : (items : List Item) (v w : Vocabulary) (kind : TextKind) (result : Result (List Line) SortFault) → 0 < length v.sorts → Gives (denoted items v kind) result w → OnOk result (Grows v w)
-text_grows items v w kind (Ok lines) some given = (text_fits items v w kind lines some given).0
-text_grows items v w kind (Err fault) some given = tt
+pub text_extends : (items : List Item) (v w : Vocabulary) (kind : TextKind) (result : Result (List Line) SortFault) → 0 < length v.sorts → Gives (denoted items v kind) result w → OnOk result (Extends v w)
+text_extends items v w kind (Ok lines) some given = (text_fits items v w kind lines some given).0
+text_extends items v w kind (Err fault) some given = tt
 
 pub text_sorted : (items : List Item) (v w : Vocabulary) (kind : TextKind) (result : Result (List Line) SortFault) → 0 < length v.sorts → Gives (denoted items v kind) result w → IfOk result (AreSorted w)
 text_sorted items v w kind (Ok lines) some given = (text_fits items v w kind lines some given).1

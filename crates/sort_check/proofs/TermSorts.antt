@@ -1,19 +1,20 @@
 -- Terms that are denoted have their sorts, and the vocabulary only grows.
-use Rattle.std.proofs.Common.{◌≡◌, ℕ, zero, suc, ◌+◌, ◌==◌, ◌&&◌, Bool, true, false, cond, List, [], ◌∷◌, ◌++◌, length, map, drop, slice_get, position, Option, Some, None, Ok, Err, refl, sym, ◌∙◌, ap, subst, arith, nat_eq, get_or, add-one}
+use Rattle.std.proofs.Common.{◌≡◌, ℕ, zero, suc, ◌+◌, ◌<◌, ◌≤◌, ◌==◌, ◌&&◌, Bool, true, false, cond, List, [], ◌∷◌, ◌++◌, length, map, drop, slice_get, position, Option, Some, None, Ok, Err, refl, sym, ◌∙◌, ap, subst, arith, nat_eq, get_or, add-one, append_assoc}
 use Rattle.std.specs.List.{AllByRecursion}
 use Rattle.std.specs.Str.{bytes_eq}
 use Rattle.std.specs.Cmp.Lexicographic.{pointwise}
 use Rattle.std.proofs.Math.ListN.{replicate}
 use Rattle.std.proofs.lemmas.Bool.Decides.{nat_tests}
-use Rattle.std.proofs.lemmas.List.{drop_all}
+use Rattle.std.proofs.lemmas.List.{drop_all, append-nil, length-append}
+use Rattle.std.proofs.lemmas.List.Elements.{All-from_recursion}
 use Rattle.std.proofs.lemmas.List.Quantifiers.{position-Some}
 use Rattle.std.proofs.lemmas.Option.{slice_get-get_or}
 use Rattle.tptp_base.specs.declared.limit.LimitName.TheVariants.{Symbols}
 use Rattle.tptp_base.specs.declared.surface.STerm.{STerm}
 use Rattle.tptp_base.specs.declared.surface.STerm.TheVariants as tm
-use Rattle.fof_terms.specs.Vocabulary.{Vocabulary, is_symbol, is_kind, found_symbol}
+use Rattle.fof_terms.specs.Vocabulary.{Vocabulary, IsDeclared, is_symbol, is_kind, found_symbol}
 use Rattle.fof_terms.specs.Sorts.{is_sort, are_sorts, applied, made_by, sort_of_term, sort_of_term-Var, sort_of_term-App}
-use Rattle.fof_terms.specs.SortLaws.{Grows}
+use Rattle.fof_terms.specs.SortLaws.{more_sorts_grow, more_symbols_grow}
 use Rattle.fof_terms.specs.Induction as trees
 use Rattle.fof_terms.specs.Laws.{both, applied_found}
 use Rattle.fof_terms.specs.declared.signature.Kind.{Kind}
@@ -27,6 +28,7 @@ use Rattle.sort_check.specs.declared.terms.Sorted.{Sorted}
 use Rattle.sort_check.specs.Outcomes.{Outcome, mapped, each}
 use Rattle.sort_check.specs.Symbols.{Text, undeclared, with_symbol, is_among, head, head_at, argument_sort, argument_at, result_sort, result_at}
 use Rattle.sort_check.specs.Denotation.{Setting, nearest, or_else, variable_at, fitting, argument, made, denoted_term}
+use Rattle.sort_check.specs.Sorting.{GoesOn, Extends}
 use Rattle.sort_check.specs.Equations.{denoted_term-Var, denoted_term-App}
 use Rattle.sort_check.proofs.Inducing.{term_induction}
 use Rattle.sort_check.proofs.Stepping.{at_ok, then_ok, mapped_ok}
@@ -68,11 +70,53 @@ nearest_sort (x ∷ scope) outer name p e = by (nearest scope name) (nearest_sor
 
 -- ---- vocabularies that grow
 
-pub grows_not : (v : Vocabulary) → Grows v v
-grows_not v = record { more_sorts = omega arith; same_symbols = λ k s e. e }
+pub grows_not : (v : Vocabulary) → Extends v v
+grows_not v = record { grows = record { more_sorts = omega arith; same_symbols = λ k s e. e }; sorts = ([], sym (append-nil v.sorts)); symbols = ([], sym (append-nil v.symbols)); declared = λ some h. h }
 
-pub grows_on : (u v w : Vocabulary) → Grows u v → Grows v w → Grows u w
-grows_on u v w one two = record { more_sorts = omega (arith, one.more_sorts, two.more_sorts); same_symbols = λ k s e. two.same_symbols k s (one.same_symbols k s e) }
+goes_on : {X : Type 0} (a b c : List X) → GoesOn a b → GoesOn b c → GoesOn a c
+goes_on a b c one two = (one.0 ++ two.0, two.1 ∙ ap (λ front. front ++ two.0) one.1 ∙ append_assoc a one.0 two.0)
+
+pub grows_on : (u v w : Vocabulary) → Extends u v → Extends v w → Extends u w
+grows_on u v w one two = record {
+  grows = record { more_sorts = omega (arith, one.grows.more_sorts, two.grows.more_sorts); same_symbols = λ k s e. two.grows.same_symbols k s (one.grows.same_symbols k s e) };
+  sorts = goes_on u.sorts v.sorts w.sorts one.sorts two.sorts;
+  symbols = goes_on u.symbols v.symbols w.symbols one.symbols two.symbols;
+  declared = λ some h. two.declared (omega (arith, some, one.grows.more_sorts)) (one.declared some h);
+}
+
+-- symbols whose sorts are there, where there are more sorts, or with a further symbol
+wider : (m n : ℕ) (symbols : List Symbol) → m ≤ n → AllByRecursion (IsDeclared m) symbols → AllByRecursion (IsDeclared n) symbols
+wider m n [] le all = tt
+wider m n (s ∷ symbols) le all = (record { args = λ i d lt. omega (arith, all.0.args i d lt, le); result = omega (arith, all.0.result, le) }, wider m n symbols le all.1)
+
+with_last : {X : Type 0} (P : X → Type 0) (xs : List X) (x : X) → AllByRecursion P xs → P x → AllByRecursion P (xs ++ x ∷ [])
+with_last P [] x all one = (one, tt)
+with_last P (y ∷ xs) x all one = (all.0, with_last P xs x all.1 one)
+
+-- a vocabulary with one sort more, or one symbol more
+pub sort_added : (v : Vocabulary) (name : List ℕ) → Extends v (record v { sorts = v.sorts ++ name ∷ [] })
+sort_added v name = record {
+  grows = more_sorts_grow v name;
+  sorts = (name ∷ [], refl);
+  symbols = ([], sym (append-nil v.symbols));
+  declared = λ some h. wider (length v.sorts) (length (v.sorts ++ name ∷ [])) v.symbols (omega (arith, length-append v.sorts (name ∷ []))) h;
+}
+
+pub symbol_added : (v : Vocabulary) (s : Symbol) → (0 < length v.sorts → IsDeclared (length v.sorts) s) → Extends v (record v { symbols = v.symbols ++ s ∷ [] })
+symbol_added v s fits = record {
+  grows = more_symbols_grow v s;
+  sorts = ([], sym (append-nil v.sorts));
+  symbols = (s ∷ [], refl);
+  declared = λ some h. with_last (IsDeclared (length v.sorts)) v.symbols s h (fits some);
+}
+
+zeros : (n arity : ℕ) → 0 < n → AllByRecursion (λ a. a < n) (replicate arity 0)
+zeros n zero some = tt
+zeros n (suc arity) some = (some, zeros n arity some)
+
+-- a symbol of individuals
+undeclared_fits : (n : ℕ) (name : Text) (kind : Kind) (arity : ℕ) → 0 < n → IsDeclared n (undeclared name kind arity)
+undeclared_fits n name kind arity some = record { args = All-from_recursion (λ a. a < n) (replicate arity 0) (zeros n arity some); result = some }
 
 kept_answers : {X : Type 0} (f g : X → Option ℕ) (xs : List X) → AllByRecursion (λ x. (s : ℕ) → f x ≡ Some s → g x ≡ Some s) xs → AllByRecursion (λ x. (s : ℕ) × (f x ≡ Some s)) xs → map g xs ≡ map f xs
 kept_answers f g [] e h = refl
@@ -83,7 +127,7 @@ applied_known None found s e = absurd (cc)
 applied_known (Some symbol) found s e = (symbol, refl)
 
 -- the sort of a term stays
-pub kept_sort : (v w : Vocabulary) → Grows v w → (scope : List ℕ) (t : Term) (s : ℕ) → sort_of_term v scope t ≡ Some s → sort_of_term w scope t ≡ Some s
+pub kept_sort : (v w : Vocabulary) → Extends v w → (scope : List ℕ) (t : Term) (s : ℕ) → sort_of_term v scope t ≡ Some s → sort_of_term w scope t ≡ Some s
 kept_sort v w g scope = trees.term_induction _ (record {
   var = λ k s e. rw sort_of_term-Var (rw sort_of_term-Var at e);
   app = λ f ts all s e.
@@ -91,14 +135,14 @@ kept_sort v w g scope = trees.term_induction _ (record {
       let each = applied_found (sort_of_term v scope) ts (slice_get v.symbols f) s old in
       let same = kept_answers (sort_of_term v scope) (sort_of_term w scope) ts all each in
       let symbol = applied_known (slice_get v.symbols f) (map (sort_of_term v scope) ts) s old in
-      rw (sort_of_term-App, same, g.same_symbols f symbol.0 symbol.1) (rw symbol.1 at old);
+      rw (sort_of_term-App, same, g.grows.same_symbols f symbol.0 symbol.1) (rw symbol.1 at old);
 })
 
 -- ---- symbols
 
 -- The symbol of that number is of that kind, and has so many arguments.
 pub record IsHead (v w : Vocabulary) (kind : Kind) (arity number : ℕ) : Type 0 where
-  pub grows : Grows v w
+  pub grows : Extends v w
   pub symbol : Symbol
   pub at : slice_get w.symbols number ≡ Some symbol
   pub of_kind : symbol.kind ≡ kind
@@ -107,11 +151,6 @@ pub record IsHead (v w : Vocabulary) (kind : Kind) (arity number : ℕ) : Type 0
 last_of : {X : Type 0} (xs : List X) (x : X) → slice_get (xs ++ x ∷ []) (length xs) ≡ Some x
 last_of [] x = refl
 last_of (y ∷ xs) x = last_of xs x
-
-in_front : {X : Type 0} (xs ys : List X) (k : ℕ) (x : X) → slice_get xs k ≡ Some x → slice_get (xs ++ ys) k ≡ Some x
-in_front [] ys k x e = absurd (cc)
-in_front (y ∷ xs) ys zero x e = e
-in_front (y ∷ xs) ys (suc k) x e = in_front xs ys k x e
 
 found_at : (p : Symbol → Bool) (xs : List Symbol) (k : ℕ) → position p xs ≡ Some k → (x : Symbol) × (slice_get xs k ≡ Some x) × (p x ≡ true)
 found_at p [] k e = absurd (cc)
@@ -136,7 +175,7 @@ head_ok declared name kind arity v w number e = by (found_symbol v name kind ari
 
     is_added : IsHead v (record v { symbols = v.symbols ++ undeclared name kind arity ∷ [] }) kind arity (length v.symbols)
     is_added = record {
-      grows = record { more_sorts = omega arith; same_symbols = λ k s at. in_front v.symbols (undeclared name kind arity ∷ []) k s at };
+      grows = symbol_added v (undeclared name kind arity) (undeclared_fits (length v.sorts) name kind arity);
       symbol = undeclared name kind arity;
       at = last_of v.symbols (undeclared name kind arity);
       of_kind = refl;
@@ -166,7 +205,7 @@ head_ok declared name kind arity v w number e = by (found_symbol v name kind ari
 
 -- The term has its sort.
 pub record HasSort (v w : Vocabulary) (scope : List ℕ) (x : Sorted) : Type 0 where
-  pub grows : Grows v w
+  pub grows : Extends v w
   pub sort : sort_of_term w scope x.term ≡ Some x.sort
 
 abbrev pub TermFits : STerm → Type 0
@@ -174,7 +213,7 @@ TermFits t = (here : Setting) (scope : List Variable) (v w : Vocabulary) (x : So
 
 -- The terms have the sorts that the symbol wants from that place on.
 pub record Fit (v w : Vocabulary) (scope : List ℕ) (wanted : List ℕ) (xs : List Term) : Type 0 where
-  pub grows : Grows v w
+  pub grows : Extends v w
   pub sorts : are_sorts (map (sort_of_term w scope) xs) wanted ≡ true
 
 drop_at : (xs : List ℕ) (i x : ℕ) → slice_get xs i ≡ Some x → drop i xs ≡ x ∷ drop (i + 1) xs
@@ -194,18 +233,18 @@ equals_itself s = grind (arith, nat_tests)
 
 module _ (here : Setting) (scope : List Variable) (number : ℕ) (symbol : Symbol) where
   one_argument : (place : ℕ) (t : STerm) (v w : Vocabulary) (y : Term) → TermFits t → slice_get v.symbols number ≡ Some symbol → argument number place (denoted_term here scope t) v ≡ Ok (y, w)
-      → Grows v w × ((s : ℕ) × (slice_get symbol.args place ≡ Some s) × (sort_of_term w (sorts_of scope) y ≡ Some s))
+      → Extends v w × ((s : ℕ) × (slice_get symbol.args place ≡ Some s) × (sort_of_term w (sorts_of scope) y ≡ Some s))
   one_argument place t v w y fits at e =
       let parts = then_ok (denoted_term here scope t v) (fitting number place) y w e in
       let good = fits here scope v parts.1 parts.0 parts.2 in
       by parts.0 parts.1 good (is_sort (argument_sort parts.1 number place) parts.0.sort) refl parts.3
     where
       by : (x : Sorted) (u : Vocabulary) → HasSort v u (sorts_of scope) x → (b : Bool) → is_sort (argument_sort u number place) x.sort ≡ b → ◌≡◌ {A = Outcome SortRule Vocabulary Term} (cond b (Ok (x.term, u)) (Err WrongSort)) (Ok (y, w))
-          → Grows v w × ((s : ℕ) × (slice_get symbol.args place ≡ Some s) × (sort_of_term w (sorts_of scope) y ≡ Some s))
+          → Extends v w × ((s : ℕ) × (slice_get symbol.args place ≡ Some s) × (sort_of_term w (sorts_of scope) y ≡ Some s))
       by x u good false is k = absurd (cc)
       by x u good true is k =
-          let wants : slice_get symbol.args place ≡ Some x.sort = ap (λ r. argument_at r place) (sym (good.grows.same_symbols number symbol at)) ∙ wanted_sort (argument_sort u number place) x.sort is in
-          at_ok {E = SortRule} (λ z o. Grows v o × ((s : ℕ) × (slice_get symbol.args place ≡ Some s) × (sort_of_term o (sorts_of scope) z ≡ Some s))) x.term y u w k (good.grows, (x.sort, wants, good.sort))
+          let wants : slice_get symbol.args place ≡ Some x.sort = ap (λ r. argument_at r place) (sym (good.grows.grows.same_symbols number symbol at)) ∙ wanted_sort (argument_sort u number place) x.sort is in
+          at_ok {E = SortRule} (λ z o. Extends v o × ((s : ℕ) × (slice_get symbol.args place ≡ Some s) × (sort_of_term o (sorts_of scope) z ≡ Some s))) x.term y u w k (good.grows, (x.sort, wants, good.sort))
 
   pub arguments_fit : (ts : List STerm) (place : ℕ) (v w : Vocabulary) (xs : List Term) → AllByRecursion TermFits ts → slice_get v.symbols number ≡ Some symbol → length symbol.args ≡ place + length ts
       → each (λ p t. argument number p (denoted_term here scope t)) place ts v ≡ Ok (xs, w) → Fit v w (sorts_of scope) (drop place symbol.args) xs
@@ -216,7 +255,7 @@ module _ (here : Setting) (scope : List Variable) (number : ℕ) (symbol : Symbo
       let parts = then_ok (argument number place (denoted_term here scope t) v) (λ y u. mapped (λ ys. y ∷ ys) (each (λ p s. argument number p (denoted_term here scope s)) (place + 1) ts u)) xs w e in
       let one = one_argument place t v parts.1 parts.0 all.0 at parts.2 in
       let more = mapped_ok (λ (ys : List Term). parts.0 ∷ ys) (each (λ p s. argument number p (denoted_term here scope s)) (place + 1) ts parts.1) xs w parts.3 in
-      let rest = arguments_fit ts (place + 1) parts.1 w more.0 all.1 (one.0.same_symbols number symbol at) (omega (arith, len)) more.1 in
+      let rest = arguments_fit ts (place + 1) parts.1 w more.0 all.1 (one.0.grows.same_symbols number symbol at) (omega (arith, len)) more.1 in
       let sort : sort_of_term w (sorts_of scope) parts.0 ≡ Some one.1.0 = kept_sort parts.1 w rest.grows (sorts_of scope) parts.0 one.1.0 one.1.2 in
       subst (Fit v w (sorts_of scope) (drop place symbol.args)) more.2 (record {
         grows = grows_on v parts.1 w one.0 rest.grows;
@@ -245,7 +284,7 @@ terms_fit = term_induction TermFits (record { var = var_fits; app = app_fits })
         let result : result_sort parts.1 parts.0 ≡ found.symbol.result = ap result_at found.at in
         let sort : sort_of_term w (sorts_of scope) (App parts.0 made_of.0) ≡ Some found.symbol.result =
         sort_of_term-App w (sorts_of scope) parts.0 made_of.0
-        ∙ ap (λ r. applied r (map (sort_of_term w (sorts_of scope)) made_of.0)) (fit.grows.same_symbols parts.0 found.symbol found.at)
+        ∙ ap (λ r. applied r (map (sort_of_term w (sorts_of scope)) made_of.0)) (fit.grows.grows.same_symbols parts.0 found.symbol found.at)
         ∙ ap (λ k. made_by k (are_sorts (map (sort_of_term w (sorts_of scope)) made_of.0) found.symbol.args) found.symbol.result) found.of_kind
         ∙ ap (λ b. made_by Function b found.symbol.result) fit.sorts in
         subst (HasSort v w (sorts_of scope)) made_of.2 (record {

@@ -1,9 +1,8 @@
 // What the formulas of a text denote.
 ghost use Rattle.std.specs.Prelude.{◌≡◌, ◌<◌, ◌≤◌, ◌^◌, length, false, IfOk, OnOk};
-ghost use Rattle.fof_terms.specs.SortLaws.{Grows};
 ghost use Rattle.sort_check.specs.Namesakes.{Knows};
 ghost use Rattle.sort_check.specs.Outcomes.{Answers};
-ghost use Rattle.sort_check.specs.Sorting.{AreSorted};
+ghost use Rattle.sort_check.specs.Sorting.{AreSorted, Extends};
 ghost use Rattle.sort_check.specs.Texts as spec;
 
 use crate::clauses::denote_formula;
@@ -22,7 +21,7 @@ use tptp_base::{Annotated, Body, Item, List, Memory, Role};
 ///
 /// The formulas are closed and well-sorted in the signature behind them. It has all that it had, so what was well-sorted
 /// before stays so.
-#[tactic(auto, using(crate::proofs::LineSorts::text_grows, crate::proofs::LineSorts::text_sorted))]
+#[tactic(auto, using(crate::proofs::LineSorts::text_extends, crate::proofs::LineSorts::text_sorted))]
 pub fn denote(
     alloc: Global,
     items: &[Item],
@@ -31,7 +30,7 @@ pub fn denote(
 ) -> Result<List<Line>, SortFault>
     requires { length items.now < 2 ^ 32 }
     ensures gives { spec.Gives (spec.denoted items.now signature.old kind) result signature.new }
-    ensures grows { OnOk result (Grows signature.old signature.new) }
+    ensures extends { OnOk result (Extends signature.old signature.new) }
     ensures sorted { IfOk result (AreSorted signature.new) }
 {
     // A signature has sorts, as the count tells.

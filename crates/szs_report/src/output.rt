@@ -1,5 +1,5 @@
 // The derivation's part of a prover's output, and the claimed status.
-ghost use Rattle.std.specs.Prelude.{◌≡◌};
+ghost use Rattle.std.specs.Prelude.{◌≡◌, ◌≤◌, IfSome, length};
 ghost use Rattle.szs_report.specs.Region.{region_of, claim_of};
 
 use crate::line::{LineKind, behind_mark, bytes_before, letters, line_len};
@@ -9,7 +9,9 @@ use tptp_base::Region;
 /// `% SZS output start` or `# SZS output start`, and ends before the next line that begins with `% SZS output end` or
 /// `# SZS output end`, or at the end of the text. Without a line that begins so it is the whole text.
 pub fn region(text: &[u8]) -> Region
-    ensures { result ≡ region_of text.now }
+    ensures value { result ≡ region_of text.now }
+    ensures ordered { result.start ≤ result.end }
+    ensures within { result.end ≤ length text.now }
 {
     let before = bytes_before(text, LineKind::Start);
     if before == text.len() {
@@ -29,7 +31,9 @@ pub fn region(text: &[u8]) -> Region
 /// Where the word of the first status line stands. Such a line begins with `% SZS status ` or `# SZS status `, then
 /// has letters, and then a blank or its end. None exactly where there is no such line.
 pub fn claim(text: &[u8]) -> Option<Region>
-    ensures { result ≡ claim_of text.now }
+    ensures value { result ≡ claim_of text.now }
+    ensures ordered { IfSome result (λ word. word.start ≤ word.end) }
+    ensures within { IfSome result (λ word. word.end ≤ length text.now) }
 {
     let before = bytes_before(text, LineKind::Status);
     if before == text.len() {

@@ -8,6 +8,7 @@ use Rattle.tptp_base.specs.Count.{Rose}
 use Rattle.tptp_base.specs.Store.{Files, HasFile}
 use Rattle.tptp_base.proofs.Taken.{takes_nothing}
 use Rattle.fof_terms.specs.Vocabulary.{Vocabulary}
+use Rattle.fof_terms.specs.Scoped.{raised}
 use Rattle.fof_terms.specs.Sorts.{Sorted}
 use Rattle.fof_terms.specs.declared.form.Form.{Form}
 use Rattle.kernel.specs.Statements.{Statements}
@@ -20,7 +21,7 @@ use Rattle.sort_check.specs.declared.line.Line.{Line}
 use Rattle.sort_check.specs.declared.line.GivenEntry.{GivenEntry}
 use Rattle.sort_check.specs.declared.line.TextKind.TheVariants as kind
 use Rattle.sort_check.specs.Given.{given_entries}
-use Rattle.sort_check.specs.Sorting.{AreGivenSorted}
+use Rattle.sort_check.specs.Sorting.{AreGivenSorted, IsSentence}
 use Rattle.sort_check.specs.Texts.{denoted}
 use Rattle.proof_log.specs.Answers as reader
 use Rattle.proof_log.specs.Checks.{IsCheckFault}
@@ -50,7 +51,7 @@ forms_of entries = map (λ (entry : GivenEntry). entry.form) entries
 mapped_sorted : (v : Vocabulary) (entries : List GivenEntry) → AreGivenSorted v entries → All (Sorted v []) (forms_of entries)
 mapped_sorted v [] all = All-nil (Sorted v [])
 mapped_sorted v (entry ∷ entries) all =
-    All-cons (Sorted v []) entry.form (forms_of entries) (All-head (λ (e : GivenEntry). Sorted v [] e.form) entry entries all) (mapped_sorted v entries (All-tail (λ (e : GivenEntry). Sorted v [] e.form) entry entries all))
+    All-cons (Sorted v []) entry.form (forms_of entries) (raised v [] 500 2147483647 entry.form (omega arith) (All-head (λ (e : GivenEntry). IsSentence v e.form) entry entries all)) (mapped_sorted v entries (All-tail (λ (e : GivenEntry). IsSentence v e.form) entry entries all))
 
 pub forms_sorted : (v : Vocabulary) (entries : List GivenEntry) (forms : List Form) → forms ≡ forms_of entries → AreGivenSorted v entries → All (Sorted v []) forms
 forms_sorted v entries forms is all = subst (All (Sorted v [])) (sym is) (mapped_sorted v entries all)

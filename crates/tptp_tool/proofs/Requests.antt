@@ -153,6 +153,11 @@ one_task_words (Verify a b (Some l)) (Format c) e = let lengths : 4 ≡ 2 = ap l
 one_task_words (Format a) (Verify c d None) e = let lengths : 2 ≡ 3 = ap length e in absurd (omega (arith, lengths))
 one_task_words (Format a) (Verify c d (Some m)) e = let lengths : 2 ≡ 4 = ap length e in absurd (omega (arith, lengths))
 
+-- the words name one root at most
+pub one_root : (words : Words) (first second : Request) → IsForm words first → IsForm words second → first.root ≡ second.root
+one_root words first second form other =
+    (behind_root first.root words (limit_words other.named_limit ++ task_words second.task) (limit_words form.named_limit ++ task_words first.task) second.root (as_named words first form) other.words_are (limit_no_root other.named_limit second.task)).0
+
 -- the words ask for one task at most
 pub one_task : (words : Words) (first second : Request) → IsForm words first → IsForm words second → first.task ≡ second.task
 one_task words first second form other =

@@ -23,7 +23,7 @@ use Rattle.sort_check.specs.declared.line.GivenEntry.{GivenEntry}
 use Rattle.sort_check.specs.Given.{given_entries}
 use Rattle.tptp_tool.specs.Denoted.{first_vocabulary, AfterResolved, AfterDenoted}
 use Rattle.tptp_tool.specs.Ending.{Ending, says, AfterFile}
-use Rattle.tptp_tool.specs.Report.{line}
+use Rattle.szs_report.specs.Report.{line}
 use Rattle.tptp_tool.specs.declared.run.TheConstants.{TOTAL_SIZE}
 
 -- the theory of what the lines of a problem give

@@ -22,7 +22,7 @@ use Rattle.sort_check.specs.declared.line.TextKind.TheVariants as kind
 use Rattle.sort_check.specs.Outcomes.{Outcome}
 use Rattle.sort_check.specs.Texts.{denoted}
 use Rattle.tptp_tool.specs.Ending.{Ending, says, no_such_file, limit_text, over_limit}
-use Rattle.tptp_tool.specs.Report.{line}
+use Rattle.szs_report.specs.Report.{line}
 use Rattle.tptp_tool.specs.Spelled.{said_at, SaysLexFault, SaysGrammarFault}
 
 -- ---- includes
@@ -73,9 +73,17 @@ rule_status _ = 3
 abbrev pub file_of : List (List ℕ) → Place → List ℕ
 file_of files place = get_or files place.file (codes "")
 
--- what is said of the first fault against the rules of sorts: the place and the name of the line, and the rule
+-- what is said in a line of this name
+abbrev pub in_line : Name → List ℕ → List ℕ
+in_line name what = codes "in " ++ (name_text name ++ (codes ": " ++ what))
+
+-- what is said of a line in the file that is against the rule: the place and the name of the line, and the rule
+abbrev pub against_rule : List ℕ → SortRule → Place → Name → Ending
+against_rule file rule place name = says (rule_status rule) (said_at file place (in_line name (rule_text rule)))
+
+-- what is said of the first fault against the rules of sorts
 abbrev pub SaysSortFault : List (List ℕ) → SortFault → Ending → Type 0
-SaysSortFault files (sorted.Line rule place name) ending = ending ≡ says (rule_status rule) (said_at (file_of files place) place (codes "in " ++ (name_text name ++ (codes ": " ++ rule_text rule))))
+SaysSortFault files (sorted.Line rule place name) ending = ending ≡ against_rule (file_of files place) rule place name
 SaysSortFault files sorted.Memory ending = ⊥
 
 -- ---- both

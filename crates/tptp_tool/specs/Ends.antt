@@ -3,15 +3,16 @@ use Rattle.std.specs.Prelude.{◌≡◌, ◌⊎◌, ℕ, List}
 use Rattle.std.specs.declared.option.Option.{Option}
 use Rattle.tptp_base.specs.Store.{Files}
 use Rattle.tptp_tool.specs.CheckedLog.{EndsCheck}
-use Rattle.tptp_tool.specs.Ending.{Ending, says, EndsVerify}
+use Rattle.tptp_tool.specs.Ending.{Ending, says}
 use Rattle.tptp_tool.specs.Formatted.{EndsFormat}
 use Rattle.tptp_tool.specs.Parsed.{EndsParse}
+use Rattle.tptp_tool.specs.Verifying.{EndsVerify}
 use Rattle.tptp_tool.specs.Words.{Task, Verify, Format, Parse, Check, Request, IsForm, HaveNoForm}
 use Rattle.tptp_tool.specs.declared.run.TheConstants.{USAGE}
 
 -- how each task ends, where included files are looked for in the root too
 abbrev pub EndsTask : Files → Option (List ℕ) → Task → Ending → Type 0
-EndsTask files root (Verify problem derivation log) ending = EndsVerify files problem derivation ending
+EndsTask files root (Verify problem derivation log) ending = EndsVerify files root problem derivation ending
 EndsTask files root (Format file) ending = EndsFormat files file ending
 EndsTask files root (Parse file) ending = EndsParse files root file ending
 EndsTask files root (Check problem log) ending = EndsCheck files root problem log ending

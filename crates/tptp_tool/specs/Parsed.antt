@@ -7,7 +7,7 @@ use Rattle.tptp_base.specs.declared.item.Item.TheVariants.{Formula}
 use Rattle.tptp_base.specs.Store.{Files}
 use Rattle.tptp_tool.specs.Denoted.{AfterResolved, AfterDenoted}
 use Rattle.tptp_tool.specs.Ending.{Ending, says}
-use Rattle.tptp_tool.specs.Report.{line}
+use Rattle.szs_report.specs.Report.{line}
 
 abbrev pub is_formula : Item → Bool
 is_formula (Formula formula) = true

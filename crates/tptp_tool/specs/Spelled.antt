@@ -12,7 +12,7 @@ use Rattle.tptp_grammar.specs.declared.fault.GrammarFault.{GrammarFault}
 use Rattle.tptp_grammar.specs.declared.fault.GrammarFault.TheVariants as parsed
 use Rattle.tptp_grammar.specs.Answers as grammar
 use Rattle.tptp_tool.specs.Ending.{Ending, says, over_limit}
-use Rattle.tptp_tool.specs.Report.{line}
+use Rattle.szs_report.specs.Report.{line}
 
 -- the line and the column of a place, both from 1 and in bytes
 abbrev pub place_text : Place → List ℕ

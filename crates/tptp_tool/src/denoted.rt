@@ -1,7 +1,7 @@
 // What a problem denotes, and what is said of its first fault against the rules of sorts.
 ghost use Rattle.std.specs.Prelude.{◌≡◌, ◌⊎◌, ◌++◌, ◌<◌, ◌^◌, Ok, Err, IfOk, IfErr, OnOk, codes, length};
 ghost use Rattle.canon_print.specs.Words.{name_text};
-ghost use Rattle.sort_check.specs.Sorting.{AreSorted};
+ghost use Rattle.sort_check.specs.Sorting.{AreDeclared, AreSorted};
 ghost use Rattle.sort_check.specs.Texts.{denoted};
 ghost use Rattle.sort_check.specs.declared.fault.SortFault.{SortFault as sort_fault};
 ghost use Rattle.sort_check.specs.declared.line.TextKind.TheVariants as kind;
@@ -31,6 +31,7 @@ pub struct Meaning {
 pub fn read_meaning(alloc: Global, problem: &Problem) -> Result<Meaning, Halt>
     requires few { length problem.now.items < 2 ^ 32 }
     ensures denoted { IfOk result (λ meaning. denoted problem.now.items first_vocabulary kind.Problem ≡ Ok (meaning.lines, meaning.signature)) }
+    ensures declared { IfOk result (λ meaning. AreDeclared meaning.signature) }
     ensures sorted { IfOk result (λ meaning. AreSorted meaning.signature meaning.lines) }
     ensures refused { IfRefused result (λ answer. (fault : sort_fault) × (denoted problem.now.items first_vocabulary kind.Problem ≡ Err fault) × SaysSortFault problem.now.files fault (ending_of answer)) }
     ensures status { IfRefused result (λ answer. (answer.status ≡ 3) ⊎ (answer.status ≡ 7)) }
@@ -55,25 +56,27 @@ fn say_sort_fault(alloc: Global, files: &[Text], fault: SortFault) -> Result<Ans
     ensures cause { IfErr result (λ stop. HasCause stop ⊥ ⊥) }
 {
     match fault {
-        SortFault::Line(rule, place, name) => say_of_line(alloc, files, rule, place, &name),
+        SortFault::Line(rule, place, name) => {
+            say_of_line(alloc, file_of(files, place), rule, place, &name)
+        }
         SortFault::Memory => Err(Stop::Memory),
     }
 }
 
-// What is said of a line that is against the rule.
-fn say_of_line(
+/// What is said of a line in the file that is against the rule.
+pub fn say_of_line(
     alloc: Global,
-    files: &[Text],
+    file: &[u8],
     rule: SortRule,
     place: Place,
     name: &Name,
 ) -> Result<Answer, Stop>
-    ensures said { IfOk result (λ answer. SaysSortFault files.now (SortFault.Line rule place name.now) (ending_of answer)) }
+    ensures said { IfOk result (λ answer. ending_of answer ≡ spec.against_rule file.now rule place name.now) }
     ensures status { IfOk result (λ answer. answer.status ≡ spec.rule_status rule) }
     ensures cause { IfErr result (λ stop. HasCause stop ⊥ ⊥) }
 {
     let mut text = Vec::new(alloc);
-    text.extend_from_slice(file_of(files, place))?;
+    text.extend_from_slice(file)?;
     text.extend_from_slice(place_text(alloc, place)?.as_bytes())?;
     put_reason(alloc, &mut text, rule, name)?;
     text.extend_from_slice(b"\n")?;

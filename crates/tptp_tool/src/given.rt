@@ -58,9 +58,9 @@ pub fn read_given<S: Store>(
     })
 }
 
-// The theory of what the problem gives. Its first fault is refused.
+/// The theory of what the problem gives. Its first fault is refused.
 #[tactic(auto, using(crate::proofs::Checks::theory_is))]
-fn read_theory(alloc: Global, problem: &Problem) -> Result<Theory, Halt>
+pub fn read_theory(alloc: Global, problem: &Problem) -> Result<Theory, Halt>
     requires few { length problem.now.items < 2 ^ 32 }
     ensures is { IfOk result (λ theory. IsTheoryOf problem.now theory) }
     ensures refused { IfRefused result (λ answer. (fault : sort_fault) × (denoted problem.now.items first_vocabulary kind.Problem ≡ Err fault) × SaysSortFault problem.now.files fault (ending_of answer)) }

@@ -2,20 +2,16 @@
 #![tactic(auto)]
 
 mod check;
-mod checking;
-mod closing;
-mod declarations;
-mod denotation;
 mod denoted;
-mod derivation;
+mod derived;
 mod format;
 mod given;
 mod parse;
 mod refusals;
-mod report;
 mod resolved;
 mod run;
 mod saying;
+mod sources;
 mod spelled;
 mod stop;
 #[cfg(test)]

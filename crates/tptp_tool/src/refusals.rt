@@ -1,18 +1,15 @@
-// What is read before a derivation is checked, and what is said where that is refused.
-ghost use Rattle.std.specs.Prelude.{⊤, ◌≡◌, ◌⊎◌, ◌≤◌, IfOk, IfSome, length};
+// The bytes of files, and what is said where they are refused.
+ghost use Rattle.std.specs.Prelude.{◌≡◌, ◌⊎◌, ◌≤◌, IfOk, IfSome, length};
 ghost use Rattle.tptp_base.specs.Count.{Rose};
 ghost use Rattle.tptp_base.specs.Store.{HasFile};
-ghost use Rattle.plain_cnf.specs.Spelling.{SpellsProblem, SpellsDerivation};
 ghost use Rattle.tptp_tool.specs.Answer.{ending_of};
-ghost use Rattle.tptp_tool.specs.Ending;
 ghost use Rattle.tptp_tool.specs.Ending.{IsReadRefusal};
 ghost use Rattle.tptp_tool.specs.Stop.{HasCause, IfRefused, IfStopped};
 
 use crate::saying::{no_such_file, over_limit};
-use crate::stop::{Answer, Halt, Stop};
-use plain_cnf::{Clause, PlainFault, Step, parse_derivation, parse_problem};
-use std::alloc::{AllocError, Global};
-use tptp_base::{FILE_SIZE, List, ReadFault, Store, Text, read_whole};
+use crate::stop::{Halt, Stop};
+use std::alloc::Global;
+use tptp_base::{FILE_SIZE, ReadFault, Store, Text, read_whole};
 
 /// The bytes of a file. A file that is missing or over a limit is refused.
 pub fn read_text<S: Store>(
@@ -43,43 +40,4 @@ pub fn read_text<S: Store>(
         Err(ReadFault::Failed) => Err(Halt::Stopped(Stop::Store)),
         Err(ReadFault::Memory) => Err(Halt::Stopped(Stop::Memory)),
     }
-}
-
-/// The clauses that the text of a problem spells. A text that is not plain is refused.
-pub fn read_problem(alloc: Global, name: &str, text: &[u8]) -> Result<List<Clause>, Halt>
-    ensures spelled { IfOk result (λ clauses. SpellsProblem clauses text.now) }
-    ensures refused { IfRefused result (λ answer. ending_of answer ≡ Ending.not_built name.now) }
-    ensures cause { IfStopped result (λ stop. HasCause stop ⊥ ⊥) }
-{
-    match parse_problem(alloc, text) {
-        Ok(clauses) => Ok(clauses),
-        Err(PlainFault::NotYet) => Err(Halt::Refused(not_built(alloc, name)?)),
-        Err(PlainFault::Memory) => Err(Halt::Stopped(Stop::Memory)),
-    }
-}
-
-/// The steps that the text of a derivation spells. A text that is not plain is refused.
-pub fn read_derivation(
-    alloc: Global,
-    name: &str,
-    text: &[u8],
-    problem: &[Clause],
-) -> Result<List<Step>, Halt>
-    ensures spelled { IfOk result (λ steps. SpellsDerivation problem.now steps text.now) }
-    ensures refused { IfRefused result (λ answer. ending_of answer ≡ Ending.not_built name.now) }
-    ensures cause { IfStopped result (λ stop. HasCause stop ⊥ ⊥) }
-{
-    match parse_derivation(alloc, text, problem) {
-        Ok(steps) => Ok(steps),
-        Err(PlainFault::NotYet) => Err(Halt::Refused(not_built(alloc, name)?)),
-        Err(PlainFault::Memory) => Err(Halt::Stopped(Stop::Memory)),
-    }
-}
-
-// A text that is not read yet.
-fn not_built(alloc: Global, name: &str) -> Result<Answer, AllocError>
-    ensures { IfOk result (λ answer. ending_of answer ≡ Ending.not_built name.now) }
-{
-    let text = format!(in alloc; "{name}: not built yet\n")?;
-    Ok(Answer::new(8, text))
 }

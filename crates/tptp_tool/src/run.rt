@@ -5,9 +5,10 @@ ghost use Rattle.tptp_base.specs.Count.{Rose};
 ghost use Rattle.tptp_tool.specs.Answer.{ending_of, IsAnswerWithLog};
 ghost use Rattle.tptp_tool.specs.Ending;
 ghost use Rattle.tptp_tool.specs.Ends.{Ends};
+ghost use Rattle.tptp_tool.specs.GoodRuns.{AreGood};
 ghost use Rattle.tptp_tool.specs.Outcome.{IsAnswer, IsOutcome, IsRefutation, SaysMissing, TakesSomeOfRunLog};
 ghost use Rattle.tptp_tool.specs.Stop.{HasCause, IfAnswer, IfStopped};
-ghost use Rattle.tptp_tool.specs.Words.{Task, texts, Verify, AskFor};
+ghost use Rattle.tptp_tool.specs.Words.{Task, texts, Verify, AskFor, Request, IsForm};
 
 use crate::check::check;
 use crate::format::format;
@@ -26,9 +27,9 @@ pub const USAGE: &str =
     "usage: tptp [--root D] [--limit N] COMMAND\n  parse FILE\n  format FILE\n  verify PROBLEM DERIVATION [LOG]\n  check PROBLEM LOG\n  make N\n";
 
 /// Runs the command that the words ask for, and answers its status: 0 where it succeeded, 1 where the derivation is
-/// not verified, 2 where the words ask for nothing, 3 where a file is missing or its text is not spelled, 4 where the
-/// store failed, 5 where a sink failed, 6 where memory is wanting, 7 where a limit is passed, 8 where a text is not read yet. All that it reads
-/// comes from the store, and all that it writes goes to the two sinks.
+/// not verified, 2 where the words ask for nothing, 3 where a file is missing or a text is faulty, 4 where the
+/// store failed, 5 where a sink failed, 6 where memory is wanting, 7 where a limit is passed. All that it reads comes from the
+/// store, and all that it writes goes to the two sinks.
 pub fn run_tptp<S: Store, O: Sink, L: Sink>(
     alloc: Global,
     words: &[String],
@@ -40,9 +41,15 @@ pub fn run_tptp<S: Store, O: Sink, L: Sink>(
     ensures outcome { IfSome (S.files store.old) (λ files. IsOutcome files (texts words.now) result
         (O.taken out.old) (O.taken out.new) (L.taken log.old) (L.taken log.new)) }
 
-    // The log of a success is a list of legal entries that leads from the problem to falsehood.
-    ensures sound { result ≡ 0 → IfSome (S.files store.old) (λ files. (problem derivation : List ℕ) (named : Option (List ℕ))
-        → AskFor (texts words.now) (Verify problem derivation named) → IsRefutation files problem (L.taken log.old) (L.taken log.new)) }
+    // The log of a success is a list of legal entries that leads from what the problem gives to falsehood.
+    ensures sound { result ≡ 0 → IfSome (S.files store.old) (λ files. (request : Request) → IsForm (texts words.now) request
+        → (problem derivation : List ℕ) (named : Option (List ℕ)) → request.task ≡ Verify problem derivation named
+        → IsRefutation files request.root problem (L.taken log.old) (L.taken log.new)) }
+
+    // An answer to a good derivation is that it is verified.
+    ensures good { IsAnswer result → IfSome (S.files store.old) (λ files. (request : Request) → IsForm (texts words.now) request
+        → (problem derivation : List ℕ) (named : Option (List ℕ)) → request.task ≡ Verify problem derivation named
+        → AreGood files request.root problem derivation → result ≡ 0) }
 
     // Over any store: an answer, or a fault of the outside in this call, or want of memory.
     ensures status { IsAnswer result ⊎ ((4 ≤ result) × (result ≤ 6)) }
@@ -105,7 +112,9 @@ fn run_words<S: Store, L: Sink>(
         return usage(alloc);
     };
     match command.job {
-        Job::Verify(problem, derivation, _) => verify(alloc, store, log, problem, derivation),
+        Job::Verify(problem, derivation, _) => {
+            verify(alloc, store, log, command.root, problem, derivation)
+        }
         Job::Format(file) => format(alloc, store, file),
         Job::Parse(file) => parse(alloc, store, command.root, file),
         Job::Check(problem, log) => check(alloc, store, command.root, problem, log),

@@ -1,72 +1,169 @@
 // The command `verify`.
-ghost use Rattle.std.specs.Prelude.{⊤, ◌≡◌, ◌⊎◌, ◌+◌, ◌≤◌, ℕ, map, All, IfOk, IfSome};
+ghost use Rattle.std.specs.Prelude.{◌≡◌, ◌⊎◌, ◌≤◌, ◌<◌, ◌-◌, ◌^◌, ℕ, List, IfOk, IfErr, IfSome, length};
+ghost use Rattle.std.specs.List.{All};
+ghost use Rattle.std.specs.Option.{option_copied};
 ghost use Rattle.tptp_base.specs.Count.{Rose};
-ghost use Rattle.plain_cnf.specs.Spelling.{HasLowerWords};
-ghost use Rattle.plain_cnf.proofs.Counts.{literal_count};
-ghost use Rattle.tptp_tool.specs.Answer.{ending_of, IsAnswerWithLog};
-ghost use Rattle.tptp_tool.specs.Ending.{EndsVerify};
-ghost use Rattle.tptp_tool.specs.Outcome.{IsAnswer, IsProblem, TakesSomeOfProblemLog};
-ghost use Rattle.tptp_tool.specs.Reading.{IsRead};
-ghost use Rattle.tptp_tool.specs.Stop.{HasCause, IfAnswer, IfRefused, IfStopped};
+ghost use Rattle.sort_check.specs.Sorting.{AreDeclared, Extends, IsSentence};
+ghost use Rattle.tstp_graph.specs.Graphs.{IsOrdered};
+ghost use Rattle.derivation_check.specs.Logs.{TakesSomeOfLog};
+ghost use Rattle.tptp_tool.specs.Answer.{IsAnswerWithLog};
+ghost use Rattle.tptp_tool.specs.Ending.{AfterFile};
+ghost use Rattle.tptp_tool.specs.Outcome.{IsAnswer, SaysMissing, TakesSomeOfProblemLog};
+ghost use Rattle.tptp_tool.specs.Stop.{HasCause, IfAnswer, IfStopped};
+ghost use Rattle.tptp_tool.specs.Verifying.{EndsChecked, EndsVerify, SaysDerivation, asked_by, status_of};
+ghost use Rattle.tptp_tool.specs.Words.{Verify};
+ghost use Rattle.std.specs.declared.option.Option.{Option};
 
-use crate::derivation::check_derivation;
-use crate::refusals::{read_derivation, read_problem, read_text};
+use crate::derived::read_derived;
+use crate::refusals::read_text;
 use crate::run::TOTAL_SIZE;
-use crate::stop::{Answer, Halt};
-use plain_cnf::{Clause, Step};
+use crate::sources::{Source, read_source};
+use crate::stop::{Answer, Halt, Stop};
+use derivation_check::{Asked, Report, check_derivation};
+use derivation_text::Derivation;
 use std::alloc::Global;
-use tptp_base::{List, Sink, Store};
+use tptp_base::{FILE_SIZE, Sink, Store};
 
-/// What the texts of a problem and a derivation spell.
-#[derive(Drop)]
-struct Texts {
-    clauses: List<Clause>,
-    steps: List<Step>,
-}
-
-/// Checks a derivation against a problem, both read from the store, and writes the log.
+/// Checks a derivation against a problem, with all that it includes, both read from the store, and writes the log.
 pub fn verify<S: Store, L: Sink>(
     alloc: Global,
     store: &mut S,
     log: &mut L,
+    root: Option<&str>,
     problem: &str,
     derivation: &str,
 ) -> Result<Answer, Halt>
-    ensures ends { IfAnswer result (λ answer. IfSome (S.files store.old) (λ files. IsAnswerWithLog (EndsVerify files problem.now derivation.now) answer (L.taken log.old) (L.taken log.new))) }
-    ensures missing { IfAnswer result (λ answer. answer.status ≡ 3 → Rose (S.absents store.old) (S.absents store.new)) }
+    ensures ends { IfAnswer result (λ answer. IfSome (S.files store.old) (λ files. IsAnswerWithLog (EndsVerify files (option_copied root.entry) problem.now derivation.now) answer (L.taken log.old) (L.taken log.new))) }
+    ensures missing { IfAnswer result (λ answer. answer.status ≡ 3 → (named : Option (List ℕ)) → SaysMissing (S.files store.old) (Verify problem.now derivation.now named) → Rose (S.absents store.old) (S.absents store.new)) }
     ensures status { IfAnswer result (λ answer. IsAnswer answer.status) }
     ensures cause { IfStopped result (λ stop. HasCause stop
         ((L.taken log.new ≡ L.taken log.old) × Rose (S.faults store.old) (S.faults store.new))
         (Rose (L.faults log.old) (L.faults log.new))) }
-    ensures log { IfSome (S.files store.old) (λ files. TakesSomeOfProblemLog files problem.now (L.taken log.old) (L.taken log.new)) }
+    ensures log { IfSome (S.files store.old) (λ files. TakesSomeOfProblemLog files (option_copied root.entry) problem.now (L.taken log.old) (L.taken log.new)) }
 {
-    let texts = read_texts(alloc, store, problem, derivation)?;
-    let clauses = texts.clauses.as_slice();
-    let steps = texts.steps.as_slice();
-    let answer = check_derivation(alloc, problem, clauses, steps, log)?;
-    Ok(answer)
+    match read_source(alloc, store, root, problem) {
+        Ok(source) => {
+            let mut source = source;
+            verify_file(alloc, store, log, &mut source, problem, derivation)
+        }
+        Err(halt) => Err(halt),
+    }
 }
 
-// Reads the two files, and what they spell, in the order of checking.
-fn read_texts<S: Store>(
+// Checks the derivation in a file.
+fn verify_file<S: Store, L: Sink>(
     alloc: Global,
     store: &mut S,
+    log: &mut L,
+    source: &mut Source,
     problem: &str,
-    derivation: &str,
-) -> Result<Texts, Halt>
-    ensures read { IfOk result (λ texts. IfSome (S.files store.old) (λ files. IsRead files problem.now derivation.now texts.clauses texts.steps)) }
-    ensures words { IfOk result (λ texts. All HasLowerWords texts.clauses) }
-    ensures step_words { IfOk result (λ texts. All HasLowerWords (map (λ s. s.clause) texts.steps)) }
-    ensures few { IfOk result (λ texts. literal_count texts.clauses + literal_count (map (λ s. s.clause) texts.steps) ≤ 16777216) }
-    ensures refused { IfRefused result (λ answer. IfSome (S.files store.old) (λ files. EndsVerify files problem.now derivation.now (ending_of answer))) }
-    ensures missing { IfRefused result (λ answer. answer.status ≡ 3 → Rose (S.absents store.old) (S.absents store.new)) }
-    ensures status { IfRefused result (λ answer. IsAnswer answer.status) }
-    ensures cause { IfStopped result (λ stop. HasCause stop (Rose (S.faults store.old) (S.faults store.new)) ⊥) }
+    file: &str,
+) -> Result<Answer, Halt>
+    requires budget { source.old.read ≤ TOTAL_SIZE }
+    requires few { length source.old.names < 2 ^ 32 }
+    requires same { source.old.theory.vocabulary ≡ source.old.signature }
+    requires sentences { All (IsSentence source.old.signature) source.old.theory.formulas }
+    requires declared { AreDeclared source.old.signature }
+    ensures ends { IfAnswer result (λ answer. IfSome (S.files store.old) (λ files. IsAnswerWithLog
+        (AfterFile files file.now (TOTAL_SIZE - source.old.read) (SaysDerivation problem.now file.now source.old.theory source.old.names source.old.marks source.old.has_conjecture))
+        answer (L.taken log.old) (L.taken log.new))) }
+    ensures status { IfAnswer result (λ answer. IsAnswer answer.status) }
+    ensures cause { IfStopped result (λ stop. HasCause stop
+        ((L.taken log.new ≡ L.taken log.old) × Rose (S.faults store.old) (S.faults store.new))
+        (Rose (L.faults log.old) (L.faults log.new))) }
+    ensures log { TakesSomeOfLog source.old.theory (L.taken log.old) (L.taken log.new) }
 {
-    let problem_text = read_text(alloc, store, problem, TOTAL_SIZE)?;
-    let clauses = read_problem(alloc, problem, problem_text.as_slice())?;
-    let budget = TOTAL_SIZE - problem_text.len() as u64;
-    let text = read_text(alloc, store, derivation, budget)?;
-    let steps = read_derivation(alloc, derivation, text.as_slice(), clauses.as_slice())?;
-    Ok(Texts { clauses, steps })
+    match read_text(alloc, store, file, TOTAL_SIZE - source.read) {
+        Ok(text) => verify_text(alloc, log, source, problem, file, text.as_slice()),
+        Err(halt) => Err(halt),
+    }
+}
+
+// Checks the derivation that a text is.
+fn verify_text<L: Sink>(
+    alloc: Global,
+    log: &mut L,
+    source: &mut Source,
+    problem: &str,
+    file: &str,
+    text: &[u8],
+) -> Result<Answer, Halt>
+    requires bytes { length text.now ≤ FILE_SIZE }
+    requires few { length source.old.names < 2 ^ 32 }
+    requires same { source.old.theory.vocabulary ≡ source.old.signature }
+    requires sentences { All (IsSentence source.old.signature) source.old.theory.formulas }
+    requires declared { AreDeclared source.old.signature }
+    ensures ends { IfAnswer result (λ answer. IsAnswerWithLog
+        (SaysDerivation problem.now file.now source.old.theory source.old.names source.old.marks source.old.has_conjecture text.now)
+        answer (L.taken log.old) (L.taken log.new)) }
+    ensures status { IfAnswer result (λ answer. IsAnswer answer.status) }
+    ensures cause { IfStopped result (λ stop. HasCause stop ⊥ (Rose (L.faults log.old) (L.faults log.new))) }
+    ensures log { TakesSomeOfLog source.old.theory (L.taken log.old) (L.taken log.new) }
+{
+    // A signature has sorts, as the count tells.
+    let _sorts = source.signature.sort_count();
+    match read_derived(
+        alloc,
+        file,
+        text,
+        source.names.as_slice(),
+        &mut source.signature,
+    ) {
+        Ok(derivation) => {
+            let answer = answer_on(alloc, log, source, problem, text, &derivation)?;
+            Ok(answer)
+        }
+        Err(halt) => Err(halt),
+    }
+}
+
+// What is answered of a derivation.
+fn answer_on<L: Sink>(
+    alloc: Global,
+    log: &mut L,
+    source: &mut Source,
+    problem: &str,
+    text: &[u8],
+    derivation: &Derivation,
+) -> Result<Answer, Stop>
+    requires extends { Extends source.old.theory.vocabulary source.old.signature }
+    requires declared { AreDeclared source.old.signature }
+    requires each_form { length derivation.now.forms ≡ length derivation.now.graph.nodes }
+    requires each_name { length derivation.now.names ≡ length derivation.now.graph.nodes }
+    requires ordered { IsOrdered derivation.now.graph.nodes derivation.now.graph }
+    requires given { All (IsSentence source.old.theory.vocabulary) source.old.theory.formulas }
+    requires lines { All (IsSentence source.old.signature) derivation.now.forms }
+    ensures ends { IfOk result (λ answer. IsAnswerWithLog
+        (EndsChecked (asked_by problem.now text.now source.old.marks source.old.has_conjecture) source.old.theory derivation.now source.old.signature)
+        answer (L.taken log.old) (L.taken log.new)) }
+    ensures status { IfOk result (λ answer. answer.status ≤ 1) }
+    ensures log { TakesSomeOfLog source.old.theory (L.taken log.old) (L.taken log.new) }
+    ensures cause { IfErr result (λ stop. HasCause stop ⊥ (Rose (L.faults log.old) (L.faults log.new))) }
+{
+    let asked = Asked {
+        problem: problem.as_bytes(),
+        output: text,
+        marks: source.marks.as_slice(),
+        has_conjecture: source.has_conjecture,
+    };
+    let report = check_derivation(
+        alloc,
+        &asked,
+        derivation,
+        &source.signature,
+        &mut source.theory,
+        log,
+    )?;
+    Ok(answer_of(report))
+}
+
+// The status and the text that go with a report.
+fn answer_of(report: Report) -> Answer
+    ensures status { result.status ≡ status_of report.verified }
+    ensures text { result.text ≡ report.text }
+{
+    Answer {
+        status: if report.verified { 0 } else { 1 },
+        text: report.text,
+    }
 }

@@ -1,7 +1,12 @@
 use Rattle.tptp_tool.specs.Words.{texts}
+use Rattle.tptp_tool.proofs.GoodEnds.{answered_good}
 use Rattle.tptp_tool.proofs.Headline.{success_refutes}
 use Rattle.tptp_tool.proofs.run.run_tptp.Goals as goal
 
 pub returns-in-Ok-put_all-clause-sound : goal.returns-in-Ok-put_all-clause-sound
 returns-in-Ok-put_all-clause-sound g c =
     success_refutes (g.S.Store.files c.args.store.now) (texts c.args.words.now) c.in-Ok.answer (g.L.Sink.taken c.args.log.now) (g.L.Sink.taken c.answer_words.new.log) c.in-Ok.ensures.ends
+
+pub returns-in-Ok-put_all-clause-good : goal.returns-in-Ok-put_all-clause-good
+returns-in-Ok-put_all-clause-good g c =
+    answered_good (g.S.Store.files c.args.store.now) (texts c.args.words.now) c.in-Ok.answer (g.L.Sink.taken c.args.log.now) (g.L.Sink.taken c.answer_words.new.log) c.in-Ok.ensures.ends

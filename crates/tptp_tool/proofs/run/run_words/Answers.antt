@@ -1,5 +1,7 @@
 use Rattle.std.proofs.Common.{ap}
-use Rattle.tptp_tool.specs.Words.{Parse, Check, texts, request_of, task_of}
+use Rattle.std.specs.Option.{option_copied}
+use Rattle.tptp_tool.specs.Words.{Parse, Check, Verify, texts, request_of, task_of}
+use Rattle.tptp_tool.proofs.Verifies.{missing_named, verify_asked, verify_logged}
 use Rattle.tptp_tool.proofs.Checks.{check_asked}
 use Rattle.tptp_tool.proofs.Requests.{asked_missing}
 use Rattle.tptp_tool.proofs.run.run_words.Goals as goal
@@ -15,3 +17,16 @@ returns-in-Check-clause-missing g c =
 pub returns-in-Check-clause-ends : goal.returns-in-Check-clause-ends
 returns-in-Check-clause-ends g c =
     check_asked (g.S.Store.files c.args.store.now) (texts c.args.words.now) (request_of c.in-Some.command) c.in-Check.problem.now c.in-Check.log.now (g.L.Sink.taken c.args.log.now) c.check.result c.in-Some.ensures.some (ap task_of c.in-Check.is) c.check.ensures.ends
+
+pub returns-in-Verify-clause-ends : goal.returns-in-Verify-clause-ends
+returns-in-Verify-clause-ends g c =
+    verify_asked (texts c.args.words.now) (request_of c.in-Some.command) c.in-Verify.problem.now c.in-Verify.derivation.now (option_copied c.in-Verify.field-2) c.in-Some.ensures.some (ap task_of c.in-Verify.is) (g.S.Store.files c.args.store.now) c.verify.result (g.L.Sink.taken c.args.log.now) (g.L.Sink.taken c.verify.new.log) c.verify.ensures.ends
+
+pub returns-in-Verify-clause-missing : goal.returns-in-Verify-clause-missing
+returns-in-Verify-clause-missing g c =
+    asked_missing _ (g.S.Store.files c.args.store.now) (texts c.args.words.now) (request_of c.in-Some.command) (Verify c.in-Verify.problem.now c.in-Verify.derivation.now (option_copied c.in-Verify.field-2)) c.in-Some.ensures.some (ap task_of c.in-Verify.is) c.verify.result
+    (missing_named _ (g.S.Store.files c.args.store.now) c.in-Verify.problem.now c.in-Verify.derivation.now c.verify.result (option_copied c.in-Verify.field-2) c.verify.ensures.missing)
+
+pub returns-in-Verify-clause-log : goal.returns-in-Verify-clause-log
+returns-in-Verify-clause-log g c =
+    verify_logged (texts c.args.words.now) (request_of c.in-Some.command) c.in-Verify.problem.now c.in-Verify.derivation.now (option_copied c.in-Verify.field-2) c.in-Some.ensures.some (ap task_of c.in-Verify.is) (g.S.Store.files c.args.store.now) (g.L.Sink.taken c.args.log.now) (g.L.Sink.taken c.verify.new.log) c.verify.ensures.log

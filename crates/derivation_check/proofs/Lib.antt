@@ -1,0 +1,5 @@
+pub mod Declared
+pub mod Ends
+pub mod LogTexts
+pub mod Reports
+pub mod Runs

@@ -1,0 +1,14 @@
+use Rattle.derivation_check.proofs.Runs.{given_ready, run_cut, runs}
+use Rattle.derivation_check.proofs.running.run_derivation.Goals as goal
+
+pub run_lines-requires-clause-given : goal.run_lines-requires-clause-given
+run_lines-requires-clause-given g c =
+    given_ready c.args.theory.now c.begin.new.theory c.args.signature.now c.in_ok-begin.ensures.widens c.requires.extends c.requires.given
+
+pub returns-in-Ok-clause-ran : goal.returns-in-Ok-clause-ran
+returns-in-Ok-clause-ran g c =
+    runs c.args.theory.now c.args.derivation.now c.args.signature.now c.begin.new.theory c.in-Ok.answers c.run_lines.new.theory (g.K.Sink.taken c.args.log.now) (g.K.Sink.taken c.begin.new.log) (g.K.Sink.taken c.run_lines.new.log) c.in_ok-begin.ensures.widens c.in_ok-begin.ensures.declared c.in_ok-begin.ensures.logged (rw c.as_slice-forms.ensures at c.in-Ok.ensures.ran)
+
+pub returns-in-Err-clause-cut : goal.returns-in-Err-clause-cut
+returns-in-Err-clause-cut g c =
+    run_cut c.args.theory.now c.args.derivation.now c.args.signature.now c.begin.new.theory (g.K.Sink.taken c.args.log.now) (g.K.Sink.taken c.begin.new.log) (g.K.Sink.taken c.run_lines.new.log) c.in_ok-begin.ensures.widens c.in_ok-begin.ensures.declared c.in_ok-begin.ensures.logged c.in-Err.ensures.cut

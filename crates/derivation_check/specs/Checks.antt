@@ -1,0 +1,46 @@
+-- What a check of a derivation gives: a report, and a log. The log begins with the declarations of the sorts and symbols
+-- that the derivation brings; then come the entries of its lines, as they are run in the order of the graph; and at last,
+-- where all is verified, a lemma that shows falsehood.
+use Rattle.std.specs.Prelude.{◌≡◌, ℕ, Bool, true, false, List, ◌++◌}
+use Rattle.fof_terms.specs.Vocabulary.{Vocabulary}
+use Rattle.kernel.specs.Statements.{Statements}
+use Rattle.kernel.specs.Entries.{Admits}
+use Rattle.kernel.specs.declared.entry.Entry.{Entry}
+use Rattle.proof_log.specs.Entries.{log_text}
+use Rattle.szs_report.specs.declared.answer.Verdict.{Verdict}
+use Rattle.szs_report.specs.declared.answer.Verdict.TheVariants.{Failed, NoFalse, BadClaim, Verified}
+use Rattle.derivation_text.specs.declared.derivation.Derivation.{Derivation}
+use Rattle.verifier.specs.Closing.{Closes}
+use Rattle.verifier.specs.Declarations.{declarations}
+use Rattle.verifier.specs.Report.{IsVerdict, report_text}
+use Rattle.verifier.specs.Run.{IsRun}
+use Rattle.verifier.specs.declared.answer.LineAnswer.{LineAnswer}
+use Rattle.derivation_check.specs.Cases.{Asked, claim_by, lines_over, widened}
+
+-- all is verified
+abbrev pub is_verified : Verdict → Bool
+is_verified (Verified word problem lines) = true
+is_verified (Failed unverified skipped lines) = false
+is_verified NoFalse = false
+is_verified (BadClaim word) = false
+
+-- The lines of the derivation are run from the given formulas, with these answers and these entries.
+pub record Runs (t : Statements) (d : Derivation) (w : Vocabulary) (answers : List LineAnswer) (entries : List Entry) (end : Statements) : Type 0 where
+  pub own : List Entry
+  pub declared : Admits t (declarations t.vocabulary w) (widened t w)
+  pub run : IsRun (widened t w) (lines_over t d) d.graph.order answers own end
+  pub entries_are : entries ≡ declarations t.vocabulary w ++ own
+
+-- The report on the run, and its log.
+pub record Checks (asked : Asked) (t : Statements) (d : Derivation) (w : Vocabulary) (verified : Bool) (report log : List ℕ) : Type 0 where
+  pub answers : List LineAnswer
+  pub entries : List Entry
+  pub end : Statements
+  pub runs : Runs t d w answers entries end
+  pub verdict : Verdict
+  pub first_that_applies : IsVerdict (claim_by asked answers) asked.problem d.forms answers verdict
+  pub last : List Entry
+  pub closes : Closes verdict end last
+  pub verified_is : verified ≡ is_verified verdict
+  pub report_is : report ≡ report_text d.names answers verdict
+  pub log_is : log ≡ log_text (entries ++ last)

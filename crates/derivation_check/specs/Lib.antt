@@ -1,0 +1,4 @@
+pub mod Cases
+pub mod Checks
+pub mod GoodCases
+pub mod Logs

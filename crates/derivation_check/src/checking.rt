@@ -1,0 +1,116 @@
+// A derivation is checked.
+ghost use Rattle.std.specs.Prelude.{◌≡◌, ◌≤◌, length, IfOk, IfErr, OnErr};
+ghost use Rattle.std.specs.List.{All};
+ghost use Rattle.tptp_base.specs.Count.{Rose};
+ghost use Rattle.sort_check.specs.Sorting.{AreDeclared, Extends, IsSentence};
+ghost use Rattle.tstp_graph.specs.Graphs.{IsOrdered};
+ghost use Rattle.verifier.specs.Faults.{HasCause};
+ghost use Rattle.verifier.specs.Logged.{LogsSome};
+ghost use Rattle.verifier.specs.Report.{AreAccepted, HasFalse, IsVerdict};
+ghost use Rattle.derivation_check.specs.Cases.{asked_of, claim_by};
+ghost use Rattle.derivation_check.specs.Logs.{ChecksWithLog, Closed, TakesSomeOfLog};
+
+use crate::claiming::claim_on;
+use crate::reporting::{is_verified, report_of};
+use crate::running::run_derivation;
+use derivation_text::Derivation;
+use fof_terms::Signature;
+use kernel::Theory;
+use std::alloc::{AllocError, Global};
+use szs_report::Verdict;
+use tptp_base::{Sink, Text};
+use verifier::{LineAnswer, RunFault, close_log, verdict};
+
+/// What is asked of a derivation.
+#[derive(Clone, Copy)]
+pub struct Asked<'a> {
+    /// The problem, as it was named.
+    pub problem: &'a [u8],
+    /// The whole output of the prover.
+    pub output: &'a [u8],
+    /// For each given formula whether its role is conjecture or negated_conjecture.
+    pub marks: &'a [bool],
+    /// Whether the problem has a conjecture.
+    pub has_conjecture: bool,
+}
+
+/// What is printed of a derivation, and whether all is verified.
+#[derive(Drop)]
+pub struct Report {
+    pub verified: bool,
+    pub text: Text,
+}
+
+/// Checks a derivation in the theory of its given formulas: writes the log, with a last entry where all is verified, and
+/// gives the report. The signature is that of the theory, with what the derivation brings.
+///
+/// # Errors
+///
+/// `Sink` where the log failed, and `Memory`. The log has then taken a prefix of the text of legal entries, or nothing.
+pub fn check_derivation<K: Sink>(
+    alloc: Global,
+    asked: &Asked<'_>,
+    derivation: &Derivation,
+    signature: &Signature,
+    theory: &mut Theory,
+    log: &mut K,
+) -> Result<Report, RunFault>
+    requires extends { Extends theory.old.vocabulary signature.now }
+    requires declared { AreDeclared signature.now }
+    requires each_form { length derivation.now.forms ≡ length derivation.now.graph.nodes }
+    requires each_name { length derivation.now.names ≡ length derivation.now.graph.nodes }
+    requires ordered { IsOrdered derivation.now.graph.nodes derivation.now.graph }
+    requires given { All (IsSentence theory.old.vocabulary) theory.old.formulas }
+    requires lines { All (IsSentence signature.now) derivation.now.forms }
+    ensures checks { IfOk result (λ report. ChecksWithLog (asked_of asked.now) theory.old derivation.now signature.now report (K.taken log.old) (K.taken log.new)) }
+    ensures log { TakesSomeOfLog theory.old (K.taken log.old) (K.taken log.new) }
+    ensures cause { IfErr result (λ fault. HasCause fault (Rose (K.faults log.old) (K.faults log.new))) }
+    ensures more_faults { K.faults log.old ≤ K.faults log.new }
+{
+    let answers = run_derivation(alloc, derivation, signature, theory, log)?;
+    close(alloc, asked, derivation, answers.as_slice(), theory, log)
+}
+
+// The report on lines that are run, and the end of the log.
+fn close<K: Sink>(
+    alloc: Global,
+    asked: &Asked<'_>,
+    derivation: &Derivation,
+    answers: &[LineAnswer],
+    theory: &Theory,
+    log: &mut K,
+) -> Result<Report, RunFault>
+    requires count { length derivation.now.names ≡ length answers.now }
+    requires found { AreAccepted answers.now → HasFalse derivation.now.forms → HasFalse theory.now.formulas }
+    ensures closed { IfOk result (λ report. Closed (asked_of asked.now) derivation.now answers.now theory.now report (K.taken log.old) (K.taken log.new)) }
+    ensures cut { OnErr result (LogsSome theory.now (K.taken log.old) (K.taken log.new)) }
+    ensures cause { IfErr result (λ fault. HasCause fault (Rose (K.faults log.old) (K.faults log.new))) }
+    ensures more_faults { K.faults log.old ≤ K.faults log.new }
+{
+    let ending = ending_of(alloc, asked, derivation, answers)?;
+    let text = report_of(alloc, derivation.names.as_slice(), answers, &ending)?;
+    close_log(alloc, &ending, theory, log)?;
+    Ok(Report {
+        verified: is_verified(&ending),
+        text,
+    })
+}
+
+// How the derivation ends.
+fn ending_of(
+    alloc: Global,
+    asked: &Asked<'_>,
+    derivation: &Derivation,
+    answers: &[LineAnswer],
+) -> Result<Verdict, AllocError>
+    ensures { IfOk result (λ ending. IsVerdict (claim_by (asked_of asked.now) answers.now) asked.now.problem.now derivation.now.forms answers.now ending) }
+{
+    let claim = claim_on(alloc, asked, answers)?;
+    verdict(
+        alloc,
+        &claim,
+        asked.problem,
+        derivation.forms.as_slice(),
+        answers,
+    )
+}

@@ -1,0 +1,11 @@
+//! A derivation is checked in the theory of its problem: its lines are run, the log is written, and the report is made.
+#![tactic(auto)]
+
+mod checking;
+mod claiming;
+mod laws;
+mod reporting;
+mod running;
+
+pub use checking::{Asked, Report, check_derivation};
+pub use laws::{a_good_case_is_verified, a_verified_derivation_refutes};

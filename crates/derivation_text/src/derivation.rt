@@ -1,0 +1,13 @@
+// Derivations.
+use fof_terms::Form;
+use tptp_base::{List, Name};
+use tstp_graph::Graph;
+
+/// A derivation: its graph, and the name and the formula of each node.
+#[derive(Drop)]
+pub struct Derivation {
+    pub graph: Graph,
+    pub names: List<Name>,
+    /// What each line stands for: what it denotes, but denied where its role is conjecture.
+    pub forms: List<Form>,
+}

@@ -1,6 +1,0 @@
-use Rattle.plain_cnf.proofs.Leading.{leads_on}
-use Rattle.plain_cnf.proofs.derivation.step.Goals as goal
-
-pub returns-clause-spelled : goal.returns-clause-spelled
-returns-clause-spelled c =
-    leads_on c.in_ok-name.ensures.spelled (leads_on c.in_ok-literals.ensures.spelled (leads_on c.in_ok-expect.ensures (leads_on c.in_ok-source.ensures.spelled c.in_ok-expect-2.ensures)))

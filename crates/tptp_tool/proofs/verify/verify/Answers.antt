@@ -1,0 +1,33 @@
+use Rattle.std.specs.Option.{option_copied}
+use Rattle.tptp_base.specs.Count.{Rose}
+use Rattle.tptp_tool.specs.declared.sources.Source.{Source}
+use Rattle.tptp_tool.proofs.Verifies.{never_missing, nothing_logged, problem_refused, refused_missing, source_ends, source_logged, source_same, stopped_since}
+use Rattle.tptp_tool.proofs.verify.verify.Goals as goal
+
+pub verify_file-requires-clause-same : goal.verify_file-requires-clause-same
+verify_file-requires-clause-same g c = source_same (g.S.Store.files c.args.store.now) (option_copied c.args.root) c.args.problem.now c.in-Ok.source c.in-Ok.ensures.is
+
+pub returns-in-Ok-clause-ends : goal.returns-in-Ok-clause-ends
+returns-in-Ok-clause-ends g c =
+    source_ends (option_copied c.args.root) c.args.problem.now c.args.derivation.now c.in-Ok.source (g.S.Store.files c.args.store.now) (g.S.Store.files c.read_source.new.store) c.verify_file.result (g.L.Sink.taken c.args.log.now) (g.L.Sink.taken c.verify_file.new.log) c.in-Ok.ensures.is c.in-Ok.ensures.same_files c.verify_file.ensures.ends
+
+pub returns-in-Ok-clause-missing : goal.returns-in-Ok-clause-missing
+returns-in-Ok-clause-missing g c = never_missing _ (g.S.Store.files c.args.store.now) c.args.problem.now c.args.derivation.now c.verify_file.result c.in-Ok.ensures.present
+
+pub returns-in-Ok-clause-cause : goal.returns-in-Ok-clause-cause
+returns-in-Ok-clause-cause g c =
+    stopped_since c.verify_file.result _ _ (g.S.Store.faults c.args.store.now) (g.S.Store.faults c.read_source.new.store) _ c.in-Ok.ensures.more_faults c.verify_file.ensures.cause
+
+pub returns-in-Ok-clause-log : goal.returns-in-Ok-clause-log
+returns-in-Ok-clause-log g c =
+    source_logged (option_copied c.args.root) c.args.problem.now c.args.derivation.now c.in-Ok.source (g.S.Store.files c.args.store.now) (g.L.Sink.taken c.args.log.now) (g.L.Sink.taken c.verify_file.new.log) c.in-Ok.ensures.is c.verify_file.ensures.log
+
+pub returns-in-Err-clause-ends : goal.returns-in-Err-clause-ends
+returns-in-Err-clause-ends g c =
+    problem_refused (option_copied c.args.root) c.args.problem.now c.args.derivation.now Source c.in-Err.halt (g.S.Store.files c.args.store.now) (g.L.Sink.taken c.args.log.now) c.in-Err.ensures.refused
+
+pub returns-in-Err-clause-missing : goal.returns-in-Err-clause-missing
+returns-in-Err-clause-missing g c = refused_missing (Rose (g.S.Store.absents c.args.store.now) (g.S.Store.absents c.read_source.new.store)) (g.S.Store.files c.args.store.now) c.args.problem.now c.args.derivation.now Source c.in-Err.halt c.in-Err.ensures.missing
+
+pub returns-in-Err-clause-log : goal.returns-in-Err-clause-log
+returns-in-Err-clause-log g c = nothing_logged (option_copied c.args.root) c.args.problem.now c.args.derivation.now (g.S.Store.files c.args.store.now) (g.L.Sink.taken c.args.log.now)

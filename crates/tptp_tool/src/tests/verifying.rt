@@ -1,0 +1,242 @@
+// The command `verify`.
+use super::words_of;
+use crate::run::run_tptp;
+use std::alloc::{AllocError, Global};
+use std::test::Fail;
+use tptp_base::{List, MemorySink, MemoryStore, SteadySink, SteadyStore, Text};
+
+const PROBLEM: (&str, &str) = ("pq.p", "cnf(a,axiom,p).\ncnf(b,axiom,~ p).\n");
+
+const PROOF: &str = "cnf(c,plain,$false,inference(res,[status(thm)],[a,b])).\n";
+
+const VERIFIED: &str =
+    "c ok resolution\n% SZS status Unsatisfiable for pq.p\nverified: 1 lines\n";
+
+fn store(alloc: Global, files: &[(&str, &str)]) -> Result<List<(Text, Text)>, AllocError> {
+    let mut list = List::new(alloc);
+    for &(name, text) in files {
+        let name = Text::from_slice(alloc, name.as_bytes())?;
+        list.push((name, Text::from_slice(alloc, text.as_bytes())?))?;
+    }
+    Ok(list)
+}
+
+// Whether a run on these words and files ends with the status and prints the text.
+fn prints(
+    alloc: Global,
+    line: &str,
+    files: &[(&str, &str)],
+    status: u8,
+    printed: &str,
+) -> Result<bool, Fail> {
+    let words = words_of(alloc, line)?;
+    let mut store = SteadyStore::new(alloc, store(alloc, files)?)?;
+    let mut out = SteadySink::new(alloc);
+    let mut log = SteadySink::new(alloc);
+    let answer = run_tptp(alloc, &words, &mut store, &mut out, &mut log);
+    Ok(answer == status && out.bytes() == printed.as_bytes())
+}
+
+#[test]
+fn derivations_of_two_clauses(rt: HostRuntime) -> Result<(), Fail> {
+    for (derivation, status, printed) in [
+        (PROOF, 0, VERIFIED),
+        ("", 1, "not verified: no line is $false\n"),
+        (
+            "cnf(l,axiom,r,file('pq.p',zz)).\ncnf(c,plain,$false,inference(res,[],[l])).\n",
+            1,
+            "l unverified leaf\nc skipped\nnot verified: 1 unverified, 1 skipped of 2 lines\n",
+        ),
+        (
+            "cnf(c,plain,$false,inference(r,[],[zz])).\n",
+            3,
+            "u.s:1:1: in c: unknown parent zz\n",
+        ),
+        (
+            "cnf(c,plain,p,inference(r,[],[d])).\ncnf(d,plain,p,inference(r,[],[c])).\n",
+            3,
+            "u.s:1:1: in c: in a cycle\n",
+        ),
+        (
+            "cnf(c,plain,$false,inference(r,[])).\n",
+            3,
+            "u.s:1:1: in c: malformed source\n",
+        ),
+        (
+            "cnf(c,plain,p,a).\n cnf(c,plain,p,a).\n",
+            3,
+            "u.s:2:2: in c: second line of this name\n",
+        ),
+        ("include('pq.p').\n", 3, "u.s:1:1: include in a derivation\n"),
+        ("cnf(c,plain,\n p @ q,a).\n", 3, "u.s:2:4: no token begins here\n"),
+        ("cnf(c,plain,p,a)", 3, "u.s:1:17: unexpected end\n"),
+        (
+            "fof(c,plain,p(X),a).\n",
+            3,
+            "u.s:1:1: in c: free variable\n",
+        ),
+        // A graph fault comes before a fault of sorts.
+        (
+            "fof(c,plain,p(X),zz).\n",
+            3,
+            "u.s:1:1: in c: unknown parent zz\n",
+        ),
+        (
+            "Status 1 +\n# SZS status Unsatisfiable for pq.p\n# SZS output start CNFRefutation\ncnf(c,plain,$false,inference(res,[status(thm)],[a,b])).\n# SZS output end\n+",
+            0,
+            VERIFIED,
+        ),
+        (
+            "+\n% SZS output start\n +\n",
+            3,
+            "u.s:3:2: no token begins here\n",
+        ),
+        (
+            "% SZS status Theorem\ncnf(c,plain,$false,inference(res,[status(thm)],[a,b])).\n",
+            1,
+            "c ok resolution\nnot verified: claim Theorem is not justified\n",
+        ),
+    ] {
+        let files = [PROBLEM, ("u.s", derivation)];
+        assert!(rt;
+            prints(rt.alloc(), "verify pq.p u.s", &files, status, printed)?,
+            "{derivation}"
+        );
+    }
+    Ok(())
+}
+
+const SOCRATES: (&str, &str) = (
+    "x.p",
+    "fof(a1,axiom,! [X] : ( man(X) => mortal(X) )).\nfof(a2,axiom,man(socrates)).\nfof(goal,conjecture,mortal(socrates)).\n",
+);
+
+const CONTRADICTION: (&str, &str) =
+    ("x.p", "fof(a,axiom,p).\nfof(b,axiom,~ p).\nfof(g,conjecture,q).\n");
+
+const NESTED: (&str, &str) = ("x.p", "fof(a,axiom,(p | q) | r).\n");
+
+const SORTED: (&str, &str) = (
+    "x.p",
+    "tff(s,type,s: $tType).\ntff(t,type,p: s > $o).\ntff(a1,axiom,! [X: s] : p(X)).\ntff(a2,axiom,! [Y: s] : ~ p(Y)).\n",
+);
+
+const DOUBLE: (&str, &str) = ("x.p", "fof(a,axiom,p).\nfof(goal,conjecture,~ p).\n");
+
+#[test]
+fn other_derivations(rt: HostRuntime) -> Result<(), Fail> {
+    for (problem, derivation, status, printed) in [
+        (
+            SOCRATES,
+            "# SZS status Theorem\n# SZS output start CNFRefutation\nfof(f1,axiom,(![X]:(man(X)=>mortal(X))),file('soc.p',a1)).\nfof(f2,axiom,man(socrates),file('soc.p',a2)).\nfof(f3,conjecture,mortal(socrates),file('soc.p',goal)).\nfof(f4,negated_conjecture,~mortal(socrates),inference(assume_negation,[status(cth)],[f3])).\ncnf(c1,plain,(mortal(X1)|~man(X1)),inference(split_conjunct,[status(thm)],[inference(fof_nnf,[status(thm)],[f1])])).\ncnf(c2,plain,(mortal(socrates)),inference(spm,[status(thm)],[c1,f2])).\ncnf(c3,negated_conjecture,($false),inference(cn,[status(thm)],[inference(rw,[status(thm)],[f4,c2])]),['proof']).\n# SZS output end CNFRefutation\n",
+            1,
+            "f1 ok norm\nf2 ok norm\nf3 ok norm\nf4 ok norm\nc1 unverified not-yet\nc2 skipped\nc3 skipped\nnot verified: 1 unverified, 2 skipped of 7 lines\n",
+        ),
+        (
+            CONTRADICTION,
+            "% SZS status ContradictoryAxioms for con.p\ncnf(c,plain,$false,inference(res,[status(thm)],[a,b])).\n",
+            0,
+            "c ok resolution\n% SZS status ContradictoryAxioms for x.p\nverified: 1 lines\n",
+        ),
+        (
+            NESTED,
+            "cnf(l,axiom,p | q | r,file('x.p',a)).\n",
+            1,
+            "l ok norm\nnot verified: no line is $false\n",
+        ),
+        (
+            SORTED,
+            "cnf(c,plain,$false,inference(res,[status(thm)],[a1,a2])).\n",
+            0,
+            "c ok resolution\n% SZS status Unsatisfiable for x.p\nverified: 1 lines\n",
+        ),
+        (
+            DOUBLE,
+            "fof(f1,conjecture,~ p,file('x.p',goal)).\ncnf(c,plain,$false,inference(res,[],[a,f1])).\n",
+            1,
+            "f1 ok norm\nc unverified not-yet\nnot verified: 1 unverified, 0 skipped of 2 lines\n",
+        ),
+        (
+            DOUBLE,
+            "fof(f1,plain,~ p,file('x.p',goal)).\ncnf(c,plain,$false,inference(res,[],[a,f1])).\n",
+            1,
+            "f1 unverified not-yet\nc skipped\nnot verified: 1 unverified, 1 skipped of 2 lines\n",
+        ),
+    ] {
+        let files = [problem, ("u.s", derivation)];
+        assert!(rt;
+            prints(rt.alloc(), "verify x.p u.s", &files, status, printed)?,
+            "{derivation}"
+        );
+    }
+    Ok(())
+}
+
+#[test]
+fn includes_and_limits_reach_it(rt: HostRuntime) -> Result<(), Fail> {
+    let alloc = rt.alloc();
+    let top = ("top.p", "include('pq.p').\n");
+    let axioms = ("/t/pq.p", "cnf(a,axiom,p).\ncnf(b,axiom,~ p).\n");
+    let files = [top, axioms, ("u.s", PROOF)];
+    let line = "--root /t --limit 5 verify top.p u.s u.log";
+    let printed = "c ok resolution\n% SZS status Unsatisfiable for top.p\nverified: 1 lines\n";
+    assert!(rt; prints(alloc, line, &files, 0, printed)?);
+    let said = "pq.p: no such file\n";
+    assert!(rt; prints(alloc, "verify top.p u.s", &files, 3, said)?);
+    assert!(rt; prints(alloc, "verify no.p u.s", &files, 3, "no.p: no such file\n")?);
+    assert!(rt; prints(alloc, "verify /t/pq.p no.s", &files, 3, "no.s: no such file\n")?);
+    Ok(())
+}
+
+#[test]
+fn faults_of_the_outside(rt: HostRuntime) -> Result<(), Fail> {
+    let alloc = rt.alloc();
+    // The numbers of the calls of the store, of out and of the log that fail, until the run ends with 0.
+    for (read, written, noted, status) in [
+        (1, 0, 0, 4),
+        (2, 0, 0, 4),
+        (3, 0, 0, 4),
+        (4, 0, 0, 4),
+        (5, 0, 0, 0),
+        (0, 1, 0, 5),
+        (0, 2, 0, 0),
+        (0, 0, 1, 5),
+        (0, 0, 2, 5),
+        (0, 0, 3, 5),
+        (0, 0, 4, 0),
+    ] {
+        let words = words_of(alloc, "verify pq.p u.s")?;
+        let files = store(alloc, &[PROBLEM, ("u.s", PROOF)])?;
+        let mut store = MemoryStore::new(alloc, files, List::from_slice(alloc, &[read])?)?;
+        let mut out = MemorySink::new(alloc, List::from_slice(alloc, &[written])?);
+        let mut log = MemorySink::new(alloc, List::from_slice(alloc, &[noted])?);
+        let answer = run_tptp(alloc, &words, &mut store, &mut out, &mut log);
+        assert_eq!(rt; answer, status);
+        let printed = if status == 0 { VERIFIED } else { "" };
+        assert_eq!(rt; out.bytes(), printed.as_bytes());
+        if noted == 2 {
+            assert_eq!(rt; log.bytes(), b"tptp-log 1\n".as_slice());
+        }
+    }
+    Ok(())
+}
+
+#[test]
+fn its_log_is_checked(rt: HostRuntime) -> Result<(), Fail> {
+    let alloc = rt.alloc();
+    let words = words_of(alloc, "verify pq.p u.s")?;
+    let mut files = SteadyStore::new(alloc, store(alloc, &[PROBLEM, ("u.s", PROOF)])?)?;
+    let mut out = SteadySink::new(alloc);
+    let mut log = SteadySink::new(alloc);
+    assert_eq!(rt; run_tptp(alloc, &words, &mut files, &mut out, &mut log), 0);
+    let text = Text::from_slice(alloc, log.bytes())?;
+    let mut files = store(alloc, &[PROBLEM])?;
+    files.push((Text::from_slice(alloc, b"u.log")?, text))?;
+    let mut files = SteadyStore::new(alloc, files)?;
+    let words = words_of(alloc, "check pq.p u.log")?;
+    let mut out = SteadySink::new(alloc);
+    let mut none = SteadySink::new(alloc);
+    assert_eq!(rt; run_tptp(alloc, &words, &mut files, &mut out, &mut none), 0);
+    assert_eq!(rt; out.bytes(), b"refuted: 2 entries\n".as_slice());
+    Ok(())
+}
