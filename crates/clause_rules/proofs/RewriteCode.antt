@@ -58,11 +58,11 @@ pub reaches_over : (v : Vocabulary) (into by : Clause) (lits : List Lit) (n : �
 reaches_over v into by lits n a b c sorted =
     All-weaker (λ (l : Lit). is_sorted_atom v (scope_of_both into by) l.atom ≡ true) (λ (l : Lit). atom_reach n l.atom < 2 ^ 32)
     (λ l e.
-        let reach = reach_of v (scope_of_both into by) n l.atom e in
-        let total = length-append (scope_of into) (scope_of by) in
-        let one = length-reverse into.sorts in
-        let two = length-reverse by.sorts in
-        omega arith) lits sorted.fits
+    let reach = reach_of v (scope_of_both into by) n l.atom e in
+    let total = length-append (scope_of into) (scope_of by) in
+    let one = length-reverse into.sorts in
+    let two = length-reverse by.sorts in
+    omega arith) lits sorted.fits
 
 pub sorts_joined : (line into by first second third after last : List ℕ) → first ≡ line → second ≡ into → third ≡ by → after ≡ first ++ second → last ≡ after ++ third → last ≡ line ++ (into ++ by)
 sorts_joined line into by first second third after last e f g a b = b ∙ ap (λ ss. ss ++ third) (a ∙ ap (λ ss. ss ++ second) e ∙ ap (λ ss. line ++ ss) f) ∙ ap (λ ss. (line ++ into) ++ ss) g ∙ append_assoc line into by

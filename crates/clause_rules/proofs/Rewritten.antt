@@ -165,8 +165,8 @@ module _ (v : Vocabulary) (scope : List ℕ) (u w x : Term) (f : Term → Term) 
       let atoms = atom_same k.atom h.0.atom g.0.atom (sorted_fits v scope k.atom all.0) h.4 g.4 in
       let one : g.0 ≡ in_lit f h.0 = lit_is g.0 (in_lit f h.0) (g.3 ∙ sym h.3) atoms in
       g.2 ∙ ap (λ y. y ∷ g.1) one ∙ ap (λ ys. in_lit f h.0 ∷ ys) (lits_same lits h.1 g.1 all.1 h.5 g.5) ∙ ap (map (in_lit f)) (sym h.2) where
-    lit_is : (a b : Lit) → a.positive ≡ b.positive → a.atom ≡ b.atom → a ≡ b
-    lit_is a b e d = ap (λ g. record { positive = g; atom = a.atom }) e ∙ ap (λ (x : AtomOf). record { positive = b.positive; atom = x }) d
+        lit_is : (a b : Lit) → a.positive ≡ b.positive → a.atom ≡ b.atom → a ≡ b
+        lit_is a b e d = ap (λ g. record { positive = g; atom = a.atom }) e ∙ ap (λ (x : AtomOf). record { positive = b.positive; atom = x }) d
 
 -- one term more, and one literal more
 rewritten_snoc : (u w : Term) (ts us : List Term) (t s : Term) → AreRewritten u w ts us → IsRewritten u w t s → AreRewritten u w (ts ++ t ∷ []) (us ++ s ∷ [])

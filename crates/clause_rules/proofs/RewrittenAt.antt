@@ -161,11 +161,11 @@ module _ (v : Vocabulary) (into by line : Clause) (into_fit : IsFit v into) (by_
             same = λ k q e. g.instances k (slice_get_within sorts k q e) ∙ instance_is g.by (image_at images k);
           } in
           let right : image r h.right ≡ f (instance images r') =
-              ap (image r) sides.1 ∙ sym (agrees shape.r l_found.0 r_sort) ∙ ap (image (image_at other)) shape.right
-              ∙ image_agrees v sorts (image_at other) (λ k. image (image_at g.by) (image_at images k)) agree r' l_found.0 right_sort ∙ sym (image_image (image_at g.by) (image_at images) r') ∙ ap f (sym (instance_is images r')) in
+          ap (image r) sides.1 ∙ sym (agrees shape.r l_found.0 r_sort) ∙ ap (image (image_at other)) shape.right
+          ∙ image_agrees v sorts (image_at other) (λ k. image (image_at g.by) (image_at images k)) agree r' l_found.0 right_sort ∙ sym (image_image (image_at g.by) (image_at images) r') ∙ ap f (sym (instance_is images r')) in
           let fixes : (k q : ℕ) → slice_get (scope_of into) k ≡ Some q → f (Var k) ≡ Var k = λ k q e. image-Var (image_at g.by) k ∙ fixed (scope_of into ++ further) g.by g.is_substitution k q e in
           let same : h.rewritten ≡ map (lit_image (image_at g.by)) lits =
-              lits_same v (scope_of into) target (instance images r') (image r h.right) f (imaging (image_at g.by)) right fixes into.lits lits h.rewritten (recursion_from_All (λ (k : Lit). is_sorted_atom v (scope_of into) k.atom ≡ true) into.lits into_fit.sorted.fits) replaced h.all_rewritten in
+          lits_same v (scope_of into) target (instance images r') (image r h.right) f (imaging (image_at g.by)) right fixes into.lits lits h.rewritten (recursion_from_All (λ (k : Lit). is_sorted_atom v (scope_of into) k.atom ≡ true) into.lits into_fit.sorted.fits) replaced h.all_rewritten in
           none more (λ k. image s (image_at g.by k)) (record {
             images = images_then v sorts (scope_of into ++ further) (scope_of line ++ more) (image_at g.by) s (sub_images (scope_of into ++ further) g.by g.is_substitution) h.covers.images;
             covered = λ i k e. subst (IsCovered line.lits) (named_image s (image_at g.by) k) (h.covers.covered i (lit_image (image_at g.by) k) (ap (λ (ks : List Lit). slice_get ks i) same ∙ get_image (image_at g.by) lits i k e));
