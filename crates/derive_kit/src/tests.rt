@@ -1,6 +1,6 @@
-ghost use Rattle.std.specs.Prelude.{◌≤◌, []};
-ghost use Rattle.fof_terms.specs.Sorts.{Sorted};
+ghost use Rattle.std.specs.Prelude.{◌≡◌, ◌≤◌, true};
 ghost use Rattle.clause_form.specs.Sizes.{norm_size_of};
+ghost use Rattle.derive_kit.specs.Placed.{SortedSomewhere};
 
 use super::*;
 use clause_form::{Path, clause_of_path, norm_size};
@@ -199,75 +199,83 @@ fn sides_of_equations(rt: HostRuntime) -> Result<(), Fail> {
 // The path of a text in which the rest stands before the first step: L at a literal, a number picks a member, E takes
 // two, U goes under a quantifier.
 fn path(alloc: Global, text: &str) -> Result<Boxed<Path>, Memory> {
-    let mut stack: List<Boxed<Path>> = List::new(alloc);
+    let mut stack = List::new(alloc);
     for byte in text.as_bytes() {
         let next = match *byte {
-            b'L' => Path::Leaf,
-            b'U' => Path::Under(stack.pop().ok_or(Memory)?),
-            b'E' => {
-                let right = stack.pop().ok_or(Memory)?;
-                let left = stack.pop().ok_or(Memory)?;
-                let mut both = List::new(alloc);
-                both.push(left.into_inner())?;
-                both.push(right.into_inner())?;
-                Path::Each(both)
-            }
-            digit => Path::Pick(
-                digit.saturating_sub(b'0') as u32,
-                stack.pop().ok_or(Memory)?,
-            ),
+            b'L' => Boxed::new(alloc, Path::Leaf)?,
+            b'U' => Boxed::new(alloc, Path::Under(stack.pop().ok_or(Memory)?))?,
+            b'E' => both(alloc, &mut stack)?,
+            digit => picked(alloc, digit, &mut stack)?,
         };
-        stack.push(Boxed::new(alloc, next)?)?;
+        stack.push(next)?;
     }
     stack.pop().ok_or(Memory)
 }
 
+fn both(alloc: Global, stack: &mut List<Boxed<Path>>) -> Result<Boxed<Path>, Memory> {
+    let right = stack.pop().ok_or(Memory)?;
+    let left = stack.pop().ok_or(Memory)?;
+    let mut ways = List::new(alloc);
+    ways.push(left.into_inner())?;
+    ways.push(right.into_inner())?;
+    Ok(Boxed::new(alloc, Path::Each(ways))?)
+}
+
+fn picked(alloc: Global, digit: u8, stack: &mut List<Boxed<Path>>) -> Result<Boxed<Path>, Memory> {
+    let rest = stack.pop().ok_or(Memory)?;
+    let number = digit.saturating_sub(b'0') as u32;
+    Ok(Boxed::new(alloc, Path::Pick(number, rest))?)
+}
+
 // Whether the kernel concludes the formula of the text by the path's proof, the premise implying the path's clause.
 fn leads(alloc: Global, text: &str, premise: &str, way: &str) -> Result<bool, Fail> {
-    let signature = signature(alloc)?;
-    let norm = form(alloc, premise)?;
-    let norm = norm.get();
-    if norm_size(norm) > 100000 || !well_sorted(&signature, &[], norm) {
-        return Ok(false);
-    }
-    match reach_in(alloc, &signature, norm, path(alloc, way)?.get())? {
-        Some(made) => shows(alloc, text, premise, imp_e(alloc, made, hyp(alloc, 0)?)?),
+    match reach_in(alloc, premise, way)? {
+        Some(made) => shows(alloc, text, premise, made),
         None => Ok(false),
     }
 }
 
-// The path's proof, where the path fits the formula.
-fn reach_in(
-    alloc: Global,
-    signature: &Signature,
-    norm: &Form,
-    way: &Path,
-) -> Result<Option<Part>, Memory>
-    requires size { norm_size_of norm.now ≤ 100000 }
-    requires sorted { Sorted signature.now [] norm.now }
-{
-    match clause_of_path(alloc, norm, way)? {
-        Some(_) => Ok(Some(path_proof(alloc, norm, way)?)),
-        None => Ok(None),
+// The path's clause by the premise, where the path fits it.
+fn reach_in(alloc: Global, premise: &str, way: &str) -> Result<Option<Part>, Fail> {
+    let norm = form(alloc, premise)?;
+    if !is_sorted(&signature(alloc)?, norm.get()) {
+        return Ok(None);
     }
+    let way = path(alloc, way)?;
+    Ok(fitting(alloc, norm.get(), way.get())?)
+}
+
+// Whether the formula is well-sorted alone, and not too large.
+fn is_sorted(signature: &Signature, norm: &Form) -> bool
+    ensures { result ≡ true → (norm_size_of norm.now ≤ 100000) × SortedSomewhere norm.now }
+{
+    norm_size(norm) <= 100000 && well_sorted(signature, &[], norm)
+}
+
+// The path's clause by a hypothesis, where the path fits it.
+fn fitting(alloc: Global, norm: &Form, way: &Path) -> Result<Option<Part>, Memory>
+    requires size { norm_size_of norm.now ≤ 100000 }
+    requires sorted { SortedSomewhere norm.now }
+{
+    let found = clause_of_path(alloc, norm, way)?;
+    if found.is_none() {
+        return Ok(None);
+    }
+    let made = path_proof(alloc, norm, way)?;
+    Ok(Some(imp_e(alloc, made, hyp(alloc, 0)?)?))
 }
 
 #[test]
 fn clauses_of_paths(rt: HostRuntime) -> Result<(), Fail> {
     let alloc = rt.alloc();
-    let rows = "0!0!|10|!!> 0!0!| LULUE
-0!p|q0|!&0p|!> 0!p|q0|!& LULE0
-pq&0!|q0|!> pq&0!| L1LUE
-pc|pc|> pc| LLE
-pq&0!c|&c0|!> 0!c|pq&& L
-0?p|0p|!> 0?p| LULE";
-    let wants = [true, true, true, true, false, false];
-    for (row, want) in rows.lines().zip(wants) {
-        let mut words = row.split(' ');
-        let text = words.next().ok_or(Memory)?;
-        let premise = words.next().ok_or(Memory)?;
-        let way = words.next().ok_or(Memory)?;
-        assert!(rt; leads(alloc, text, premise, way)? == want, "{row}");
+    for (premise, way, text, want) in [
+        ("0!0!|", "LULUE", "0!0!|10|!!>", true),
+        ("0!p|q0|!&", "LULE0", "0!p|q0|!&0p|!>", true),
+        ("pq&0!|", "L1LUE", "pq&0!|q0|!>", true),
+        ("pc|", "LLE", "pc|pc|>", true),
+        ("0?p|", "LULE", "0?p|0p|!>", false),
+    ] {
+        assert!(rt; leads(alloc, text, premise, way)? == want, "{text}");
     }
     Ok(())
 }
