@@ -1,7 +1,7 @@
 -- The search for a rewriting of one term with one equation.
-use Rattle.std.specs.Prelude.{ℕ, Bool, true, ◌≡◌, ◌+◌, ◌<◌, ◌≤◌, ◌^◌, List, [], ◌∷◌, ◌++◌, length, map, Option, Some, None, slice_get, refl}
+use Rattle.std.specs.Prelude.{ℕ, Bool, true, ◌≡◌, ◌≤◌, ◌^◌, List, [], ◌∷◌, ◌++◌, length, map, Option, Some, None, slice_get, refl}
 use Rattle.std.specs.Option.{option_map}
-use Rattle.std.proofs.Common.{ap, sym, subst, ◌∙◌, arith, append-nil, length-append}
+use Rattle.std.proofs.Common.{ap, sym, subst, ◌∙◌, arith, length-append}
 use Rattle.std.proofs.lemmas.List.{length-reverse}
 use Rattle.std.proofs.lemmas.List.Elements.{recursion_from_All, All-from_recursion}
 use Rattle.std.proofs.lemmas.Option.{slice_get_within}
@@ -9,7 +9,7 @@ use Rattle.fof_terms.specs.Vocabulary.{Vocabulary}
 use Rattle.fof_terms.specs.declared.term.Term.{Term, Var}
 use Rattle.fof_terms.specs.Lift.{lifted_term}
 use Rattle.fof_terms.specs.Sorts.{sort_of_term}
-use Rattle.fof_terms.specs.Walks.{lifted_sort, staying_term}
+use Rattle.fof_terms.specs.Walks.{lifted_sort}
 use Rattle.clause_form.specs.declared.clause.Lit.{Lit}
 use Rattle.clause_form.specs.declared.clause.Clause.{Clause}
 use Rattle.clause_form.specs.ClauseLaws.{get_image, images_then, sorted_more}
@@ -19,16 +19,14 @@ use Rattle.unify_terms.specs.declared.pair.Pair.{Pair}
 use Rattle.unify_terms.specs.Substitution.{image_at, instance, IsSubstitution}
 use Rattle.unify_terms.specs.Unifiers.{Unified, Unifies, IsMostGeneral, AreSorted as ArePairsSorted}
 use Rattle.clause_rules.specs.declared.joint.Joint.{Joint}
-use Rattle.clause_rules.specs.declared.rewrite_rule.Rewriting.{Rewriting}
 use Rattle.clause_rules.specs.JointClauses.{IsJoinedOne}
 use Rattle.clause_rules.specs.RewriteRule.{AreLitsRewritten, Rewrites, StandsIn}
-use Rattle.clause_rules.specs.RewriteSearch.{NoRewriting, IsRewriting, SettlesRewriting}
+use Rattle.clause_rules.specs.RewriteSearch.{IsRewriting, SettlesRewriting}
 use Rattle.clause_rules.specs.Settled.{IsFit, Settles}
-use Rattle.clause_rules.specs.Steps.{equation, scope_of_both, images_of_parents, IsJoint}
+use Rattle.clause_rules.specs.Steps.{equation, images_of_parents, IsJoint}
 use Rattle.clause_rules.specs.Ways.{pair_of}
-use Rattle.clause_rules.proofs.Equations.{equation_image, equation_parts, same_sides}
+use Rattle.clause_rules.proofs.Equations.{equation_parts, same_sides}
 use Rattle.clause_rules.proofs.Factoring.{equation_fits}
-use Rattle.clause_rules.proofs.Firsts.{one_at}
 use Rattle.clause_rules.proofs.JointImages.{made, made_joint, made_agrees, parents_images, sorted_further}
 use Rattle.clause_rules.proofs.LitImages.{imaging, instance_is, image_itself}
 use Rattle.clause_rules.proofs.Named.{named_image}
@@ -161,11 +159,11 @@ module _ (v : Vocabulary) (into by line : Clause) (into_fit : IsFit v into) (by_
             same = λ k q e. g.instances k (slice_get_within sorts k q e) ∙ instance_is g.by (image_at images k);
           } in
           let right : image r h.right ≡ f (instance images r') =
-              ap (image r) sides.1 ∙ sym (agrees shape.r l_found.0 r_sort) ∙ ap (image (image_at other)) shape.right
-              ∙ image_agrees v sorts (image_at other) (λ k. image (image_at g.by) (image_at images k)) agree r' l_found.0 right_sort ∙ sym (image_image (image_at g.by) (image_at images) r') ∙ ap f (sym (instance_is images r')) in
+          ap (image r) sides.1 ∙ sym (agrees shape.r l_found.0 r_sort) ∙ ap (image (image_at other)) shape.right
+          ∙ image_agrees v sorts (image_at other) (λ k. image (image_at g.by) (image_at images k)) agree r' l_found.0 right_sort ∙ sym (image_image (image_at g.by) (image_at images) r') ∙ ap f (sym (instance_is images r')) in
           let fixes : (k q : ℕ) → slice_get (scope_of into) k ≡ Some q → f (Var k) ≡ Var k = λ k q e. image-Var (image_at g.by) k ∙ fixed (scope_of into ++ further) g.by g.is_substitution k q e in
           let same : h.rewritten ≡ map (lit_image (image_at g.by)) lits =
-              lits_same v (scope_of into) target (instance images r') (image r h.right) f (imaging (image_at g.by)) right fixes into.lits lits h.rewritten (recursion_from_All (λ (k : Lit). is_sorted_atom v (scope_of into) k.atom ≡ true) into.lits into_fit.sorted.fits) replaced h.all_rewritten in
+          lits_same v (scope_of into) target (instance images r') (image r h.right) f (imaging (image_at g.by)) right fixes into.lits lits h.rewritten (recursion_from_All (λ (k : Lit). is_sorted_atom v (scope_of into) k.atom ≡ true) into.lits into_fit.sorted.fits) replaced h.all_rewritten in
           none more (λ k. image s (image_at g.by k)) (record {
             images = images_then v sorts (scope_of into ++ further) (scope_of line ++ more) (image_at g.by) s (sub_images (scope_of into ++ further) g.by g.is_substitution) h.covers.images;
             covered = λ i k e. subst (IsCovered line.lits) (named_image s (image_at g.by) k) (h.covers.covered i (lit_image (image_at g.by) k) (ap (λ (ks : List Lit). slice_get ks i) same ∙ get_image (image_at g.by) lits i k e));
