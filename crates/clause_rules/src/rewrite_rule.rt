@@ -108,11 +108,7 @@ fn at_site(
 }
 
 // The justification at this place with this equation.
-fn justified(
-    site: &Site,
-    reading: &Reading,
-    rewriting: Rewriting,
-) -> Result<Option<Just>, Memory>
+fn justified(site: &Site, reading: &Reading, rewriting: Rewriting) -> Result<Option<Just>, Memory>
     ensures { IfOk result (λ just. just ≡ Some (Rewrite site.now.clause reading.now.clause rewriting.target reading.now.flipped rewriting.by_subst rewriting.subst)) }
 {
     let Rewriting {
