@@ -1,15 +1,14 @@
 -- The rules in the order in which they are tried.
-use Rattle.std.specs.Prelude.{ℕ, ◌≡◌, ◌+◌, ◌<◌, List, Option, Some, None, Result, IfOk, refl}
+use Rattle.std.specs.Prelude.{ℕ, ◌≡◌, ◌+◌, ◌<◌, List, Option, Some, None, refl}
 use Rattle.std.proofs.Common.{ap, sym, subst, ◌∙◌, arith, zero, suc, inl, inr}
 use Rattle.fof_terms.specs.Laws.{below_or_above}
 use Rattle.fof_terms.specs.Vocabulary.{Vocabulary}
 use Rattle.fof_terms.specs.declared.form.Form.{Form}
 use Rattle.clause_form.specs.declared.path.Parent.{Parent}
 use Rattle.clause_rules.specs.declared.just.Just.{Just}
-use Rattle.clause_rules.specs.Answers.{Rule, norm, cover, tautology, resolution, paramodulation, eqfactor, rewrite, rule_of, Holds, IsAnswer, place_of, IsFirst}
-use Rattle.clause_rules.proofs.Firsts.{ok_map}
+use Rattle.clause_rules.specs.Answers.{Rule, norm, cover, tautology, resolution, paramodulation, eqfactor, rewrite, Holds, IsAnswer, place_of, IsFirst}
 
-rule_at : ℕ → Rule
+abbrev rule_at : ℕ → Rule
 rule_at zero = norm
 rule_at (suc zero) = cover
 rule_at (suc (suc zero)) = tautology
@@ -45,7 +44,7 @@ module _ (v : Vocabulary) (parents : List Parent) (line : Form) where
 
   -- one rule more that does not hold
   pub extend : (r : Rule) (found : Option Just) → found ≡ None → IsAnswer v parents line r found → Below (place_of r) → Below (place_of r + 1)
-  extend r None e no_ below rule h holds =
+  extend r None e no_ below = λ rule h holds.
       elim (below_or_above (place_of rule) (place_of r)) [
         | inl lt ↦ below rule lt holds
         | inr le ↦

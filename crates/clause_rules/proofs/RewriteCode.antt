@@ -1,7 +1,6 @@
 -- The search for a rewriting, as code makes it.
-use Rattle.std.specs.Prelude.{ℕ, Bool, true, false, ◌≡◌, ◌+◌, ◌<◌, ◌≤◌, ◌^◌, List, [], ◌∷◌, ◌++◌, length, map, Option, Some, None, Result, IfOk, slice_get, refl}
+use Rattle.std.specs.Prelude.{ℕ, Bool, true, false, ◌≡◌, ◌<◌, ◌≤◌, ◌^◌, List, [], ◌++◌, length, map, Option, Some, None, Result, IfOk, slice_get, refl}
 use Rattle.std.specs.List.{All as Each}
-use Rattle.std.specs.Option.{option_map}
 use Rattle.std.proofs.Common.{ap, sym, subst, ◌∙◌, arith, append_assoc, length-append}
 use Rattle.std.proofs.lemmas.List.{length-reverse}
 use Rattle.std.proofs.lemmas.List.Elements.{All-weaker}
@@ -22,8 +21,8 @@ use Rattle.unify_terms.specs.declared.goal.Goal.{Goal}
 use Rattle.unify_terms.specs.declared.pair.Pair.{Pair}
 use Rattle.unify_terms.specs.declared.scope.Scope.{Scope}
 use Rattle.unify_terms.specs.Goals.{goal_sorted}
-use Rattle.unify_terms.specs.Substitution.{image_at, instance}
-use Rattle.unify_terms.specs.Unifiers.{Unified, IsMostGeneral}
+use Rattle.unify_terms.specs.Substitution.{image_at}
+use Rattle.unify_terms.specs.Unifiers.{Unified}
 use Rattle.clause_rules.specs.declared.joint.Joint.{Joint}
 use Rattle.clause_rules.specs.declared.just.Just.{Just}
 use Rattle.clause_rules.specs.declared.just.Just.TheVariants.{Rewrite}
@@ -33,7 +32,6 @@ use Rattle.clause_rules.specs.declared.sites.Site.{Site}
 use Rattle.clause_rules.specs.Answers.{IsAnswer, rewrite, rule_of}
 use Rattle.clause_rules.specs.JointClauses.{IsJoinedOne}
 use Rattle.clause_rules.specs.Justified.{Shows}
-use Rattle.clause_rules.specs.ParamodulationRule.{HasPlace}
 use Rattle.clause_rules.specs.ParamodulationSearch.{HasEquation, heads_match, sites_from, readings_from}
 use Rattle.clause_rules.specs.Places.{lit_term_at}
 use Rattle.clause_rules.specs.Reach.{atom_reach}

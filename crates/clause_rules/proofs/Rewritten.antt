@@ -1,13 +1,12 @@
 -- What it is to replace each occurrence of a term.
-use Rattle.std.specs.Prelude.{ℕ, Bool, true, ◌≡◌, ◌≢◌, ◌+◌, ◌<◌, List, [], ◌∷◌, ◌++◌, length, map, take, get_or, slice_get, Option, Some, None, refl}
+use Rattle.std.specs.Prelude.{ℕ, true, ◌≡◌, ◌≢◌, ◌+◌, ◌<◌, List, [], ◌∷◌, ◌++◌, length, map, take, get_or, slice_get, Option, Some, refl}
 use Rattle.std.specs.List.{AllByRecursion}
-use Rattle.std.proofs.Common.{ap, sym, subst, ◌∙◌, arith, zero, suc, inl, inr, ◌⊎◌, add-one}
+use Rattle.std.proofs.Common.{ap, sym, subst, ◌∙◌, inl, inr, ◌⊎◌, add-one}
 use Rattle.fof_terms.specs.Vocabulary.{Vocabulary}
 use Rattle.fof_terms.specs.Induction.{term_induction}
 use Rattle.fof_terms.specs.Laws.{applied_found}
 use Rattle.fof_terms.specs.Walks.{TermWalk}
 use Rattle.fof_terms.specs.Sorts.{applied, holds_of, one_sort, sort_of_term, sort_of_term-Var, sort_of_term-App}
-use Rattle.fof_terms.specs.Trees.{fold-Var}
 use Rattle.fof_terms.specs.declared.term.Term.{Term, Var, App}
 use Rattle.fof_terms.specs.declared.term.Term.TheOpen as term
 use Rattle.fof_terms.specs.declared.term.Term.TheViews.{out-Term, outs-Var, outs-App}
@@ -17,7 +16,7 @@ use Rattle.clause_form.specs.declared.clause.Lit.{Lit}
 use Rattle.clause_form.specs.Covers.{at_terms, in_lit, is_sorted_atom}
 use Rattle.clause_rules.specs.RewriteRule.{IsRewritten, AreRewritten, IsAtomRewritten, AreLitsRewritten, all_of_it, a_variable, inside, none, more}
 use Rattle.clause_rules.proofs.NeedSorts.{Found, Fits, sorted_fits}
-use Rattle.clause_rules.proofs.Opened.{taken_snoc, take_all}
+use Rattle.clause_rules.proofs.Opened.{taken_snoc}
 
 -- the three ways
 abbrev pub Ways : Term → Term → Term → Term → Type 0

@@ -1,7 +1,7 @@
 -- The search for a rewriting of one term with one equation.
-use Rattle.std.specs.Prelude.{ℕ, Bool, true, ◌≡◌, ◌+◌, ◌<◌, ◌≤◌, ◌^◌, List, [], ◌∷◌, ◌++◌, length, map, Option, Some, None, slice_get, refl}
+use Rattle.std.specs.Prelude.{ℕ, Bool, true, ◌≡◌, ◌≤◌, ◌^◌, List, [], ◌∷◌, ◌++◌, length, map, Option, Some, None, slice_get, refl}
 use Rattle.std.specs.Option.{option_map}
-use Rattle.std.proofs.Common.{ap, sym, subst, ◌∙◌, arith, append-nil, length-append}
+use Rattle.std.proofs.Common.{ap, sym, subst, ◌∙◌, arith, length-append}
 use Rattle.std.proofs.lemmas.List.{length-reverse}
 use Rattle.std.proofs.lemmas.List.Elements.{recursion_from_All, All-from_recursion}
 use Rattle.std.proofs.lemmas.Option.{slice_get_within}
@@ -9,7 +9,7 @@ use Rattle.fof_terms.specs.Vocabulary.{Vocabulary}
 use Rattle.fof_terms.specs.declared.term.Term.{Term, Var}
 use Rattle.fof_terms.specs.Lift.{lifted_term}
 use Rattle.fof_terms.specs.Sorts.{sort_of_term}
-use Rattle.fof_terms.specs.Walks.{lifted_sort, staying_term}
+use Rattle.fof_terms.specs.Walks.{lifted_sort}
 use Rattle.clause_form.specs.declared.clause.Lit.{Lit}
 use Rattle.clause_form.specs.declared.clause.Clause.{Clause}
 use Rattle.clause_form.specs.ClauseLaws.{get_image, images_then, sorted_more}
@@ -19,16 +19,14 @@ use Rattle.unify_terms.specs.declared.pair.Pair.{Pair}
 use Rattle.unify_terms.specs.Substitution.{image_at, instance, IsSubstitution}
 use Rattle.unify_terms.specs.Unifiers.{Unified, Unifies, IsMostGeneral, AreSorted as ArePairsSorted}
 use Rattle.clause_rules.specs.declared.joint.Joint.{Joint}
-use Rattle.clause_rules.specs.declared.rewrite_rule.Rewriting.{Rewriting}
 use Rattle.clause_rules.specs.JointClauses.{IsJoinedOne}
 use Rattle.clause_rules.specs.RewriteRule.{AreLitsRewritten, Rewrites, StandsIn}
-use Rattle.clause_rules.specs.RewriteSearch.{NoRewriting, IsRewriting, SettlesRewriting}
+use Rattle.clause_rules.specs.RewriteSearch.{IsRewriting, SettlesRewriting}
 use Rattle.clause_rules.specs.Settled.{IsFit, Settles}
-use Rattle.clause_rules.specs.Steps.{equation, scope_of_both, images_of_parents, IsJoint}
+use Rattle.clause_rules.specs.Steps.{equation, images_of_parents, IsJoint}
 use Rattle.clause_rules.specs.Ways.{pair_of}
-use Rattle.clause_rules.proofs.Equations.{equation_image, equation_parts, same_sides}
+use Rattle.clause_rules.proofs.Equations.{equation_parts, same_sides}
 use Rattle.clause_rules.proofs.Factoring.{equation_fits}
-use Rattle.clause_rules.proofs.Firsts.{one_at}
 use Rattle.clause_rules.proofs.JointImages.{made, made_joint, made_agrees, parents_images, sorted_further}
 use Rattle.clause_rules.proofs.LitImages.{imaging, instance_is, image_itself}
 use Rattle.clause_rules.proofs.Named.{named_image}

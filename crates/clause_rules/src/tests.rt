@@ -138,8 +138,8 @@ fn joined(alloc: Global, forms: &mut List<Boxed<Form>>) -> Result<Boxed<Form>, M
     Ok(Boxed::new(alloc, Form::Or(members))?)
 }
 
-// Which of the rules gives the last formula of the row from the others: N, C, T, R, P and E stand for norm,
-// cover, tautology, resolution, paramodulation and eqfactor.
+// Which of the rules gives the last formula of the row from the others: N, C, T, R, P, E and W stand for norm,
+// cover, tautology, resolution, paramodulation, eqfactor and rewrite. An X says that another rule is recognised first.
 fn rules(alloc: Global, row: &str) -> Result<List<u8>, Memory> {
     let sig = signature(alloc)?;
     let mut parents = List::new(alloc);
@@ -171,7 +171,26 @@ fn rules(alloc: Global, row: &str) -> Result<List<u8>, Memory> {
     if eqfactor_step(alloc, &sig, parents, &line)?.is_some() {
         found.push(b'E')?;
     }
+    if rewrite_step(alloc, &sig, parents, &line)?.is_some() {
+        found.push(b'W')?;
+    }
+    let first = recognise(alloc, &sig, parents, &line)?.as_ref().map(letter);
+    if first != found.get(0).copied() {
+        found.push(b'X')?;
+    }
     Ok(found)
+}
+
+fn letter(just: &Just) -> u8 {
+    match just {
+        Just::Norm { .. } => b'N',
+        Just::Cover { .. } => b'C',
+        Just::Tautology => b'T',
+        Just::Resolution { .. } => b'R',
+        Just::Paramodulation { .. } => b'P',
+        Just::EqFactor { .. } => b'E',
+        Just::Rewrite { .. } => b'W',
+    }
 }
 
 #[test]
@@ -197,11 +216,11 @@ fn steps(rt: HostRuntime) -> Result<(), Fail> {
         ("", "00s! 00fs~! F"),
         ("R", "00fs! 01s~10s|!! 0f0s!"),
         ("", "0f0s! 01s~01s|!! 00fs!"),
-        ("P", "cfb= cfp bp"),
-        ("P", "bcf= cfp bp"),
-        ("P", "0fa=! bfcfs acfs"),
-        ("P", "0fa=! bfcfs bfas"),
-        ("", "0fa=! bfbfs aas"),
+        ("PW", "cfb= cfp bp"),
+        ("PW", "bcf= cfp bp"),
+        ("PW", "0fa=! bfcfs acfs"),
+        ("PW", "0fa=! bfcfs bfas"),
+        ("W", "0fa=! bfbfs aas"),
         ("P", "ab=cp| aq bqcp|"),
         ("", "ab=cp| aq bq"),
         ("", "ab=~ ap bp"),

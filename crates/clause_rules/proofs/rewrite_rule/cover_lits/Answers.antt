@@ -2,7 +2,6 @@ use Rattle.std.proofs.Common.{ap, ◌∙◌, arith}
 use Rattle.clause_form.specs.Covers.{scope_of}
 use Rattle.clause_rules.specs.Steps.{scope_of_both}
 use Rattle.clause_form.specs.Covers.{lit_apart}
-use Rattle.clause_form.specs.declared.clause.Lit.{Lit}
 use Rattle.std.proofs.Common.{map}
 use Rattle.clause_rules.proofs.CoverEnds.{covering_asks}
 use Rattle.clause_rules.proofs.Firsts.{ok_map}
