@@ -9,8 +9,7 @@ const PROBLEM: (&str, &str) = ("pq.p", "cnf(a,axiom,p).\ncnf(b,axiom,~ p).\n");
 
 const PROOF: &str = "cnf(c,plain,$false,inference(res,[status(thm)],[a,b])).\n";
 
-const VERIFIED: &str =
-    "c ok resolution\n% SZS status Unsatisfiable for pq.p\nverified: 1 lines\n";
+const VERIFIED: &str = "c ok resolution\n% SZS status Unsatisfiable for pq.p\nverified: 1 lines\n";
 
 fn store(alloc: Global, files: &[(&str, &str)]) -> Result<List<(Text, Text)>, AllocError> {
     let mut list = List::new(alloc);
@@ -67,8 +66,16 @@ fn derivations_of_two_clauses(rt: HostRuntime) -> Result<(), Fail> {
             3,
             "u.s:2:2: in c: second line of this name\n",
         ),
-        ("include('pq.p').\n", 3, "u.s:1:1: include in a derivation\n"),
-        ("cnf(c,plain,\n p @ q,a).\n", 3, "u.s:2:4: no token begins here\n"),
+        (
+            "include('pq.p').\n",
+            3,
+            "u.s:1:1: include in a derivation\n",
+        ),
+        (
+            "cnf(c,plain,\n p @ q,a).\n",
+            3,
+            "u.s:2:4: no token begins here\n",
+        ),
         ("cnf(c,plain,p,a)", 3, "u.s:1:17: unexpected end\n"),
         (
             "fof(c,plain,p(X),a).\n",
@@ -111,8 +118,10 @@ const SOCRATES: (&str, &str) = (
     "fof(a1,axiom,! [X] : ( man(X) => mortal(X) )).\nfof(a2,axiom,man(socrates)).\nfof(goal,conjecture,mortal(socrates)).\n",
 );
 
-const CONTRADICTION: (&str, &str) =
-    ("x.p", "fof(a,axiom,p).\nfof(b,axiom,~ p).\nfof(g,conjecture,q).\n");
+const CONTRADICTION: (&str, &str) = (
+    "x.p",
+    "fof(a,axiom,p).\nfof(b,axiom,~ p).\nfof(g,conjecture,q).\n",
+);
 
 const NESTED: (&str, &str) = ("x.p", "fof(a,axiom,(p | q) | r).\n");
 
@@ -184,7 +193,15 @@ fn includes_and_limits_reach_it(rt: HostRuntime) -> Result<(), Fail> {
     let said = "pq.p: no such file\n";
     assert!(rt; prints(alloc, "verify top.p u.s", &files, 3, said)?);
     assert!(rt; prints(alloc, "verify no.p u.s", &files, 3, "no.p: no such file\n")?);
-    assert!(rt; prints(alloc, "verify /t/pq.p no.s", &files, 3, "no.s: no such file\n")?);
+    assert!(rt;
+        prints(
+            alloc,
+            "verify /t/pq.p no.s",
+            &files,
+            3,
+            "no.s: no such file\n"
+        )?
+    );
     Ok(())
 }
 
