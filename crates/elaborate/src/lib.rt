@@ -21,6 +21,3 @@ mod turning;
 pub use answer::{Reason, Rule, StepAnswer};
 pub use leaves::leaf;
 pub use steps::step;
-
-#[cfg(test)]
-mod tests;

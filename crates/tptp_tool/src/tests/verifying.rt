@@ -257,3 +257,36 @@ fn its_log_is_checked(rt: HostRuntime) -> Result<(), Fail> {
     assert_eq!(rt; out.bytes(), b"refuted: 2 entries\n".as_slice());
     Ok(())
 }
+
+#[test]
+fn rules_of_clauses(rt: HostRuntime) -> Result<(), Fail> {
+    for (clauses, line, printed) in [
+        (
+            "cnf(a1,axiom,p(X) | q(X,c) | q(c,X) | a = b).\ncnf(a2,axiom,~ p(c)).\n",
+            "cnf(r,plain,q(c,c) | b = a,inference(r,[],[a1,a2])).\n",
+            "r ok resolution\nnot verified: no line is $false\n",
+        ),
+        (
+            "cnf(a1,axiom,f(X) = a | f(b) = c).\n",
+            "cnf(r,plain,a != c | f(b) = c,inference(r,[],[a1])).\n",
+            "r ok eqfactor\nnot verified: no line is $false\n",
+        ),
+        (
+            "cnf(a1,axiom,p(X,X)).\ncnf(a2,axiom,~ p(Y,f(Y))).\n",
+            "cnf(r,plain,$false,inference(r,[],[a1,a2])).\n",
+            "r unverified not-yet\nnot verified: 1 unverified, 0 skipped of 1 lines\n",
+        ),
+        (
+            "cnf(a1,axiom,p(X,X)).\n",
+            "cnf(t,plain,p | ~ p,introduced(tautology,[])).\n",
+            "t ok tautology\nnot verified: no line is $false\n",
+        ),
+    ] {
+        let files = [("x.p", clauses), ("u.s", line)];
+        assert!(rt;
+            prints(rt.alloc(), "verify x.p u.s", &files, 1, printed)?,
+            "{line}"
+        );
+    }
+    Ok(())
+}
