@@ -224,6 +224,7 @@ fn answered(alloc: Global, theory: &Theory, line: &Form, asked: Asked) -> Result
 fn letter(rule: Rule) -> u8 {
     match rule {
         Rule::Norm => b'N',
+        Rule::Cover => b'C',
         Rule::Tautology => b'T',
         Rule::Resolution => b'R',
         Rule::EqFactor => b'E',
@@ -234,6 +235,8 @@ fn letter(rule: Rule) -> u8 {
 fn steps(rt: HostRuntime) -> Result<(), Fail> {
     for (want, row) in [
         (b'N', "aq ap~~ ap"),
+        (b'C', "0p1p|!! ap"),
+        (b'C', "aq 0paa=~|! apaq|"),
         (b'T', "aqap|ap~|"),
         (b'T', "ab=ba=~|"),
         (b'R', "ap ap~ F"),
@@ -253,6 +256,7 @@ fn leaves(rt: HostRuntime) -> Result<(), Fail> {
     for (want, row, asked) in [
         (b'N', "aq ap~~ ap", Asked::Leaf),
         (b'N', "ap~~ ap", Asked::Cited),
+        (b'C', "aq 0p! ap", Asked::Leaf),
         (b'.', "ap aq", Asked::Leaf),
         (b'-', "ap aq", Asked::Cited),
     ] {
