@@ -1,12 +1,11 @@
 -- Instances of the clauses of a theory.
-use Rattle.std.specs.Prelude.{ℕ, ◌≡◌, Bool, List, [], ◌∷◌, length, map, reverse, Some, slice_get, refl}
+use Rattle.std.specs.Prelude.{ℕ, ◌≡◌, List, length, map, reverse, refl}
 use Rattle.std.proofs.Common.{ap, sym, subst, ◌∙◌}
-use Rattle.std.proofs.lemmas.List.{reverse-append, length-reverse, reverse-reverse}
+use Rattle.std.proofs.lemmas.List.{length-reverse, reverse-reverse}
 use Rattle.fof_terms.specs.declared.term.Term.{Term}
 use Rattle.fof_terms.specs.declared.form.Form.{Form}
 use Rattle.fof_terms.specs.Vocabulary.{Vocabulary}
 use Rattle.fof_terms.specs.Walks.{same_terms}
-use Rattle.fof_terms.specs.Scoped.{Sorted}
 use Rattle.clause_form.specs.declared.clause.Lit.{Lit}
 use Rattle.clause_form.specs.ClauseView.{closed_by}
 use Rattle.clause_form.specs.Covers.{lit_image}
@@ -22,7 +21,7 @@ use Rattle.elaborate.specs.declared.opening.Opened.{Opened}
 use Rattle.elaborate.specs.declared.premises.Premise.{Premise}
 use Rattle.elaborate.specs.Bodies.{body_of}
 use Rattle.elaborate.specs.Refuting.{theory_of, ShowsBody}
-use Rattle.elaborate.specs.Premises.{IsSource, IsPremiseOf}
+use Rattle.elaborate.specs.Premises.{IsSource, IsPremiseOf, IsShown, IsPremiseBy}
 use Rattle.elaborate.proofs.Peeling.{imaging, instance_shown}
 
 pub applied_image : (s : ℕ → Term) (t : Term) → applied s t ≡ image s t
@@ -32,18 +31,31 @@ applied_image s = same_terms (applied s) (image s) (applying s) (imaging s) (λ 
 abbrev pub Builds : List Term → Proof → Proof → Type 0
 Builds terms p made = (t : Statements) (v : List ℕ) (h : List Form) (a b : Form) → IsInstance t.vocabulary v a terms b → Proves t v h p a → Proves t v h made b
 
-pub source_shown : (number : ℕ) (o : Opened) (images terms : List Term) (lits : List Lit) (p made : Proof) → terms ≡ reverse images → lits ≡ map (lit_image (image_at images)) o.clause.lits → p ≡ Line number → Builds terms p made
-    → (w : Vocabulary) (v : List ℕ) (formulas : List Form) → IsSource w v formulas number o images → ShowsBody w v formulas o.is_or lits made
-source_shown number o images terms lits p made back is own build w v formulas src h =
+instance_body : (own : Proof) (o : Opened) (images terms : List Term) (lits : List Lit) (p made : Proof) → terms ≡ reverse images → lits ≡ map (lit_image (image_at images)) o.clause.lits → p ≡ own → Builds terms p made
+    → (w : Vocabulary) (v : List ℕ) (formulas : List Form) → IsShown w v formulas own o images → ShowsBody w v formulas o.is_or lits made
+instance_body own o images terms lits p made back is same build w v formulas src h =
     let t = theory_of w formulas in
     let whole : Form = closed_by o.clause.sorts (body_of o.is_or o.clause.lits) in
-    let form : src.form ≡ whole = src.has.is in
-    let line : Proves t v h p whole = subst (λ (q : Proof). Proves t v h q whole) (sym own) (by_line t v h number whole (subst (Sorted w v) form src.form_sorted) (src.there ∙ ap Some form)) in
+    let shown : Proves t v h p whole = subst (λ (q : Proof). Proves t v h q whole) (sym same) (subst (λ (a : Form). Proves t v h own a) src.has.is (src.shows h)) in
     let twice : images ≡ reverse terms = sym (ap reverse back ∙ reverse-reverse images) in
     let size : length terms ≡ length o.clause.sorts = ap length back ∙ length-reverse images ∙ src.size in
     subst (λ (ls : List Lit). Proves t v h made (body_of o.is_or ls)) (sym is)
-    (instance_shown t v h o.clause.sorts o.is_or o.clause.lits terms images p made twice size src.images_sorted src.lits_sorted (λ a b i z. build t v h a b i z) line)
+    (instance_shown t v h o.clause.sorts o.is_or o.clause.lits terms images p made twice size src.images_sorted src.lits_sorted (λ a b i z. build t v h a b i z) shown)
 
-pub made_premise : (number : ℕ) (o : Opened) (images terms : List Term) (lits : List Lit) (p made : Proof) → terms ≡ reverse images → lits ≡ map (lit_image (image_at images)) o.clause.lits → p ≡ Line number → Builds terms p made
-    → IsPremiseOf number o images (record { is_or = o.is_or; lits = lits; part = made })
-made_premise number o images terms lits p made back is own build = record { is_or = refl; lits = is; shows = source_shown number o images terms lits p made back is own build }
+pub made_premise : (own : Proof) (o : Opened) (images terms : List Term) (lits : List Lit) (p made : Proof) → terms ≡ reverse images → lits ≡ map (lit_image (image_at images)) o.clause.lits → p ≡ own → Builds terms p made
+    → IsPremiseBy own o images (record { is_or = o.is_or; lits = lits; part = made })
+made_premise own o images terms lits p made back is same build = record { is_or = refl; lits = is; shows = instance_body own o images terms lits p made back is same build }
+
+-- where the part is the formula of that number
+source_shown : (w : Vocabulary) (v : List ℕ) (formulas : List Form) (number : ℕ) (own : Proof) (o : Opened) (images : List Term) → own ≡ Line number → IsSource w v formulas number o images → IsShown w v formulas own o images
+source_shown w v formulas number own o images is src = record {
+  form = src.form;
+  shows = λ h. subst (λ (q : Proof). Proves (theory_of w formulas) v h q src.form) (sym is) (by_line (theory_of w formulas) v h number src.form src.form_sorted src.there);
+  has = src.has;
+  size = src.size;
+  images_sorted = src.images_sorted;
+  lits_sorted = src.lits_sorted;
+}
+
+pub premise_of : (number : ℕ) (own : Proof) (o : Opened) (images : List Term) (p : Premise) → own ≡ Line number → IsPremiseBy own o images p → IsPremiseOf number o images p
+premise_of number own o images p is by = record { is_or = by.is_or; lits = by.lits; shows = λ w v formulas src. by.shows w v formulas (source_shown w v formulas number own o images is src) }

@@ -1,5 +1,6 @@
 pub mod BodySorts
 pub mod ClosedLines
+pub mod CoverLines
 pub mod CoveredLiterals
 pub mod Factors
 pub mod Instances

@@ -1,20 +1,20 @@
 -- From what is shown over the variables of a line and its parents to the line.
-use Rattle.std.specs.Prelude.{ℕ, ◌≡◌, ◌+◌, ◌<◌, ◌≤◌, Bool, true, false, not, List, [], ◌∷◌, ◌++◌, length, map, reverse, get_or, slice_get, Some, IsTrue, ◌↔◌, refl}
+use Rattle.std.specs.Prelude.{ℕ, ◌≡◌, ◌+◌, ◌<◌, ◌≤◌, Bool, false, List, [], ◌∷◌, ◌++◌, length, reverse, get_or, slice_get, Some, IsTrue, ◌↔◌, refl}
 use Rattle.std.specs.List.{AllByRecursion}
 use Rattle.std.proofs.Common.{ap, sym, subst, ◌∙◌, arith, append-nil, length-append, inl, inr}
 use Rattle.std.proofs.lemmas.List.{length-reverse}
-use Rattle.fof_terms.specs.declared.form.Form.{Form, Or, Not, All}
+use Rattle.fof_terms.specs.declared.form.Form.{Form, Or, Not}
 use Rattle.std.specs.Borrow.{Bor}
 use Rattle.fof_terms.specs.Vocabulary.{Vocabulary}
 use Rattle.fof_terms.specs.Scope.{scope_sorts, scope_sorts-Outside}
 use Rattle.fof_terms.specs.declared.sorting.Scope.{Outside}
 use Rattle.fof_terms.specs.Moved.{closed_anywhere}
 use Rattle.fof_terms.specs.Sorts.{binder_depth, binder_depth-All}
-use Rattle.fof_terms.specs.Scoped.{IsScope, SortedTo, Sorted}
+use Rattle.fof_terms.specs.Scoped.{IsScope, Sorted}
 use Rattle.clause_form.specs.declared.clause.Lit.{Lit}
 use Rattle.clause_form.specs.declared.clause.Clause.{Clause}
 use Rattle.clause_form.specs.ClauseView.{clause_of, closed_by, form_of_lit}
-use Rattle.clause_form.specs.Covers.{IsCovered, IsAbsurd, IsTrivial, IsSame, HasOne, AreComplementary, AreSorted, negated}
+use Rattle.clause_form.specs.Covers.{IsCovered, IsTrivial, AreSorted, negated}
 use Rattle.clause_rules.specs.Steps.{IsReady}
 use Rattle.kernel.specs.Statements.{Statements}
 use Rattle.kernel.specs.Proves.{Proves}
@@ -30,7 +30,7 @@ use Rattle.elaborate.proofs.TurnedSides.{no_then}
 use Rattle.elaborate.proofs.ClosedLines.{whole_shown}
 use Rattle.elaborate.proofs.NormLines.{full}
 
-closed_depth : (sorts : List ℕ) (a : Form) → length sorts ≤ binder_depth (closed_by sorts a)
+pub closed_depth : (sorts : List ℕ) (a : Form) → length sorts ≤ binder_depth (closed_by sorts a)
 closed_depth [] a = omega arith
 closed_depth (s ∷ sorts) a = rw binder_depth-All (omega (arith, closed_depth sorts a))
 

@@ -1,28 +1,31 @@
 -- What answers say, from what is shown.
-use Rattle.std.specs.Prelude.{ℕ, ◌≡◌, ◌<◌, Bool, true, false, List, [], ◌∷◌, map, slice_get, get_or, Option, Some, None, MatchOption, if◌then◌else◌, refl}
+use Rattle.std.specs.Prelude.{ℕ, ◌≡◌, ◌<◌, ◌≤◌, Bool, true, false, List, [], ◌∷◌, length, take, drop, slice_get, get_or, Option, Some, None, MatchOption, if◌then◌else◌, refl}
 use Rattle.std.specs.List.{All as Each, AllByRecursion}
-use Rattle.std.proofs.Common.{ap, sym, subst, ◌∙◌, inl, inr, zero, suc}
+use Rattle.std.proofs.Common.{ap, sym, subst, ◌∙◌, arith, inl, inr, zero, suc}
 use Rattle.std.proofs.lemmas.List.Elements.{recursion_from_All, All-from_recursion}
+use Rattle.std.proofs.lemmas.Option.{slice_get_within}
 use Rattle.fof_terms.specs.declared.form.Form.{Form}
 use Rattle.fof_terms.specs.Vocabulary.{Vocabulary}
 use Rattle.clause_form.specs.declared.path.Parent.{Parent}
-use Rattle.clause_rules.specs.NormRule.{HasLinesNorm, IsNormStep, IsFirstNorm, NormsAlike}
+use Rattle.clause_rules.specs.NormRule.{HasLinesNorm, IsNormStep, IsFirstNorm}
 use Rattle.kernel.specs.Statements.{Statements}
 use Rattle.kernel.specs.Proves.{Proves}
 use Rattle.kernel.specs.declared.proof.Proof.{Proof}
 use Rattle.kernel.specs.declared.entry.Entry.TheVariants.{Lemma}
 use Rattle.elaborate.specs.declared.answer.Rule.{Rule}
-use Rattle.elaborate.specs.declared.answer.Rule.TheVariants.{Norm}
+use Rattle.elaborate.specs.declared.answer.Rule.TheVariants.{Norm, Cover}
 use Rattle.elaborate.specs.declared.answer.Reason.{Reason}
 use Rattle.elaborate.specs.declared.answer.Reason.TheVariants.{NotYet, Leaf}
 use Rattle.elaborate.specs.declared.answer.StepAnswer.TheVariants.{Accepted, Unverified}
+use Rattle.clause_rules.specs.Steps.{AreReady, IsReady}
+use Rattle.elaborate.specs.declared.leaves.FromOne.{FromOne}
 use Rattle.elaborate.specs.declared.steps.Found.{Found}
-use Rattle.elaborate.specs.ByRule.{Holds, ByRule, GivesAlone, GivesNowhere, LeafRule, ByNoLeafRule}
-use Rattle.elaborate.specs.Derived.{AreOfTheory, HasCited, IsDerivedFrom}
+use Rattle.elaborate.specs.ByRule.{Holds, ByRule, GivesAlone, GivesFirst, GivesNowhere, LeafRule, ByNoLeafRule}
+use Rattle.elaborate.specs.Derived.{AreOfTheory, IsDerivedFrom}
 use Rattle.elaborate.specs.Answers.{IsStepAnswer, IsLeafAnswer, numbers_of}
-use Rattle.elaborate.specs.Proofs.{ShowsLine, IsByRule, IsFound}
+use Rattle.elaborate.specs.Proofs.{ShowsLine, IsByRule, IsFound, IsCoverAlone, IsFromFirst, IsFirstCover}
 use Rattle.elaborate.specs.Refuting.{theory_of}
-use Rattle.elaborate.proofs.NormLines.{norm_there, of_theory}
+use Rattle.elaborate.proofs.NormLines.{norm_there, of_theory, parent_at, parent_ready}
 
 module _ (t u : Statements) where
   abbrev Own : Parent → Type 0
@@ -84,8 +87,14 @@ module _ (v : Vocabulary) (candidates : List Parent) (line : Form) where
   leaf_rule i c at first =
       inl (refl, ((c, at, has_alone c candidates line i at first.0), λ j lt g. first.1 j lt (alone_has g.0 candidates line j g.1 g.2)))
 
-  pub no_leaf_rule : (IsNormStep candidates line → ⊥) → ByNoLeafRule v candidates line
-  no_leaf_rule none = (λ j g. none (j, alone_has g.0 candidates line j g.1 g.2), tt)
+  norm_nowhere : (IsNormStep candidates line → ⊥) → GivesNowhere v candidates line Norm
+  norm_nowhere none j g = none (j, alone_has g.0 candidates line j g.1 g.2)
+
+  pub no_leaf_rule : (IsNormStep candidates line → ⊥) → GivesNowhere v candidates line Cover → ByNoLeafRule v candidates line
+  no_leaf_rule none nowhere = (norm_nowhere none, (nowhere, tt))
+
+  pub cover_rule : (i : ℕ) → (IsNormStep candidates line → ⊥) → GivesFirst v candidates line Cover i → LeafRule v candidates line Cover i
+  cover_rule i none first = inr (norm_nowhere none, inl (refl, first))
 
 pub leaf_accepted : (t : Statements) (candidates : List Parent) (cited : Bool) (line : Form) (i : ℕ) (c : Parent) (p : Proof) → AreOfTheory t candidates → c ≡ get_or candidates i c → IsFirstNorm candidates line i
     → ((formulas : List Form) → slice_get formulas c.number ≡ Some c.form → Proves (theory_of t.vocabulary formulas) [] [] p line)
@@ -121,8 +130,62 @@ leaf_reason : (t : Statements) (candidates : List Parent) (cited : Bool) (line :
 leaf_reason t candidates true line none = (none, refl)
 leaf_reason t candidates false line none = (none, refl)
 
-pub leaf_unverified : (t : Statements) (candidates : List Parent) (cited : Bool) (line : Form) (o : Option ℕ) (r : Reason) → o ≡ None → r ≡ (if cited then NotYet else Leaf) → MatchOption o (IsNormStep candidates line → ⊥) (IsFirstNorm candidates line)
-    → IsLeafAnswer t candidates cited line (Unverified r)
-leaf_unverified t candidates cited line o r so is m =
-    let none : IsNormStep candidates line → ⊥ = subst (λ (x : Option ℕ). MatchOption x (IsNormStep candidates line → ⊥) (IsFirstNorm candidates line)) so m in
-    subst (λ (x : Reason). IsLeafAnswer t candidates cited line (Unverified x)) (sym is) (leaf_reason t candidates cited line (no_leaf_rule t.vocabulary candidates line none))
+pub leaf_unverified : (t : Statements) (w : Vocabulary) (candidates : List Parent) (cited : Bool) (line : Form) (o : Option FromOne) (r : Reason) → w ≡ t.vocabulary → o ≡ None → r ≡ (if cited then NotYet else Leaf) → (IsNormStep candidates line → ⊥)
+    → IsFirstCover w candidates line o → IsLeafAnswer t candidates cited line (Unverified r)
+leaf_unverified t w candidates cited line o r e so is none m =
+    let nowhere : GivesNowhere t.vocabulary candidates line Cover = subst (λ (x : Vocabulary). GivesNowhere x candidates line Cover) e (subst (IsFirstCover w candidates line) so m) in
+    subst (λ (x : Reason). IsLeafAnswer t candidates cited line (Unverified x)) (sym is) (leaf_reason t candidates cited line (no_leaf_rule t.vocabulary candidates line none nowhere))
+
+pub leaf_covered : (t : Statements) (w : Vocabulary) (candidates : List Parent) (cited : Bool) (line : Form) (o : Option FromOne) (from : FromOne) → w ≡ t.vocabulary → AreOfTheory t candidates → o ≡ Some from → (IsNormStep candidates line → ⊥)
+    → IsFirstCover w candidates line o → IsLeafAnswer t candidates cited line (Accepted Cover (from.number ∷ []) (Lemma from.proof ∷ []))
+leaf_covered t w candidates cited line o from e all so none m =
+    let f : IsFromFirst t.vocabulary candidates line Cover from = subst (λ (x : Vocabulary). IsFromFirst x candidates line Cover from) e (subst (IsFirstCover w candidates line) so m) in
+    let known = of_theory t candidates f.place f.candidate all f.there in
+    let own = derived t (f.candidate ∷ []) line from.proof (All-from_recursion (λ (q : Parent). slice_get t.formulas q.number ≡ Some q.form) (f.candidate ∷ []) (known, tt)) f.shows in (
+      f.place,
+      f.candidate,
+      f.there,
+      cover_rule t.vocabulary candidates line f.place none f.first,
+      ap (λ (n : ℕ). n ∷ []) f.number,
+      subst (λ (n : ℕ). IsDerivedFrom t (n ∷ []) (Lemma from.proof ∷ []) line) (sym f.number) own,
+    )
+
+pub not_normed : (candidates : List Parent) (line : Form) (o : Option ℕ) → o ≡ None → MatchOption o (IsNormStep candidates line → ⊥) (IsFirstNorm candidates line) → IsNormStep candidates line → ⊥
+not_normed candidates line o is m = subst (λ (x : Option ℕ). MatchOption x (IsNormStep candidates line → ⊥) (IsFirstNorm candidates line)) is m
+
+-- one candidate alone, as code takes it
+none_taken : (xs : List Parent) → take 0 xs ≡ []
+none_taken [] = refl
+none_taken (x ∷ xs) = refl
+
+one_taken : (xs : List Parent) (i : ℕ) → i < length xs → (c : Parent) × (slice_get xs i ≡ Some c) × (take 1 (drop i xs) ≡ c ∷ [])
+one_taken [] i lt = absurd (omega arith)
+one_taken (x ∷ xs) zero lt = (x, refl, ap (λ (ys : List Parent). x ∷ ys) (none_taken xs))
+one_taken (x ∷ xs) (suc i) lt = one_taken xs i (omega arith)
+
+module _ (w : Vocabulary) (candidates : List Parent) (line : Form) (i : ℕ) where
+  pub one_ready : i < length candidates → AreReady w candidates → AreReady w (take 1 (drop i candidates))
+  one_ready lt ready =
+      let k = one_taken candidates i lt in
+      subst (AreReady w) (sym k.2) (All-from_recursion (λ (q : Parent). IsReady w q.form) (k.0 ∷ []) (parent_ready w candidates i k.0 ready k.1, tt))
+
+  alone_of : (k : Parent) → slice_get candidates i ≡ Some k → (o : Option Proof) → IsByRule w (k ∷ []) line Cover o → IsCoverAlone w candidates line i o
+  alone_of k at None h = λ g. let same : g.0 ≡ k = alone_is g.0 k (sym g.1 ∙ at) in h (subst (λ (q : Parent). Holds w (q ∷ []) line Cover) same g.2)
+  alone_of k at (Some p) h = (k, at, h.0, h.1)
+
+  pub cover_alone_is : i < length candidates → (one : List Parent) (o : Option Proof) → one ≡ take 1 (drop i candidates) → IsByRule w one line Cover o → IsCoverAlone w candidates line i o
+  cover_alone_is lt one o is h =
+      let k = one_taken candidates i lt in
+      alone_of k.0 k.1 o (subst (λ (ps : List Parent). IsByRule w ps line Cover o) (is ∙ k.2) h)
+
+  pub not_alone : (o : Option Proof) → o ≡ None → IsCoverAlone w candidates line i o → GivesAlone w candidates line Cover i → ⊥
+  not_alone o is h = subst (IsCoverAlone w candidates line i) is h
+
+  pub from_first : (o : Option Proof) (p : Proof) (r : Parent) → o ≡ Some p → r ≡ get_or candidates i r → ((j : ℕ) → j < i → GivesAlone w candidates line Cover j → ⊥) → IsCoverAlone w candidates line i o
+      → IsFromFirst w candidates line Cover (record { number = (get_or candidates i r).number; proof = p })
+  from_first o p r is ri before h =
+      let a : IsCoverAlone w candidates line i (Some p) = subst (IsCoverAlone w candidates line i) is h in
+      record { place = i; candidate = a.0; there = a.1; number = ap (λ (q : Parent). q.number) (sym ri ∙ parent_at candidates i a.0 r a.1 ri); first = ((a.0, a.1, a.2), before); shows = a.3 }
+
+  pub not_anywhere : length candidates ≤ i → ((j : ℕ) → j < i → GivesAlone w candidates line Cover j → ⊥) → GivesNowhere w candidates line Cover
+  not_anywhere n none j g = let lt = slice_get_within candidates j g.0 g.1 in none j (omega arith) g

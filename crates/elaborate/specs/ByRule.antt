@@ -3,13 +3,14 @@ use Rattle.std.specs.Prelude.{ℕ, ◌≡◌, ◌<◌, ◌⊎◌, List, [], ◌�
 use Rattle.fof_terms.specs.declared.form.Form.{Form}
 use Rattle.fof_terms.specs.Vocabulary.{Vocabulary}
 use Rattle.clause_form.specs.declared.path.Parent.{Parent}
-use Rattle.clause_rules.specs.Answers.{Rule as Word, norm, tautology, resolution, eqfactor, Holds as Gives}
+use Rattle.clause_rules.specs.Answers.{Rule as Word, norm, cover, tautology, resolution, eqfactor, Holds as Gives}
 use Rattle.elaborate.specs.declared.answer.Rule.{Rule}
-use Rattle.elaborate.specs.declared.answer.Rule.TheVariants.{Norm, Tautology, Resolution, EqFactor}
+use Rattle.elaborate.specs.declared.answer.Rule.TheVariants.{Norm, Cover, Tautology, Resolution, EqFactor}
 
 -- the rule among those that are recognised by shape
 abbrev pub by_shape : Rule → Word
 by_shape Norm = norm
+by_shape Cover = cover
 by_shape Tautology = tautology
 by_shape Resolution = resolution
 by_shape EqFactor = eqfactor
@@ -20,7 +21,7 @@ Holds v parents line rule = Gives v parents line (by_shape rule)
 
 -- the rules of steps that are built, in the order in which they are tried
 abbrev pub rules : List Rule
-rules = Norm ∷ Tautology ∷ Resolution ∷ EqFactor ∷ []
+rules = Norm ∷ Cover ∷ Tautology ∷ Resolution ∷ EqFactor ∷ []
 
 -- the rule is the first of the list that gives the line
 abbrev pub IsFirst : List Rule → Vocabulary → List Parent → Form → Rule → Type 0
@@ -42,7 +43,7 @@ ByNone = IsNone rules
 
 -- the rules of leaves that are built, in the order in which they are tried
 abbrev pub leaf_rules : List Rule
-leaf_rules = Norm ∷ []
+leaf_rules = Norm ∷ Cover ∷ []
 
 -- the rule gives the line from the candidate of that number alone
 abbrev pub GivesAlone : Vocabulary → List Parent → Form → Rule → ℕ → Type 0

@@ -1,13 +1,15 @@
 -- What the proof of a line by a rule says.
-use Rattle.std.specs.Prelude.{ℕ, ◌≡◌, List, [], ◌∷◌, Option, Some, None}
+use Rattle.std.specs.Prelude.{ℕ, ◌≡◌, List, [], ◌∷◌, Option, Some, None, slice_get}
 use Rattle.fof_terms.specs.declared.form.Form.{Form}
 use Rattle.fof_terms.specs.Vocabulary.{Vocabulary}
 use Rattle.clause_form.specs.declared.path.Parent.{Parent}
 use Rattle.kernel.specs.Proves.{Proves}
 use Rattle.kernel.specs.declared.proof.Proof.{Proof}
 use Rattle.elaborate.specs.declared.answer.Rule.{Rule}
-use Rattle.elaborate.specs.ByRule.{Holds, ByRule, ByNone}
+use Rattle.elaborate.specs.ByRule.{Holds, ByRule, ByNone, GivesAlone, GivesFirst, GivesNowhere}
 use Rattle.clause_rules.specs.NormRule.{HasNorm}
+use Rattle.elaborate.specs.declared.answer.Rule.TheVariants.{Cover}
+use Rattle.elaborate.specs.declared.leaves.FromOne.{FromOne}
 use Rattle.elaborate.specs.declared.steps.Found.{Found}
 use Rattle.elaborate.specs.Derived.{AreOfTheory}
 use Rattle.elaborate.specs.Refuting.{theory_of}
@@ -35,3 +37,22 @@ pub record AreAlike (a b : Form) : Type 0 where
 abbrev pub IsFound : Vocabulary → List Parent → Form → Option Found → Type 0
 IsFound w parents line None = ByNone w parents line
 IsFound w parents line (Some found) = ByRule w parents line found.rule × ShowsLine w parents line found.proof
+
+-- `cover` gives the line from the candidate at this place alone, and the part shows it from that, or it does not
+abbrev pub IsCoverAlone : Vocabulary → List Parent → Form → ℕ → Option Proof → Type 0
+IsCoverAlone w candidates line i None = GivesAlone w candidates line Cover i → ⊥
+IsCoverAlone w candidates line i (Some p) = (c : Parent) × (slice_get candidates i ≡ Some c) × Holds w (c ∷ []) line Cover × ShowsLine w (c ∷ []) line p
+
+-- the rule gives the line from the candidate of this number alone and from none before it, and the part shows it from that
+pub record IsFromFirst (w : Vocabulary) (candidates : List Parent) (line : Form) (rule : Rule) (from : FromOne) : Type 0 where
+  pub place : ℕ
+  pub candidate : Parent
+  pub there : slice_get candidates place ≡ Some candidate
+  pub number : from.number ≡ candidate.number
+  pub first : GivesFirst w candidates line rule place
+  pub shows : ShowsLine w (candidate ∷ []) line from.proof
+
+-- the first candidate from which alone `cover` gives the line, or that there is none
+abbrev pub IsFirstCover : Vocabulary → List Parent → Form → Option FromOne → Type 0
+IsFirstCover w candidates line None = GivesNowhere w candidates line Cover
+IsFirstCover w candidates line (Some from) = IsFromFirst w candidates line Cover from

@@ -6,6 +6,8 @@ use tptp_base::List;
 pub enum Rule {
     /// `norm`: a parent has the line's normal form.
     Norm,
+    /// `cover`: the line covers a clause that some path reaches in the normal form of a parent.
+    Cover,
     /// `tautology`: the line is a clause that is true by its form.
     Tautology,
     /// `resolution`: two literals of two parents become complementary, and the line covers what else the two have.

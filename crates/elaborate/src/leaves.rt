@@ -1,19 +1,21 @@
-ghost use Rattle.std.specs.Prelude.{◌≡◌, [], ◌∷◌, if◌then◌else◌, IfOk};
+ghost use Rattle.std.specs.Prelude.{◌≡◌, ◌<◌, [], ◌∷◌, length, if◌then◌else◌, IfOk};
 ghost use Rattle.kernel.specs.declared.entry.Entry.TheVariants.{Lemma};
 ghost use Rattle.elaborate.specs.declared.answer.Reason.TheVariants.{NotYet, Leaf as Unnamed};
-ghost use Rattle.elaborate.specs.declared.answer.Rule.TheVariants.{Norm};
 ghost use Rattle.elaborate.specs.declared.answer.StepAnswer.TheVariants.{Accepted};
+ghost use Rattle.clause_rules.specs.NormRule.{IsNormStep};
 ghost use Rattle.clause_rules.specs.Steps.{AreReady, IsReady};
 ghost use Rattle.elaborate.specs.Derived.{AreOfTheory};
 ghost use Rattle.elaborate.specs.Answers.{IsLeafAnswer};
+ghost use Rattle.elaborate.specs.Proofs.{IsCoverAlone, IsFirstCover};
 
 use crate::answer::{Reason, Rule, StepAnswer};
+use crate::by_cover::by_cover;
 use crate::by_norm::normed;
 use crate::steps::lemma;
 use clause_form::Parent;
 use clause_rules::first_norm;
 use derive_kit::Part;
-use fof_terms::Form;
+use fof_terms::{Form, Signature};
 use kernel::Theory;
 use std::alloc::Global;
 use tptp_base::{List, Memory};
@@ -40,10 +42,76 @@ pub fn leaf(
         Some(at) => {
             let candidate = &candidates[at as usize];
             let proof = normed(alloc, theory.signature(), candidate, line)?;
-            accepted(alloc, candidate.number, proof)
+            accepted(alloc, Rule::Norm, candidate.number, proof)
+        }
+        None => covered_leaf(alloc, theory, candidates, cited, line),
+    }
+}
+
+// The answer to a leaf that `norm` gives from no candidate.
+fn covered_leaf(
+    alloc: Global,
+    theory: &Theory,
+    candidates: &[Parent],
+    cited: bool,
+    line: &Form,
+) -> Result<StepAnswer, Memory>
+    requires candidates { AreOfTheory theory.now candidates.now }
+    requires ready { AreReady theory.now.vocabulary candidates.now }
+    requires line { IsReady theory.now.vocabulary line.now }
+    requires no_norm { IsNormStep candidates.now line.now → ⊥ }
+    ensures { IfOk result (IsLeafAnswer theory.now candidates.now cited line.now) }
+{
+    match first_cover(alloc, theory.signature(), candidates, line)? {
+        Some(found) => {
+            let FromOne { number, proof } = found;
+            accepted(alloc, Rule::Cover, number, proof)
         }
         None => Ok(StepAnswer::Unverified(reason(cited))),
     }
+}
+
+/// The number of a candidate, and a proof of the line from that candidate alone.
+#[derive(Drop)]
+pub struct FromOne {
+    pub number: u64,
+    pub proof: Part,
+}
+
+// The first candidate from which alone `cover` gives the line, with a proof; None exactly where there is none.
+fn first_cover(
+    alloc: Global,
+    signature: &Signature,
+    candidates: &[Parent],
+    line: &Form,
+) -> Result<Option<FromOne>, Memory>
+    requires ready { AreReady signature.now candidates.now }
+    requires line { IsReady signature.now line.now }
+    ensures { IfOk result (IsFirstCover signature.now candidates.now line.now) }
+{
+    for at in 0..candidates.len() {
+        if let Some(proof) = cover_alone(alloc, signature, candidates, at, line)? {
+            let number = candidates[at].number;
+            return Ok(Some(FromOne { number, proof }));
+        }
+    }
+    Ok(None)
+}
+
+// A proof of the line by `cover` from the candidate at this place alone; None exactly where there is none.
+fn cover_alone(
+    alloc: Global,
+    signature: &Signature,
+    candidates: &[Parent],
+    at: usize,
+    line: &Form,
+) -> Result<Option<Part>, Memory>
+    requires at { at < length candidates.now }
+    requires ready { AreReady signature.now candidates.now }
+    requires line { IsReady signature.now line.now }
+    ensures { IfOk result (IsCoverAlone signature.now candidates.now line.now at) }
+{
+    by_cover(alloc, signature, &candidates[at..at + 1], line)
 }
 
 // Why a leaf that no rule gives isn't verified.
@@ -53,15 +121,15 @@ fn reason(cited: bool) -> Reason
     if cited { Reason::NotYet } else { Reason::Leaf }
 }
 
-// The answer that the leaf is accepted by `norm`, with the lemma of the proof as its only entry.
-fn accepted(alloc: Global, number: u64, proof: Part) -> Result<StepAnswer, Memory>
-    ensures { IfOk result (λ answer. answer ≡ Accepted Norm (number ∷ []) (Lemma proof ∷ [])) }
+// The answer that the leaf is accepted by the rule, with the lemma of the proof as its only entry.
+fn accepted(alloc: Global, rule: Rule, number: u64, proof: Part) -> Result<StepAnswer, Memory>
+    ensures { IfOk result (λ answer. answer ≡ Accepted rule (number ∷ []) (Lemma proof ∷ [])) }
 {
     let mut cites = List::new(alloc);
     cites.push(number)?;
     let entries = lemma(alloc, proof)?;
     Ok(StepAnswer::Accepted {
-        rule: Rule::Norm,
+        rule,
         cites,
         entries,
     })

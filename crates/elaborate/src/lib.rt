@@ -3,6 +3,7 @@
 #![tactic(auto)]
 
 mod answer;
+mod by_cover;
 mod by_eqfactor;
 mod by_norm;
 mod by_resolution;

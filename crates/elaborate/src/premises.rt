@@ -3,7 +3,7 @@ ghost use Rattle.std.specs.Prelude.{◌≡◌, ◌+◌, ◌≤◌, length, map, 
 ghost use Rattle.clause_form.specs.Covers.{at_terms, lit_image};
 ghost use Rattle.clause_form.specs.Images.{image};
 ghost use Rattle.unify_terms.specs.Substitution.{image_at};
-ghost use Rattle.elaborate.specs.Premises.{IsPremiseOf};
+ghost use Rattle.elaborate.specs.Premises.{IsPremiseBy, IsPremiseOf};
 
 use crate::nodes::line;
 use crate::opening::Opened;
@@ -95,6 +95,25 @@ fn reversed(alloc: Global, terms: List<Term>) -> Result<List<Term>, Memory>
     Ok(list)
 }
 
+/// The instance of the clause under the images of its variables, by a part that shows a formula that has it.
+pub fn instance_of_part(
+    alloc: Global,
+    own: Part,
+    opened: &Opened,
+    subst: Subst,
+) -> Result<Premise, Memory>
+    ensures { IfOk result (IsPremiseBy own opened.now subst) }
+{
+    let lits = images_of_lits(alloc, &subst, opened.clause.lits.as_slice())?;
+    let terms = reversed(alloc, subst.images)?;
+    let part = instance_of(alloc, own, terms)?;
+    Ok(Premise {
+        is_or: opened.is_or,
+        lits,
+        part,
+    })
+}
+
 /// The instance of the clause of that number under the images of its variables.
 pub fn instance_by(
     alloc: Global,
@@ -104,12 +123,5 @@ pub fn instance_by(
 ) -> Result<Premise, Memory>
     ensures { IfOk result (IsPremiseOf number opened.now subst) }
 {
-    let lits = images_of_lits(alloc, &subst, opened.clause.lits.as_slice())?;
-    let terms = reversed(alloc, subst.images)?;
-    let part = instance_of(alloc, line(alloc, number)?, terms)?;
-    Ok(Premise {
-        is_or: opened.is_or,
-        lits,
-        part,
-    })
+    instance_of_part(alloc, line(alloc, number)?, opened, subst)
 }

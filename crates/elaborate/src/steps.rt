@@ -7,6 +7,7 @@ ghost use Rattle.elaborate.specs.Answers.{IsStepAnswer, numbers_of};
 ghost use Rattle.elaborate.specs.Proofs.{IsFound};
 
 use crate::answer::{Reason, Rule, StepAnswer};
+use crate::by_cover::by_cover;
 use crate::by_eqfactor::by_eqfactor;
 use crate::by_norm::by_norm;
 use crate::by_resolution::by_resolution;
@@ -58,6 +59,9 @@ fn first_proof(
 {
     if let Some(proof) = by_norm(alloc, signature, parents, line)? {
         return Ok(by_rule(Rule::Norm, proof));
+    }
+    if let Some(proof) = by_cover(alloc, signature, parents, line)? {
+        return Ok(by_rule(Rule::Cover, proof));
     }
     if let Some(proof) = by_tautology(alloc, signature, parents, line)? {
         return Ok(by_rule(Rule::Tautology, proof));

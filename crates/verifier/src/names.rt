@@ -14,6 +14,7 @@ pub fn rule_name(rule: Rule) -> &'static [u8]
 {
     match rule {
         Rule::Norm => b"norm",
+        Rule::Cover => b"cover",
         Rule::Tautology => b"tautology",
         Rule::Resolution => b"resolution",
         Rule::EqFactor => b"eqfactor",

@@ -114,7 +114,7 @@ fn derivations_of_two_clauses(rt: HostRuntime) -> Result<(), Fail> {
 }
 
 const SOCRATES: (&str, &str) = (
-    "x.p",
+    "soc.p",
     "fof(a1,axiom,! [X] : ( man(X) => mortal(X) )).\nfof(a2,axiom,man(socrates)).\nfof(goal,conjecture,mortal(socrates)).\n",
 );
 
@@ -135,12 +135,6 @@ const DOUBLE: (&str, &str) = ("x.p", "fof(a,axiom,p).\nfof(goal,conjecture,~ p).
 #[test]
 fn other_derivations(rt: HostRuntime) -> Result<(), Fail> {
     for (problem, derivation, status, printed) in [
-        (
-            SOCRATES,
-            "# SZS status Theorem\n# SZS output start CNFRefutation\nfof(f1,axiom,(![X]:(man(X)=>mortal(X))),file('soc.p',a1)).\nfof(f2,axiom,man(socrates),file('soc.p',a2)).\nfof(f3,conjecture,mortal(socrates),file('soc.p',goal)).\nfof(f4,negated_conjecture,~mortal(socrates),inference(assume_negation,[status(cth)],[f3])).\ncnf(c1,plain,(mortal(X1)|~man(X1)),inference(split_conjunct,[status(thm)],[inference(fof_nnf,[status(thm)],[f1])])).\ncnf(c2,plain,(mortal(socrates)),inference(spm,[status(thm)],[c1,f2])).\ncnf(c3,negated_conjecture,($false),inference(cn,[status(thm)],[inference(rw,[status(thm)],[f4,c2])]),['proof']).\n# SZS output end CNFRefutation\n",
-            1,
-            "f1 ok norm\nf2 ok norm\nf3 ok norm\nf4 ok norm\nc1 unverified not-yet\nc2 skipped\nc3 skipped\nnot verified: 1 unverified, 2 skipped of 7 lines\n",
-        ),
         (
             CONTRADICTION,
             "% SZS status ContradictoryAxioms for con.p\ncnf(c,plain,$false,inference(res,[status(thm)],[a,b])).\n",
@@ -178,6 +172,23 @@ fn other_derivations(rt: HostRuntime) -> Result<(), Fail> {
             "{derivation}"
         );
     }
+    Ok(())
+}
+
+const SOCRATES_PROOF: &str = "# SZS status Theorem\n# SZS output start CNFRefutation\nfof(f1,axiom,(![X]:(man(X)=>mortal(X))),file('soc.p',a1)).\nfof(f2,axiom,man(socrates),file('soc.p',a2)).\nfof(f3,conjecture,mortal(socrates),file('soc.p',goal)).\nfof(f4,negated_conjecture,~mortal(socrates),inference(assume_negation,[status(cth)],[f3])).\ncnf(c1,plain,(mortal(X1)|~man(X1)),inference(split_conjunct,[status(thm)],[inference(fof_nnf,[status(thm)],[f1])])).\ncnf(c2,plain,(mortal(socrates)),inference(spm,[status(thm)],[c1,f2])).\ncnf(c3,negated_conjecture,($false),inference(cn,[status(thm)],[inference(rw,[status(thm)],[f4,c2])]),['proof']).\n# SZS output end CNFRefutation\n";
+
+const TWICE: (&str, &str) = ("twice.p", "cnf(a1,axiom,p(X) | p(Y)).\n");
+
+#[test]
+fn clauses_of_parents_are_covered(rt: HostRuntime) -> Result<(), Fail> {
+    let alloc = rt.alloc();
+    let files = [SOCRATES, ("soc.s", SOCRATES_PROOF)];
+    let printed = "f1 ok norm\nf2 ok norm\nf3 ok norm\nf4 ok norm\nc1 ok cover\nc2 ok resolution\nc3 ok resolution\n% SZS status Theorem for soc.p\nverified: 7 lines\n";
+    assert!(rt; prints(alloc, "verify soc.p soc.s", &files, 0, printed)?);
+    let derivation = "cnf(r,plain,p(c),inference(factor,[status(thm)],[a1])).\n";
+    let files = [TWICE, ("u.s", derivation)];
+    let printed = "r ok cover\nnot verified: no line is $false\n";
+    assert!(rt; prints(alloc, "verify twice.p u.s", &files, 1, printed)?);
     Ok(())
 }
 

@@ -1,5 +1,5 @@
 use Rattle.derive_kit.specs.Built.{ok_map}
-use Rattle.elaborate.proofs.StepAnswers.{leaf_found, leaf_unverified}
+use Rattle.elaborate.proofs.StepAnswers.{leaf_found, not_normed}
 use Rattle.elaborate.proofs.leaves.leaf.Goals as goal
 
 pub returns-in_ok-proof-in-Some : goal.returns-in_ok-proof-in-Some
@@ -8,5 +8,5 @@ returns-in_ok-proof-in-Some c =
     (λ answer e. rw e (leaf_found c.args.theory.now c.signature.result.now c.args.candidates.now c.args.cited c.args.line.now c.in_ok-at.field-0 c.in-Some.at c.index-candidates-at.result c.in_ok-proof-in-Some.proof c.requires.candidates c.signature.ensures c.index-candidates-at.is c.in-Some.is c.in_ok-at.ensures c.in_ok-proof-in-Some.ensures))
     c.accepted.ensures
 
-pub returns-in-None : goal.returns-in-None
-returns-in-None c = leaf_unverified c.args.theory.now c.args.candidates.now c.args.cited c.args.line.now c.in_ok-at.field-0 c.reason.result c.in-None.is c.reason.ensures c.in_ok-at.ensures
+pub covered_leaf-requires-clause-no_norm : goal.covered_leaf-requires-clause-no_norm
+covered_leaf-requires-clause-no_norm c = not_normed c.args.candidates.now c.args.line.now c.in_ok-at.field-0 c.in-None.is c.in_ok-at.ensures

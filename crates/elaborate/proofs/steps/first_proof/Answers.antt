@@ -1,5 +1,5 @@
 use Rattle.std.proofs.Common.{inl, inr, refl}
-use Rattle.elaborate.specs.declared.answer.Rule.TheVariants.{Norm, Tautology, Resolution, EqFactor}
+use Rattle.elaborate.specs.declared.answer.Rule.TheVariants.{Norm, Cover, Tautology, Resolution, EqFactor}
 use Rattle.elaborate.proofs.StepAnswers.{none_of, some_of, found_is}
 use Rattle.elaborate.proofs.steps.first_proof.Goals as goal
 
@@ -10,18 +10,23 @@ returns-in-Some c =
 
 pub returns-in-Some-2 : goal.returns-in-Some-2
 returns-in-Some-2 c =
-    let h = some_of c.args.signature.now c.args.parents.now c.args.line.now Tautology c.in_ok-proof-2.field-0 c.in-Some-2.proof c.in-Some-2.is c.in_ok-proof-2.ensures in
-    found_is c.args.signature.now c.args.parents.now c.args.line.now c.by_rule-in-Some-2.result Tautology c.in-Some-2.proof c.by_rule-in-Some-2.ensures (inr (none_of c.args.signature.now c.args.parents.now c.args.line.now Norm c.in_ok-proof.field-0 c.in_default.is c.in_ok-proof.ensures, inl (refl, h.0))) h.1
+    let h = some_of c.args.signature.now c.args.parents.now c.args.line.now Cover c.in_ok-proof-2.field-0 c.in-Some-2.proof c.in-Some-2.is c.in_ok-proof-2.ensures in
+    found_is c.args.signature.now c.args.parents.now c.args.line.now c.by_rule-in-Some-2.result Cover c.in-Some-2.proof c.by_rule-in-Some-2.ensures (inr (none_of c.args.signature.now c.args.parents.now c.args.line.now Norm c.in_ok-proof.field-0 c.in_default.is c.in_ok-proof.ensures, inl (refl, h.0))) h.1
 
 pub returns-in-Some-3 : goal.returns-in-Some-3
 returns-in-Some-3 c =
-    let h = some_of c.args.signature.now c.args.parents.now c.args.line.now Resolution c.in_ok-proof-3.field-0 c.in-Some-3.proof c.in-Some-3.is c.in_ok-proof-3.ensures in
-    found_is c.args.signature.now c.args.parents.now c.args.line.now c.by_rule-in-Some-3.result Resolution c.in-Some-3.proof c.by_rule-in-Some-3.ensures (inr (none_of c.args.signature.now c.args.parents.now c.args.line.now Norm c.in_ok-proof.field-0 c.in_default.is c.in_ok-proof.ensures, inr (none_of c.args.signature.now c.args.parents.now c.args.line.now Tautology c.in_ok-proof-2.field-0 c.in_default-2.is c.in_ok-proof-2.ensures, inl (refl, h.0)))) h.1
+    let h = some_of c.args.signature.now c.args.parents.now c.args.line.now Tautology c.in_ok-proof-3.field-0 c.in-Some-3.proof c.in-Some-3.is c.in_ok-proof-3.ensures in
+    found_is c.args.signature.now c.args.parents.now c.args.line.now c.by_rule-in-Some-3.result Tautology c.in-Some-3.proof c.by_rule-in-Some-3.ensures (inr (none_of c.args.signature.now c.args.parents.now c.args.line.now Norm c.in_ok-proof.field-0 c.in_default.is c.in_ok-proof.ensures, inr (none_of c.args.signature.now c.args.parents.now c.args.line.now Cover c.in_ok-proof-2.field-0 c.in_default-2.is c.in_ok-proof-2.ensures, inl (refl, h.0)))) h.1
 
 pub returns-in-Some-4 : goal.returns-in-Some-4
 returns-in-Some-4 c =
-    let h = some_of c.args.signature.now c.args.parents.now c.args.line.now EqFactor c.in_ok-proof-4.field-0 c.in-Some-4.proof c.in-Some-4.is c.in_ok-proof-4.ensures in
-    found_is c.args.signature.now c.args.parents.now c.args.line.now c.by_rule-in-Some-4.result EqFactor c.in-Some-4.proof c.by_rule-in-Some-4.ensures (inr (none_of c.args.signature.now c.args.parents.now c.args.line.now Norm c.in_ok-proof.field-0 c.in_default.is c.in_ok-proof.ensures, inr (none_of c.args.signature.now c.args.parents.now c.args.line.now Tautology c.in_ok-proof-2.field-0 c.in_default-2.is c.in_ok-proof-2.ensures, inr (none_of c.args.signature.now c.args.parents.now c.args.line.now Resolution c.in_ok-proof-3.field-0 c.in_default-3.is c.in_ok-proof-3.ensures, inl (refl, h.0))))) h.1
+    let h = some_of c.args.signature.now c.args.parents.now c.args.line.now Resolution c.in_ok-proof-4.field-0 c.in-Some-4.proof c.in-Some-4.is c.in_ok-proof-4.ensures in
+    found_is c.args.signature.now c.args.parents.now c.args.line.now c.by_rule-in-Some-4.result Resolution c.in-Some-4.proof c.by_rule-in-Some-4.ensures (inr (none_of c.args.signature.now c.args.parents.now c.args.line.now Norm c.in_ok-proof.field-0 c.in_default.is c.in_ok-proof.ensures, inr (none_of c.args.signature.now c.args.parents.now c.args.line.now Cover c.in_ok-proof-2.field-0 c.in_default-2.is c.in_ok-proof-2.ensures, inr (none_of c.args.signature.now c.args.parents.now c.args.line.now Tautology c.in_ok-proof-3.field-0 c.in_default-3.is c.in_ok-proof-3.ensures, inl (refl, h.0))))) h.1
+
+pub returns-in-Some-5 : goal.returns-in-Some-5
+returns-in-Some-5 c =
+    let h = some_of c.args.signature.now c.args.parents.now c.args.line.now EqFactor c.in_ok-proof-5.field-0 c.in-Some-5.proof c.in-Some-5.is c.in_ok-proof-5.ensures in
+    found_is c.args.signature.now c.args.parents.now c.args.line.now c.by_rule-in-Some-5.result EqFactor c.in-Some-5.proof c.by_rule-in-Some-5.ensures (inr (none_of c.args.signature.now c.args.parents.now c.args.line.now Norm c.in_ok-proof.field-0 c.in_default.is c.in_ok-proof.ensures, inr (none_of c.args.signature.now c.args.parents.now c.args.line.now Cover c.in_ok-proof-2.field-0 c.in_default-2.is c.in_ok-proof-2.ensures, inr (none_of c.args.signature.now c.args.parents.now c.args.line.now Tautology c.in_ok-proof-3.field-0 c.in_default-3.is c.in_ok-proof-3.ensures, inr (none_of c.args.signature.now c.args.parents.now c.args.line.now Resolution c.in_ok-proof-4.field-0 c.in_default-4.is c.in_ok-proof-4.ensures, inl (refl, h.0)))))) h.1
 
 pub returns : goal.returns
-returns c = (none_of c.args.signature.now c.args.parents.now c.args.line.now Norm c.in_ok-proof.field-0 c.in_default.is c.in_ok-proof.ensures, (none_of c.args.signature.now c.args.parents.now c.args.line.now Tautology c.in_ok-proof-2.field-0 c.in_default-2.is c.in_ok-proof-2.ensures, (none_of c.args.signature.now c.args.parents.now c.args.line.now Resolution c.in_ok-proof-3.field-0 c.in_default-3.is c.in_ok-proof-3.ensures, (none_of c.args.signature.now c.args.parents.now c.args.line.now EqFactor c.in_ok-proof-4.field-0 c.in_default-4.is c.in_ok-proof-4.ensures, tt))))
+returns c = (none_of c.args.signature.now c.args.parents.now c.args.line.now Norm c.in_ok-proof.field-0 c.in_default.is c.in_ok-proof.ensures, (none_of c.args.signature.now c.args.parents.now c.args.line.now Cover c.in_ok-proof-2.field-0 c.in_default-2.is c.in_ok-proof-2.ensures, (none_of c.args.signature.now c.args.parents.now c.args.line.now Tautology c.in_ok-proof-3.field-0 c.in_default-3.is c.in_ok-proof-3.ensures, (none_of c.args.signature.now c.args.parents.now c.args.line.now Resolution c.in_ok-proof-4.field-0 c.in_default-4.is c.in_ok-proof-4.ensures, (none_of c.args.signature.now c.args.parents.now c.args.line.now EqFactor c.in_ok-proof-5.field-0 c.in_default-5.is c.in_ok-proof-5.ensures, tt)))))
