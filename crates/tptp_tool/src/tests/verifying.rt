@@ -175,7 +175,8 @@ fn other_derivations(rt: HostRuntime) -> Result<(), Fail> {
     Ok(())
 }
 
-const SOCRATES_PROOF: &str = "# SZS status Theorem\n# SZS output start CNFRefutation\nfof(f1,axiom,(![X]:(man(X)=>mortal(X))),file('soc.p',a1)).\nfof(f2,axiom,man(socrates),file('soc.p',a2)).\nfof(f3,conjecture,mortal(socrates),file('soc.p',goal)).\nfof(f4,negated_conjecture,~mortal(socrates),inference(assume_negation,[status(cth)],[f3])).\ncnf(c1,plain,(mortal(X1)|~man(X1)),inference(split_conjunct,[status(thm)],[inference(fof_nnf,[status(thm)],[f1])])).\ncnf(c2,plain,(mortal(socrates)),inference(spm,[status(thm)],[c1,f2])).\ncnf(c3,negated_conjecture,($false),inference(cn,[status(thm)],[inference(rw,[status(thm)],[f4,c2])]),['proof']).\n# SZS output end CNFRefutation\n";
+const SOCRATES_PROOF: &str =
+    "# SZS status Theorem\n# SZS output start CNFRefutation\nfof(f1,axiom,(![X]:(man(X)=>mortal(X))),file('soc.p',a1)).\nfof(f2,axiom,man(socrates),file('soc.p',a2)).\nfof(f3,conjecture,mortal(socrates),file('soc.p',goal)).\nfof(f4,negated_conjecture,~mortal(socrates),inference(assume_negation,[status(cth)],[f3])).\ncnf(c1,plain,(mortal(X1)|~man(X1)),inference(split_conjunct,[status(thm)],[inference(fof_nnf,[status(thm)],[f1])])).\ncnf(c2,plain,(mortal(socrates)),inference(spm,[status(thm)],[c1,f2])).\ncnf(c3,negated_conjecture,($false),inference(cn,[status(thm)],[inference(rw,[status(thm)],[f4,c2])]),['proof']).\n# SZS output end CNFRefutation\n";
 
 const TWICE: (&str, &str) = ("twice.p", "cnf(a1,axiom,p(X) | p(Y)).\n");
 
@@ -183,7 +184,8 @@ const TWICE: (&str, &str) = ("twice.p", "cnf(a1,axiom,p(X) | p(Y)).\n");
 fn clauses_of_parents_are_covered(rt: HostRuntime) -> Result<(), Fail> {
     let alloc = rt.alloc();
     let files = [SOCRATES, ("soc.s", SOCRATES_PROOF)];
-    let printed = "f1 ok norm\nf2 ok norm\nf3 ok norm\nf4 ok norm\nc1 ok cover\nc2 ok resolution\nc3 ok resolution\n% SZS status Theorem for soc.p\nverified: 7 lines\n";
+    let printed =
+        "f1 ok norm\nf2 ok norm\nf3 ok norm\nf4 ok norm\nc1 ok cover\nc2 ok resolution\nc3 ok resolution\n% SZS status Theorem for soc.p\nverified: 7 lines\n";
     assert!(rt; prints(alloc, "verify soc.p soc.s", &files, 0, printed)?);
     let derivation = "cnf(r,plain,p(c),inference(factor,[status(thm)],[a1])).\n";
     let files = [TWICE, ("u.s", derivation)];
