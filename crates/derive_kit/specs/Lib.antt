@@ -2,6 +2,7 @@ pub mod Alongside
 pub mod Bound
 pub mod Built
 pub mod Connectives
+pub mod Derived
 pub mod Gathered
 pub mod Instances
 pub mod Joining

@@ -18,7 +18,7 @@ use Rattle.kernel.specs.Statements.{Statements}
 use Rattle.kernel.specs.Proves.{Proves}
 use Rattle.kernel.specs.Building.{by_line, by_imp_e}
 use Rattle.kernel.specs.declared.proof.Proof.{Proof, Line, ImpE}
-use Rattle.elaborate.specs.Derived.{AreOfTheory}
+use Rattle.derive_kit.specs.Derived.{AreOfTheory}
 use Rattle.elaborate.specs.Proofs.{AreAlike, ShowsLine}
 use Rattle.elaborate.specs.Refuting.{theory_of}
 

@@ -21,8 +21,8 @@ use Rattle.clause_rules.specs.Steps.{AreReady, IsReady}
 use Rattle.elaborate.specs.declared.leaves.FromOne.{FromOne}
 use Rattle.elaborate.specs.declared.steps.Found.{Found}
 use Rattle.elaborate.specs.ByRule.{Holds, ByRule, GivesAlone, GivesFirst, GivesNowhere, LeafRule, ByNoLeafRule}
-use Rattle.elaborate.specs.Derived.{AreOfTheory, IsDerivedFrom}
-use Rattle.elaborate.specs.Answers.{IsStepAnswer, IsLeafAnswer, numbers_of}
+use Rattle.derive_kit.specs.Derived.{AreOfTheory, IsDerivedFrom, HasCited, derived_by_lemma, numbers_of}
+use Rattle.elaborate.specs.Answers.{IsStepAnswer, IsLeafAnswer}
 use Rattle.elaborate.specs.Proofs.{ShowsLine, IsByRule, IsFound, IsCoverAlone, IsFromFirst, IsFirstCover}
 use Rattle.elaborate.specs.Refuting.{theory_of}
 use Rattle.elaborate.proofs.NormLines.{norm_there, of_theory, parent_at, parent_ready}

@@ -2,7 +2,6 @@ pub mod Answers
 pub mod Bodies
 pub mod ByRule
 pub mod Closed
-pub mod Derived
 pub mod Factoring
 pub mod Premises
 pub mod Proofs

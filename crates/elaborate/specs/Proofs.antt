@@ -11,7 +11,7 @@ use Rattle.clause_rules.specs.NormRule.{HasNorm}
 use Rattle.elaborate.specs.declared.answer.Rule.TheVariants.{Cover}
 use Rattle.elaborate.specs.declared.leaves.FromOne.{FromOne}
 use Rattle.elaborate.specs.declared.steps.Found.{Found}
-use Rattle.elaborate.specs.Derived.{AreOfTheory}
+use Rattle.derive_kit.specs.Derived.{AreOfTheory}
 use Rattle.elaborate.specs.Refuting.{theory_of}
 
 -- with these symbols, the proof shows the line wherever the parents are among the formulas

@@ -12,9 +12,15 @@ pub enum Rule {
     Tautology,
     /// `resolution`: two literals of two parents become complementary, and the line covers what else the two have.
     Resolution,
+    /// `paramodulation`: an equation of a parent rewrites one place in a literal of a parent, and the line covers the
+    /// result and what else the two have.
+    Paramodulation,
     /// `eqfactor`: two equations of a parent get one side in common, and their other sides are denied to be equal in
     /// place of the first.
     EqFactor,
+    /// `rewrite`: a parent that is one equation rewrites all occurrences of one term in a parent, and the line covers
+    /// the result.
+    Rewrite,
 }
 
 /// Why a line isn't verified.

@@ -4,7 +4,7 @@ ghost use Rattle.elaborate.specs.declared.answer.Reason.TheVariants.{NotYet, Lea
 ghost use Rattle.elaborate.specs.declared.answer.StepAnswer.TheVariants.{Accepted};
 ghost use Rattle.clause_rules.specs.NormRule.{IsNormStep};
 ghost use Rattle.clause_rules.specs.Steps.{AreReady, IsReady};
-ghost use Rattle.elaborate.specs.Derived.{AreOfTheory};
+ghost use Rattle.derive_kit.specs.Derived.{AreOfTheory};
 ghost use Rattle.elaborate.specs.Answers.{IsLeafAnswer};
 ghost use Rattle.elaborate.specs.Proofs.{IsCoverAlone, IsFirstCover};
 

@@ -2,8 +2,8 @@ ghost use Rattle.std.specs.Prelude.{◌≡◌, [], ◌∷◌, Some, IfOk};
 ghost use Rattle.kernel.specs.declared.entry.Entry.TheVariants.{Lemma};
 ghost use Rattle.elaborate.specs.declared.answer.StepAnswer.TheVariants.{Accepted};
 ghost use Rattle.clause_rules.specs.Steps.{AreReady, IsReady};
-ghost use Rattle.elaborate.specs.Derived.{AreOfTheory};
-ghost use Rattle.elaborate.specs.Answers.{IsStepAnswer, numbers_of};
+ghost use Rattle.derive_kit.specs.Derived.{AreOfTheory, numbers_of};
+ghost use Rattle.elaborate.specs.Answers.{IsStepAnswer};
 ghost use Rattle.elaborate.specs.Proofs.{IsFound};
 
 use crate::answer::{Reason, Rule, StepAnswer};
