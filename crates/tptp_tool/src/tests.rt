@@ -1,5 +1,6 @@
 mod checking;
 mod parsing;
+mod rules;
 mod verifying;
 
 use super::run::{USAGE, run_tptp};
@@ -11,9 +12,11 @@ fn text(alloc: Global, text: &str) -> Result<Text, AllocError> {
     Text::from_slice(alloc, text.as_bytes())
 }
 
-fn files(alloc: Global, problem: &str) -> Result<List<(Text, Text)>, AllocError> {
+fn files(alloc: Global, named: &[(&str, &str)]) -> Result<List<(Text, Text)>, AllocError> {
     let mut files = List::new(alloc);
-    files.push((text(alloc, "pq.p")?, text(alloc, problem)?))?;
+    for &(name, bytes) in named {
+        files.push((text(alloc, name)?, text(alloc, bytes)?))?;
+    }
     Ok(files)
 }
 
@@ -23,6 +26,22 @@ fn words_of(alloc: Global, line: &str) -> Result<Vec<String>, AllocError> {
         words.push(String::from_str(alloc, word)?)?;
     }
     Ok(words)
+}
+
+// Whether a run on these words and files ends with the status and prints the text.
+fn prints(
+    alloc: Global,
+    line: &str,
+    named: &[(&str, &str)],
+    status: u8,
+    printed: &str,
+) -> Result<bool, Fail> {
+    let words = words_of(alloc, line)?;
+    let mut store = SteadyStore::new(alloc, files(alloc, named)?)?;
+    let mut out = SteadySink::new(alloc);
+    let mut log = SteadySink::new(alloc);
+    let answer = run_tptp(alloc, &words, &mut store, &mut out, &mut log);
+    Ok(answer == status && out.bytes() == printed.as_bytes())
 }
 
 #[test]
@@ -40,7 +59,7 @@ fn words_and_files(rt: HostRuntime) -> Result<(), Fail> {
         ("", 2, USAGE),
     ] {
         let words = words_of(alloc, line)?;
-        let mut store = SteadyStore::new(alloc, files(alloc, "")?)?;
+        let mut store = SteadyStore::new(alloc, files(alloc, &[("pq.p", "")])?)?;
         let mut out = SteadySink::new(alloc);
         let mut log = SteadySink::new(alloc);
         let answer = run_tptp(alloc, &words, &mut store, &mut out, &mut log);
@@ -95,7 +114,7 @@ fn formats(rt: HostRuntime) -> Result<(), Fail> {
         ),
     ] {
         let words = words_of(alloc, "format pq.p")?;
-        let mut store = SteadyStore::new(alloc, files(alloc, problem)?)?;
+        let mut store = SteadyStore::new(alloc, files(alloc, &[("pq.p", problem)])?)?;
         let mut out = SteadySink::new(alloc);
         let mut log = SteadySink::new(alloc);
         let answer = run_tptp(alloc, &words, &mut store, &mut out, &mut log);
@@ -115,7 +134,7 @@ fn too_deep(rt: HostRuntime) -> Result<(), Fail> {
     }
     problem.push_str("p).")?;
     let words = words_of(alloc, "format pq.p")?;
-    let mut store = SteadyStore::new(alloc, files(alloc, problem.as_str())?)?;
+    let mut store = SteadyStore::new(alloc, files(alloc, &[("pq.p", problem.as_str())])?)?;
     let mut out = SteadySink::new(alloc);
     let mut log = SteadySink::new(alloc);
     let answer = run_tptp(alloc, &words, &mut store, &mut out, &mut log);

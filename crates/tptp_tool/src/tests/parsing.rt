@@ -1,29 +1,20 @@
 // The command `parse`.
-use super::words_of;
+use super::{files, words_of};
 use crate::run::run_tptp;
 use std::alloc::{AllocError, Global};
 use std::test::Fail;
 use tptp_base::{List, SteadySink, SteadyStore, Text};
 
-fn store(alloc: Global, files: &[(&str, &str)]) -> Result<List<(Text, Text)>, AllocError> {
-    let mut list = List::new(alloc);
-    for &(name, text) in files {
-        let name = Text::from_slice(alloc, name.as_bytes())?;
-        list.push((name, Text::from_slice(alloc, text.as_bytes())?))?;
-    }
-    Ok(list)
-}
-
 /// Whether a run on these words and files ends with the status and prints the text, and logs nothing.
 pub fn ends(
     alloc: Global,
     line: &str,
-    files: &[(&str, &str)],
+    named: &[(&str, &str)],
     status: u8,
     printed: &str,
 ) -> Result<bool, Fail> {
     let words = words_of(alloc, line)?;
-    let mut store = SteadyStore::new(alloc, store(alloc, files)?)?;
+    let mut store = SteadyStore::new(alloc, files(alloc, named)?)?;
     let mut out = SteadySink::new(alloc);
     let mut log = SteadySink::new(alloc);
     let answer = run_tptp(alloc, &words, &mut store, &mut out, &mut log);

@@ -1,7 +1,7 @@
 // The command `verify`.
-use super::words_of;
+use super::{files, prints, words_of};
 use crate::run::run_tptp;
-use std::alloc::{AllocError, Global};
+use std::alloc::Global;
 use std::test::Fail;
 use tptp_base::{List, MemorySink, MemoryStore, SteadySink, SteadyStore, Text};
 
@@ -10,31 +10,6 @@ const PROBLEM: (&str, &str) = ("pq.p", "cnf(a,axiom,p).\ncnf(b,axiom,~ p).\n");
 const PROOF: &str = "cnf(c,plain,$false,inference(res,[status(thm)],[a,b])).\n";
 
 const VERIFIED: &str = "c ok resolution\n% SZS status Unsatisfiable for pq.p\nverified: 1 lines\n";
-
-fn store(alloc: Global, files: &[(&str, &str)]) -> Result<List<(Text, Text)>, AllocError> {
-    let mut list = List::new(alloc);
-    for &(name, text) in files {
-        let name = Text::from_slice(alloc, name.as_bytes())?;
-        list.push((name, Text::from_slice(alloc, text.as_bytes())?))?;
-    }
-    Ok(list)
-}
-
-// Whether a run on these words and files ends with the status and prints the text.
-fn prints(
-    alloc: Global,
-    line: &str,
-    files: &[(&str, &str)],
-    status: u8,
-    printed: &str,
-) -> Result<bool, Fail> {
-    let words = words_of(alloc, line)?;
-    let mut store = SteadyStore::new(alloc, store(alloc, files)?)?;
-    let mut out = SteadySink::new(alloc);
-    let mut log = SteadySink::new(alloc);
-    let answer = run_tptp(alloc, &words, &mut store, &mut out, &mut log);
-    Ok(answer == status && out.bytes() == printed.as_bytes())
-}
 
 #[test]
 fn derivations_of_two_clauses(rt: HostRuntime) -> Result<(), Fail> {
@@ -104,9 +79,9 @@ fn derivations_of_two_clauses(rt: HostRuntime) -> Result<(), Fail> {
             "c ok resolution\nnot verified: claim Theorem is not justified\n",
         ),
     ] {
-        let files = [PROBLEM, ("u.s", derivation)];
+        let named = [PROBLEM, ("u.s", derivation)];
         assert!(rt;
-            prints(rt.alloc(), "verify pq.p u.s", &files, status, printed)?,
+            prints(rt.alloc(), "verify pq.p u.s", &named, status, printed)?,
             "{derivation}"
         );
     }
@@ -166,9 +141,9 @@ fn other_derivations(rt: HostRuntime) -> Result<(), Fail> {
             "f1 unverified not-yet\nc skipped\nnot verified: 1 unverified, 1 skipped of 2 lines\n",
         ),
     ] {
-        let files = [problem, ("u.s", derivation)];
+        let named = [problem, ("u.s", derivation)];
         assert!(rt;
-            prints(rt.alloc(), "verify x.p u.s", &files, status, printed)?,
+            prints(rt.alloc(), "verify x.p u.s", &named, status, printed)?,
             "{derivation}"
         );
     }
@@ -183,14 +158,26 @@ const TWICE: (&str, &str) = ("twice.p", "cnf(a1,axiom,p(X) | p(Y)).\n");
 #[test]
 fn clauses_of_parents_are_covered(rt: HostRuntime) -> Result<(), Fail> {
     let alloc = rt.alloc();
-    let files = [SOCRATES, ("soc.s", SOCRATES_PROOF)];
+    let named = [SOCRATES, ("soc.s", SOCRATES_PROOF)];
     let printed =
         "f1 ok norm\nf2 ok norm\nf3 ok norm\nf4 ok norm\nc1 ok cover\nc2 ok resolution\nc3 ok resolution\n% SZS status Theorem for soc.p\nverified: 7 lines\n";
-    assert!(rt; prints(alloc, "verify soc.p soc.s", &files, 0, printed)?);
+    assert!(rt; prints(alloc, "verify soc.p soc.s", &named, 0, printed)?);
     let derivation = "cnf(r,plain,p(c),inference(factor,[status(thm)],[a1])).\n";
-    let files = [TWICE, ("u.s", derivation)];
+    let named = [TWICE, ("u.s", derivation)];
     let printed = "r ok cover\nnot verified: no line is $false\n";
-    assert!(rt; prints(alloc, "verify twice.p u.s", &files, 1, printed)?);
+    assert!(rt; prints(alloc, "verify twice.p u.s", &named, 1, printed)?);
+    Ok(())
+}
+
+#[test]
+fn a_claim_that_a_proof_does_not_justify(rt: HostRuntime) -> Result<(), Fail> {
+    let alloc = rt.alloc();
+    let mut derivation = String::from_str(alloc, "# SZS status CounterSatisfiable\n")?;
+    derivation.push_str(SOCRATES_PROOF)?;
+    let named = [SOCRATES, ("soc.s", derivation.as_str())];
+    let printed =
+        "f1 ok norm\nf2 ok norm\nf3 ok norm\nf4 ok norm\nc1 ok cover\nc2 ok resolution\nc3 ok resolution\nnot verified: claim CounterSatisfiable is not justified\n";
+    assert!(rt; prints(alloc, "verify soc.p soc.s", &named, 1, printed)?);
     Ok(())
 }
 
@@ -199,18 +186,18 @@ fn includes_and_limits_reach_it(rt: HostRuntime) -> Result<(), Fail> {
     let alloc = rt.alloc();
     let top = ("top.p", "include('pq.p').\n");
     let axioms = ("/t/pq.p", "cnf(a,axiom,p).\ncnf(b,axiom,~ p).\n");
-    let files = [top, axioms, ("u.s", PROOF)];
+    let named = [top, axioms, ("u.s", PROOF)];
     let line = "--root /t --limit 5 verify top.p u.s u.log";
     let printed = "c ok resolution\n% SZS status Unsatisfiable for top.p\nverified: 1 lines\n";
-    assert!(rt; prints(alloc, line, &files, 0, printed)?);
+    assert!(rt; prints(alloc, line, &named, 0, printed)?);
     let said = "pq.p: no such file\n";
-    assert!(rt; prints(alloc, "verify top.p u.s", &files, 3, said)?);
-    assert!(rt; prints(alloc, "verify no.p u.s", &files, 3, "no.p: no such file\n")?);
+    assert!(rt; prints(alloc, "verify top.p u.s", &named, 3, said)?);
+    assert!(rt; prints(alloc, "verify no.p u.s", &named, 3, "no.p: no such file\n")?);
     assert!(rt;
         prints(
             alloc,
             "verify /t/pq.p no.s",
-            &files,
+            &named,
             3,
             "no.s: no such file\n"
         )?
@@ -236,8 +223,8 @@ fn faults_of_the_outside(rt: HostRuntime) -> Result<(), Fail> {
         (0, 0, 4, 0),
     ] {
         let words = words_of(alloc, "verify pq.p u.s")?;
-        let files = store(alloc, &[PROBLEM, ("u.s", PROOF)])?;
-        let mut store = MemoryStore::new(alloc, files, List::from_slice(alloc, &[read])?)?;
+        let known = files(alloc, &[PROBLEM, ("u.s", PROOF)])?;
+        let mut store = MemoryStore::new(alloc, known, List::from_slice(alloc, &[read])?)?;
         let mut out = MemorySink::new(alloc, List::from_slice(alloc, &[written])?);
         let mut log = MemorySink::new(alloc, List::from_slice(alloc, &[noted])?);
         let answer = run_tptp(alloc, &words, &mut store, &mut out, &mut log);
@@ -251,55 +238,43 @@ fn faults_of_the_outside(rt: HostRuntime) -> Result<(), Fail> {
     Ok(())
 }
 
+// The status of a run on the usual example, whose calls of these numbers fail (of the store, of out and of the log), if it
+// has printed nothing.
+fn silent(alloc: Global, read: u64, written: u64, noted: u64) -> Result<Option<u8>, Fail> {
+    let words = words_of(alloc, "verify soc.p soc.s")?;
+    let known = files(alloc, &[SOCRATES, ("soc.s", SOCRATES_PROOF)])?;
+    let mut store = MemoryStore::new(alloc, known, List::from_slice(alloc, &[read])?)?;
+    let mut out = MemorySink::new(alloc, List::from_slice(alloc, &[written])?);
+    let mut log = MemorySink::new(alloc, List::from_slice(alloc, &[noted])?);
+    let status = run_tptp(alloc, &words, &mut store, &mut out, &mut log);
+    Ok(out.bytes().is_empty().then_some(status))
+}
+
 #[test]
-fn its_log_is_checked(rt: HostRuntime) -> Result<(), Fail> {
+fn faults_in_the_usual_example(rt: HostRuntime) -> Result<(), Fail> {
     let alloc = rt.alloc();
-    let words = words_of(alloc, "verify pq.p u.s")?;
-    let mut files = SteadyStore::new(alloc, store(alloc, &[PROBLEM, ("u.s", PROOF)])?)?;
-    let mut out = SteadySink::new(alloc);
-    let mut log = SteadySink::new(alloc);
-    assert_eq!(rt; run_tptp(alloc, &words, &mut files, &mut out, &mut log), 0);
-    let text = Text::from_slice(alloc, log.bytes())?;
-    let mut files = store(alloc, &[PROBLEM])?;
-    files.push((Text::from_slice(alloc, b"u.log")?, text))?;
-    let mut files = SteadyStore::new(alloc, files)?;
-    let words = words_of(alloc, "check pq.p u.log")?;
-    let mut out = SteadySink::new(alloc);
-    let mut none = SteadySink::new(alloc);
-    assert_eq!(rt; run_tptp(alloc, &words, &mut files, &mut out, &mut none), 0);
-    assert_eq!(rt; out.bytes(), b"refuted: 2 entries\n".as_slice());
+    assert_eq!(rt; silent(alloc, 3, 0, 0)?, Some(4));
+    assert_eq!(rt; silent(alloc, 0, 1, 0)?, Some(5));
+    assert_eq!(rt; silent(alloc, 0, 0, 2)?, Some(5));
     Ok(())
 }
 
 #[test]
-fn rules_of_clauses(rt: HostRuntime) -> Result<(), Fail> {
-    for (clauses, line, printed) in [
-        (
-            "cnf(a1,axiom,p(X) | q(X,c) | q(c,X) | a = b).\ncnf(a2,axiom,~ p(c)).\n",
-            "cnf(r,plain,q(c,c) | b = a,inference(r,[],[a1,a2])).\n",
-            "r ok resolution\nnot verified: no line is $false\n",
-        ),
-        (
-            "cnf(a1,axiom,f(X) = a | f(b) = c).\n",
-            "cnf(r,plain,a != c | f(b) = c,inference(r,[],[a1])).\n",
-            "r ok eqfactor\nnot verified: no line is $false\n",
-        ),
-        (
-            "cnf(a1,axiom,p(X,X)).\ncnf(a2,axiom,~ p(Y,f(Y))).\n",
-            "cnf(r,plain,$false,inference(r,[],[a1,a2])).\n",
-            "r unverified not-yet\nnot verified: 1 unverified, 0 skipped of 1 lines\n",
-        ),
-        (
-            "cnf(a1,axiom,p(X,X)).\n",
-            "cnf(t,plain,p | ~ p,introduced(tautology,[])).\n",
-            "t ok tautology\nnot verified: no line is $false\n",
-        ),
-    ] {
-        let files = [("x.p", clauses), ("u.s", line)];
-        assert!(rt;
-            prints(rt.alloc(), "verify x.p u.s", &files, 1, printed)?,
-            "{line}"
-        );
-    }
+fn its_log_is_checked(rt: HostRuntime) -> Result<(), Fail> {
+    let alloc = rt.alloc();
+    let words = words_of(alloc, "verify pq.p u.s")?;
+    let mut store = SteadyStore::new(alloc, files(alloc, &[PROBLEM, ("u.s", PROOF)])?)?;
+    let mut out = SteadySink::new(alloc);
+    let mut log = SteadySink::new(alloc);
+    assert_eq!(rt; run_tptp(alloc, &words, &mut store, &mut out, &mut log), 0);
+    let text = Text::from_slice(alloc, log.bytes())?;
+    let mut known = files(alloc, &[PROBLEM])?;
+    known.push((Text::from_slice(alloc, b"u.log")?, text))?;
+    let mut store = SteadyStore::new(alloc, known)?;
+    let words = words_of(alloc, "check pq.p u.log")?;
+    let mut out = SteadySink::new(alloc);
+    let mut none = SteadySink::new(alloc);
+    assert_eq!(rt; run_tptp(alloc, &words, &mut store, &mut out, &mut none), 0);
+    assert_eq!(rt; out.bytes(), b"refuted: 2 entries\n".as_slice());
     Ok(())
 }

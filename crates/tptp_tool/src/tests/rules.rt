@@ -1,0 +1,125 @@
+// The rules of steps, one derivation after another.
+use super::prints;
+use std::test::Fail;
+
+#[test]
+fn clauses(rt: HostRuntime) -> Result<(), Fail> {
+    for (problem, line, printed) in [
+        (
+            "cnf(a1,axiom,p(X) | p(Y)).\n",
+            "cnf(r,plain,p(c),inference(r,[],[a1])).\n",
+            "r ok cover\nnot verified: no line is $false\n",
+        ),
+        (
+            "cnf(a1,axiom,p(X) | q(X,c) | q(c,X) | a = b).\ncnf(a2,axiom,~ p(c)).\n",
+            "cnf(r,plain,q(c,c) | b = a,inference(r,[],[a1,a2])).\n",
+            "r ok resolution\nnot verified: no line is $false\n",
+        ),
+        (
+            "cnf(a1,axiom,p(f(X),X)).\ncnf(a2,axiom,~ p(Y,Z) | q(Z,Y)).\n",
+            "cnf(r,plain,q(U,f(U)),inference(r,[],[a2,a1])).\n",
+            "r ok resolution\nnot verified: no line is $false\n",
+        ),
+        (
+            "cnf(a1,axiom,f(c) = d).\ncnf(a2,axiom,p(f(c))).\n",
+            "cnf(r,plain,p(d),inference(r,[],[a1,a2])).\n",
+            "r ok paramodulation\nnot verified: no line is $false\n",
+        ),
+        (
+            "cnf(a1,axiom,f(c) = d).\ncnf(a2,axiom,q(f(c),f(c))).\n",
+            "cnf(r,plain,q(d,d),inference(r,[],[a1,a2])).\n",
+            "r ok rewrite\nnot verified: no line is $false\n",
+        ),
+        (
+            "cnf(a1,axiom,f(X) = a | f(b) = c).\n",
+            "cnf(r,plain,a != c | f(b) = c,inference(r,[],[a1])).\n",
+            "r ok eqfactor\nnot verified: no line is $false\n",
+        ),
+        (
+            "cnf(a1,axiom,p(X,X)).\ncnf(a2,axiom,~ p(Y,f(Y))).\n",
+            "cnf(r,plain,$false,inference(r,[],[a1,a2])).\n",
+            "r unverified not-yet\nnot verified: 1 unverified, 0 skipped of 1 lines\n",
+        ),
+        (
+            "cnf(a1,axiom,p(X,X)).\n",
+            "cnf(t,plain,p | ~ p,introduced(tautology,[])).\n",
+            "t ok tautology\nnot verified: no line is $false\n",
+        ),
+    ] {
+        let named = [("x.p", problem), ("u.s", line)];
+        assert!(rt;
+            prints(rt.alloc(), "verify x.p u.s", &named, 1, printed)?,
+            "{line}"
+        );
+    }
+    Ok(())
+}
+
+#[test]
+fn normal_forms(rt: HostRuntime) -> Result<(), Fail> {
+    let problem = ("x.p", "fof(a,axiom,! [X] : ( p(X) <=> q(X) )).\n");
+    for (line, printed) in [
+        (
+            "cnf(r,plain,~ p(Y) | q(Y),inference(s,[],[a])).\n",
+            "r ok cover\nnot verified: no line is $false\n",
+        ),
+        (
+            "fof(t,plain,! [X] : ( ( ~ p(X) | q(X) ) & ( p(X) | ~ q(X) ) ),inference(s,[],[a])).\n",
+            "t ok norm\nnot verified: no line is $false\n",
+        ),
+    ] {
+        let named = [problem, ("u.s", line)];
+        assert!(rt;
+            prints(rt.alloc(), "verify x.p u.s", &named, 1, printed)?,
+            "{line}"
+        );
+    }
+    Ok(())
+}
+
+#[test]
+fn new_symbols(rt: HostRuntime) -> Result<(), Fail> {
+    let skolem = "fof(a,axiom,! [X] : ? [Y] : q(X,Y)).\n";
+    let clause = "cnf(a,axiom,p(c)).\n";
+    for (problem, derivation, printed) in [
+        (
+            skolem,
+            "fof(s1,plain,! [X] : q(X,s(X)),inference(s,[],[a])).\nfof(s2,plain,! [X] : q(X,t),inference(s,[],[a])).\nfof(s3,plain,! [X] : q(X,s(X)),inference(s,[],[a])).\n",
+            "s1 ok skolem\ns2 unverified not-yet\ns3 unverified not-yet\nnot verified: 2 unverified, 0 skipped of 3 lines\n",
+        ),
+        (
+            skolem,
+            "fof(k,plain,! [X] : ( ? [Y] : q(X,Y) => q(X,s(X)) ),introduced(choice_axiom,[])).\n",
+            "k ok choice\nnot verified: no line is $false\n",
+        ),
+        (
+            clause,
+            "fof(d,plain,! [X] : ( r(X) => p(X) ),introduced(definition,[])).\n",
+            "d ok definition\nnot verified: no line is $false\n",
+        ),
+        (
+            clause,
+            "fof(d,plain,! [X] : ( r(X) => p(X) ),introduced(definition,[])).\nfof(e,plain,! [X] : ( p(X) => r(X) ),introduced(definition,[])).\n",
+            "d ok definition\ne unverified not-yet\nnot verified: 1 unverified, 0 skipped of 2 lines\n",
+        ),
+    ] {
+        let named = [("x.p", problem), ("u.s", derivation)];
+        assert!(rt;
+            prints(rt.alloc(), "verify x.p u.s", &named, 1, printed)?,
+            "{derivation}"
+        );
+    }
+    Ok(())
+}
+
+#[test]
+fn splitting(rt: HostRuntime) -> Result<(), Fail> {
+    let problem = "cnf(a1,axiom,p(X) | q(Y)).\ncnf(a2,axiom,~ p(c)).\ncnf(a3,axiom,~ q(d)).\n";
+    let derivation =
+        "fof(d1,plain,s1 <=> ! [X] : p(X),introduced(avatar_definition,[])).\nfof(d2,plain,s2 <=> ! [Y] : q(Y),introduced(avatar_definition,[])).\ncnf(c1,plain,s1 | s2,inference(s,[],[a1,d1,d2])).\n";
+    let printed =
+        "d1 ok definition\nd2 ok definition\nc1 ok split\nnot verified: no line is $false\n";
+    let named = [("sp.p", problem), ("u.s", derivation)];
+    assert!(rt; prints(rt.alloc(), "verify sp.p u.s", &named, 1, printed)?);
+    Ok(())
+}
