@@ -1,32 +1,27 @@
 -- The reader of declarations is exact and finds each of them.
-use Rattle.std.proofs.Common.{◌≡◌, Bool, true, ℕ, ◌≤◌, List, [], ◌∷◌, ◌++◌, length, map, Option, Some, refl, sym, ◌∙◌, ap, subst, append_assoc, arith, lit≤}
-use Rattle.std.specs.Prelude.{codes, decimal}
+use Rattle.std.proofs.Common.{◌≡◌, Bool, true, ℕ, List, [], ◌∷◌, ◌++◌, length, map, Option, Some, refl, sym, ◌∙◌, ap, subst, append_assoc, arith, lit≤}
+use Rattle.std.specs.Prelude.{decimal}
 use Rattle.std.specs.List.{flat_map}
 use Rattle.std.proofs.lemmas.List.{length-map}
 use Rattle.first_fault.specs.Nesting.{Nested, plain}
 use Rattle.first_fault.specs.Reading.{Reader, mapped, next}
 use Rattle.first_fault.specs.Rules.{Rule}
-use Rattle.first_fault.proofs.Good.{Good, After, after, good_then, good_map, good_as, good_opened, good_closed, Parts, always}
-use Rattle.fof_terms.specs.declared.form.Form.{Form}
+use Rattle.first_fault.proofs.Good.{Good, After, after, good_then, good_map, good_as, good_opened, Parts, always}
 use Rattle.fof_terms.specs.declared.signature.Kind.{Kind}
 use Rattle.fof_terms.specs.declared.signature.Kind.TheVariants.{Function, Predicate}
 use Rattle.fof_terms.specs.declared.signature.Symbol.{Symbol}
 use Rattle.kernel.specs.declared.entry.Decl.{Decl}
 use Rattle.kernel.specs.declared.entry.Decl.TheVariants.{Sort, Symbol as SymbolOf}
-use Rattle.kernel.specs.declared.entry.Entry.{Entry}
-use Rattle.kernel.specs.declared.entry.Entry.TheVariants.{Declare, Lemma, Name, Choice}
+use Rattle.kernel.specs.declared.entry.Entry.TheVariants.{Declare}
 use Rattle.proof_log.specs.declared.name.DeclName.{DeclName}
 use Rattle.proof_log.specs.declared.name.DeclName.TheVariants as d
-use Rattle.proof_log.specs.declared.name.EntryName.{EntryName}
-use Rattle.proof_log.specs.declared.name.EntryName.TheVariants as n
-use Rattle.proof_log.specs.Words.{Word, Number, small, word, list_of, at_level, nested, AreInRange}
-use Rattle.proof_log.specs.LogText.{number as number_text, numbers_text, form_words, proof_words}
-use Rattle.proof_log.specs.Entries.{quoted as quoted_text, symbol_text, decl_text, IsQuotable, HasNoResult, IsWritableDecl, IsSmall, AreSmall, AreNumbersInRange, IsLogged, nested_entry}
-use Rattle.proof_log.specs.Names.{decl_name, decl_names, entry_name, entry_names}
+use Rattle.proof_log.specs.Words.{Word, word, at_level, nested}
+use Rattle.proof_log.specs.LogText.{number as number_text, numbers_text}
+use Rattle.proof_log.specs.Entries.{quoted as quoted_text, symbol_text, decl_text, IsQuotable, HasNoResult, IsWritableDecl, IsSmall, AreSmall, AreNumbersInRange}
+use Rattle.proof_log.specs.Names.{decl_name, decl_names}
 use Rattle.proof_log.specs.ReadWords.{is_byte, find, number, listed, both, name, head}
-use Rattle.proof_log.specs.ReadTrees.{behind, form, proof}
-use Rattle.proof_log.specs.ReadEntries.{quoted, function_of, predicate_of, decl_by, declaration, entry_by, entry}
-use Rattle.proof_log.proofs.Spelling.{Spell, ends, ends_before, pair, good_pair, level-append, nested_on}
+use Rattle.proof_log.specs.ReadEntries.{quoted, function_of, predicate_of, decl_by, declaration}
+use Rattle.proof_log.proofs.Spelling.{Spell, ends, ends_before, level-append}
 use Rattle.proof_log.proofs.NumberReader.{is_kind, one_number, small_good}
 use Rattle.proof_log.proofs.ListReader.{members, list_words, good_list}
 use Rattle.proof_log.proofs.NameReader.{Named, good_name}

@@ -1,8 +1,7 @@
 -- The reader of entries is exact and finds each entry.
-use Rattle.std.proofs.Common.{◌≡◌, true, ℕ, ◌≤◌, List, [], ◌∷◌, ◌++◌, Option, Some, refl, sym, ◌∙◌, ap, subst, append_assoc, arith}
-use Rattle.std.specs.Prelude.{codes}
-use Rattle.first_fault.specs.Nesting.{Nested, plain}
-use Rattle.first_fault.specs.Reading.{Reader, mapped, next, closed}
+use Rattle.std.proofs.Common.{◌≡◌, ℕ, List, [], ◌∷◌, ◌++◌, Some, refl, sym, ◌∙◌, ap, append_assoc, arith}
+use Rattle.first_fault.specs.Nesting.{Nested}
+use Rattle.first_fault.specs.Reading.{closed}
 use Rattle.first_fault.specs.Rules.{Rule}
 use Rattle.first_fault.proofs.Good.{Good, good_then, good_map, good_as, good_closed, Parts, always}
 use Rattle.fof_terms.specs.declared.form.Form.{Form}
@@ -12,7 +11,7 @@ use Rattle.kernel.specs.declared.entry.Entry.TheVariants.{Declare, Lemma, Name, 
 use Rattle.kernel.specs.declared.proof.Proof.{Proof}
 use Rattle.proof_log.specs.declared.name.EntryName.{EntryName}
 use Rattle.proof_log.specs.declared.name.EntryName.TheVariants as n
-use Rattle.proof_log.specs.Words.{Word, small, at_level, nested, AreInRange}
+use Rattle.proof_log.specs.Words.{small, at_level, nested}
 use Rattle.proof_log.specs.LogText.{form_words, proof_words}
 use Rattle.proof_log.specs.Entries.{decl_text, IsLogged, nested_entry}
 use Rattle.proof_log.specs.Names.{entry_name, entry_names}

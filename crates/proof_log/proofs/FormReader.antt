@@ -1,5 +1,5 @@
 -- The reader of forms is exact and finds each form within its limit.
-use Rattle.std.proofs.Common.{◌≡◌, ℕ, zero, suc, ◌+◌, ◌<◌, ◌≤◌, List, [], ◌∷◌, ◌++◌, Option, Some, refl, sym, ◌∙◌, ap, subst, arith}
+use Rattle.std.proofs.Common.{◌≡◌, ℕ, zero, suc, ◌+◌, ◌≤◌, List, [], ◌∷◌, ◌++◌, Some, refl, sym, ◌∙◌, ap, subst, arith}
 use Rattle.first_fault.specs.Nesting.{Nested}
 use Rattle.first_fault.specs.Reading.{Reader}
 use Rattle.first_fault.specs.Rules.{Rule}
@@ -11,18 +11,17 @@ use Rattle.fof_terms.specs.declared.form.Form.TheVariants.{rolls-Atom, rolls-Eq,
 use Rattle.fof_terms.specs.declared.form.Form.TheOpen as form
 use Rattle.fof_terms.specs.declared.form.Form.TheViews.{roll-Form, out-Form, roll-out-Form, outs-Atom, outs-Eq, outs-Not, outs-And, outs-Or, outs-Imp, outs-Iff, outs-All, outs-Ex}
 use Rattle.fof_terms.specs.declared.form.Form.TheFolds.{fold-roll-Form}
-use denote.Hole.Carrier.{roll}
 use Rattle.proof_log.specs.declared.name.FormName.{FormName}
 use Rattle.proof_log.specs.declared.name.FormName.TheVariants as n
-use Rattle.proof_log.specs.Words.{Word, small, large, node, nested, AreInRange}
+use Rattle.proof_log.specs.Words.{Word, small, node, nested, AreInRange}
 use Rattle.proof_log.specs.LogText.{term_words, form_words, form_node}
 use Rattle.proof_log.specs.Names.{form_name, form_names}
 use Rattle.proof_log.specs.ReadWords.{find, number, listed, both}
 use Rattle.proof_log.specs.ReadTrees.{form_by, term, form}
 use Rattle.proof_log.proofs.Spelling.{Spell, ends, pair, good_pair, ranges-append, ranges-deeper}
-use Rattle.proof_log.proofs.NumberReader.{one_number, small_good, large_good}
+use Rattle.proof_log.proofs.NumberReader.{one_number, small_good}
 use Rattle.proof_log.proofs.ListReader.{list_words, good_list}
-use Rattle.proof_log.proofs.TreeReader.{Args, good_tree, good_deep_tree}
+use Rattle.proof_log.proofs.TreeReader.{good_tree, good_deep_tree}
 use Rattle.proof_log.proofs.TermReader.{good_term, term_sample}
 
 -- ---- names

@@ -1,18 +1,17 @@
 -- What the function that reads a log answers.
-use Rattle.std.proofs.Common.{◌≡◌, ℕ, ◌-◌, ◌<◌, ◌≤◌, List, length, Result, Ok, Err, ◌⊎◌, inl, inr, refl, sym, ◌∙◌, ap, subst, arith}
-use Rattle.first_fault.specs.Nesting.{plain, Within}
+use Rattle.std.proofs.Common.{◌≡◌, ℕ, ◌-◌, List, length, Ok, Err, ◌⊎◌, inl, inr, refl, sym, ◌∙◌, ap, subst}
+use Rattle.first_fault.specs.Nesting.{Within}
 use Rattle.first_fault.specs.Reading.{Cause, Unexpected, TooDeep}
 use Rattle.kernel.specs.declared.entry.Entry.{Entry}
 use Rattle.proof_log.specs.declared.stop.Stop.{Stop}
 use Rattle.proof_log.specs.declared.stop.Stop.TheVariants as stop
-use Rattle.proof_log.specs.declared.reader.LogFault.{LogFault}
 use Rattle.proof_log.specs.declared.reader.LogFault.TheVariants as fault
 use Rattle.proof_log.specs.Entries.{AreLogged, log_text, nested_log}
 use Rattle.proof_log.specs.Logs.{IsFirstFault, IsFirstDeep}
-use Rattle.proof_log.specs.Answers.{FailsEntries, fault_of, IsLogOf, Tells, IsRefusedFor, IsReadAs}
+use Rattle.proof_log.specs.Answers.{FailsEntries, fault_of, IsLogOf, Tells}
 use Rattle.proof_log.specs.ReadEntries.{LogOutcome, log}
 use Rattle.proof_log.proofs.LogLaws.{log_plain, never_over}
-use Rattle.proof_log.proofs.LogWhole.{IsWholeFault, IsWholeLog, ExactWhole, exact_log, FoundLog, found_log}
+use Rattle.proof_log.proofs.LogWhole.{IsWholeLog, ExactWhole, exact_log, FoundLog, found_log}
 use Rattle.proof_log.proofs.Offsets.{first_fault, first_deep}
 use Rattle.proof_log.proofs.OnlyFault.{Refused, fault_only, deep_only}
 
@@ -74,3 +73,9 @@ module _ (limit : ℕ) (text : List ℕ) where
 
   pub deep_not_read : (es : List Entry) (offset : ℕ) → IsFirstDeep limit text offset → log limit text ≡ Ok es → ⊥
   deep_not_read es offset f h = let r = deep_only limit text offset f in let never : ◌≡◌ {A = LogOutcome} (Ok es) (Err (TooDeep, r.0)) = sym h ∙ r.1 in cc
+
+  pub no_first_fault : (es : List Entry) (offset : ℕ) → IsLogOf limit text es → IsFirstFault limit text offset → ⊥
+  no_first_fault es offset is f = text_not_read es offset f (reads es is.logged is.is is.within)
+
+  pub no_first_deep : (es : List Entry) (offset : ℕ) → IsLogOf limit text es → IsFirstDeep limit text offset → ⊥
+  no_first_deep es offset is f = deep_not_read es offset f (reads es is.logged is.is is.within)

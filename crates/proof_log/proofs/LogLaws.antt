@@ -1,21 +1,21 @@
 -- Logs with one text are one log, and where a log is the beginning of another its entries are the first of the other.
-use Rattle.std.proofs.Common.{◌≡◌, ℕ, suc, ◌+◌, ◌<◌, ◌≤◌, List, [], ◌∷◌, ◌++◌, length, drop, Ok, Err, ◌⊎◌, inl, inr, refl, sym, ◌∙◌, ap, subst, append_assoc, append-nil, arith, max}
-use Rattle.std.specs.Prelude.{decimal, codes}
+use Rattle.std.proofs.Common.{◌≡◌, ℕ, ◌+◌, ◌≤◌, List, [], ◌∷◌, ◌++◌, length, drop, Ok, Err, inl, inr, refl, sym, ◌∙◌, ap, subst, append_assoc, arith}
+use Rattle.std.specs.Prelude.{decimal}
 use Rattle.std.specs.List.{flat_map}
 use Rattle.std.proofs.Math.Seq.{drop-append_seam}
-use Rattle.first_fault.specs.Nesting.{Nested, plain, Within, WithinTo, FirstOver, here, behind}
-use Rattle.first_fault.specs.Reading.{TooDeep, Outcome}
-use Rattle.first_fault.proofs.Exact.{plain-append, within-append}
+use Rattle.first_fault.specs.Nesting.{Nested, plain, Within, FirstOver, here, behind}
+use Rattle.first_fault.specs.Reading.{Outcome}
+use Rattle.first_fault.proofs.Exact.{plain-append}
 use Rattle.first_fault.proofs.Found.{Found}
 use Rattle.kernel.specs.declared.entry.Entry.{Entry}
 use Rattle.kernel.specs.declared.entry.Entry.TheVariants.{Declare, Lemma, Name, Choice}
-use Rattle.proof_log.specs.Words.{small, at_level, nested, text_of, word}
+use Rattle.proof_log.specs.Words.{small, at_level, nested, word}
 use Rattle.proof_log.specs.LogText.{form_words, form_text, proof_words, proof_text}
-use Rattle.proof_log.specs.Entries.{entry_text, log_text, decl_text, IsLogged, AreLogged, nested_entry, nested_log}
+use Rattle.proof_log.specs.Entries.{entry_text, log_text, IsLogged, AreLogged, nested_entry, nested_log}
 use Rattle.proof_log.specs.declared.write.TheConstants.{HEADER}
 use Rattle.proof_log.specs.ReadEntries.{LogOutcome, entry, entries}
-use Rattle.proof_log.proofs.Spelling.{plain-level, plain-nested, all_within}
-use Rattle.proof_log.proofs.EntryReader.{Line, good_entry}
+use Rattle.proof_log.proofs.Spelling.{plain-level, plain-nested}
+use Rattle.proof_log.proofs.EntryReader.{good_entry}
 use Rattle.proof_log.proofs.LogReader.{lines, starts_line, FoundAll, found_entries}
 
 -- ---- texts

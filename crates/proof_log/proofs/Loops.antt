@@ -1,5 +1,5 @@
 -- Loops that read the members of a list.
-use Rattle.std.proofs.Common.{◌≡◌, ℕ, zero, suc, ◌+◌, ◌-◌, ◌<◌, ◌≤◌, List, [], ◌∷◌, ◌++◌, Ok, Err, refl, sym, ◌∙◌, ap, subst, append_assoc, append-nil, arith}
+use Rattle.std.proofs.Common.{◌≡◌, ℕ, suc, ◌+◌, ◌-◌, ◌<◌, ◌≤◌, List, [], ◌∷◌, ◌++◌, Ok, Err, refl, sym, ◌∙◌, ap, append_assoc, append-nil, arith}
 use Rattle.first_fault.specs.Reading.{Cause, Outcome, Reader, and_then, mapped}
 use Rattle.first_fault.proofs.Exact.{mapped_same}
 use Rattle.proof_log.specs.declared.stop.Stop.{Stop}

@@ -1,11 +1,11 @@
 -- The reader of names is exact and finds each name.
-use Rattle.std.proofs.Common.{◌≡◌, Bool, true, false, ℕ, zero, suc, ◌+◌, ◌-◌, ◌<◌, ◌≤◌, List, [], ◌∷◌, ◌++◌, length, take, drop, map, Option, Some, None, Ok, Err, ◌⊎◌, inl, inr, refl, sym, ◌∙◌, ap, subst, append_assoc, append-nil, arith, min, max}
+use Rattle.std.proofs.Common.{◌≡◌, Bool, true, false, ℕ, zero, suc, ◌<◌, ◌≤◌, List, [], ◌∷◌, ◌++◌, length, take, drop, Option, Some, None, Ok, Err, ◌⊎◌, inl, inr, refl, sym, ◌∙◌, ap, subst, append_assoc, arith, max}
 use Rattle.std.specs.Prelude.{if◌then◌else◌, ◌==◌, nat_le}
 use Rattle.std.proofs.lemmas.List.{take-append-drop}
 use Rattle.std.proofs.lemmas.Bool.Decides.{nat_tests}
 use Rattle.std.proofs.Math.Seq.{drop-append_seam}
 use Rattle.first_fault.specs.Nesting.{Nested, plain, FirstOver, here}
-use Rattle.first_fault.specs.Reading.{Unexpected, TooDeep, Reader, Outcome, next, refuse}
+use Rattle.first_fault.specs.Reading.{Unexpected, TooDeep, Outcome, next, refuse}
 use Rattle.first_fault.specs.Rules.{Rule}
 use Rattle.first_fault.proofs.Exact.{Exact, Inhabited, exact_stop, exact_deep, by_next, by_end}
 use Rattle.first_fault.proofs.Found.{Found}

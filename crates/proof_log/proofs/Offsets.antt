@@ -1,17 +1,16 @@
 -- The faults of a log at their offsets.
-use Rattle.std.proofs.Common.{◌≡◌, ℕ, zero, suc, ◌+◌, ◌-◌, ◌<◌, ◌≤◌, List, [], ◌∷◌, ◌++◌, length, take, drop, Option, Some, None, Ok, Err, ◌⊎◌, inl, inr, refl, sym, ◌∙◌, ap, subst, append_assoc, length-append, arith}
+use Rattle.std.proofs.Common.{◌≡◌, ℕ, suc, ◌-◌, ◌<◌, ◌≤◌, List, [], ◌∷◌, ◌++◌, length, take, Some, Ok, Err, inl, inr, refl, sym, ◌∙◌, ap, append_assoc, length-append, arith}
 use Rattle.std.proofs.lemmas.List.{take-append-le}
 use Rattle.std.proofs.Math.Seq.{take-append_seam}
 use Rattle.first_fault.specs.Nesting.{Nested, plain, Within, FirstOver, here, behind}
 use Rattle.first_fault.specs.Reading.{Cause, Unexpected, TooDeep, next}
-use Rattle.first_fault.proofs.Exact.{Over, IsOver, plain-append}
 use Rattle.first_fault.proofs.Separated.{length-plain}
 use Rattle.kernel.specs.declared.entry.Entry.{Entry}
 use Rattle.proof_log.specs.Entries.{AreLogged, log_text, nested_log}
-use Rattle.proof_log.specs.Logs.{BeginsLog, IsFirstFault, IsFirstDeep}
+use Rattle.proof_log.specs.Logs.{IsFirstFault, IsFirstDeep}
 use Rattle.proof_log.specs.ReadEntries.{LogOutcome, log}
-use Rattle.proof_log.proofs.LogLaws.{log_plain, within_second}
-use Rattle.proof_log.proofs.LogWhole.{IsWholeFault, IsWholeLog, ExactWhole, exact_log, FoundLog, found_log}
+use Rattle.proof_log.proofs.LogLaws.{log_plain}
+use Rattle.proof_log.proofs.LogWhole.{IsWholeFault, FoundLog, found_log}
 
 -- ---- texts that begin alike
 

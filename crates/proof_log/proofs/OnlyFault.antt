@@ -1,8 +1,8 @@
 -- A text that has a first fault is refused for that fault and no other.
-use Rattle.std.proofs.Common.{◌≡◌, ℕ, zero, suc, ◌+◌, ◌-◌, ◌<◌, ◌≤◌, List, [], ◌∷◌, ◌++◌, length, take, Ok, Err, ◌⊎◌, inl, inr, refl, sym, ◌∙◌, ap, subst, append_assoc, length-append, arith}
-use Rattle.first_fault.specs.Nesting.{Nested, plain, Within, FirstOver}
-use Rattle.first_fault.specs.Reading.{Cause, Unexpected, TooDeep, next}
-use Rattle.first_fault.proofs.Exact.{Over, IsOver, plain-append}
+use Rattle.std.proofs.Common.{◌≡◌, ℕ, zero, suc, ◌-◌, ◌<◌, ◌≤◌, List, [], ◌∷◌, ◌++◌, length, take, Ok, Err, inl, inr, refl, sym, ◌∙◌, ap, subst, append_assoc, length-append, arith}
+use Rattle.first_fault.specs.Nesting.{Nested, plain, Within}
+use Rattle.first_fault.specs.Reading.{Cause, Unexpected, TooDeep}
+use Rattle.first_fault.proofs.Exact.{plain-append}
 use Rattle.first_fault.proofs.Separated.{length-plain}
 use Rattle.kernel.specs.declared.entry.Entry.{Entry}
 use Rattle.proof_log.specs.Entries.{AreLogged, log_text, nested_log}

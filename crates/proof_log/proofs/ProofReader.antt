@@ -1,5 +1,5 @@
 -- The reader of proofs is exact and finds each proof within its limit.
-use Rattle.std.proofs.Common.{◌≡◌, ℕ, zero, suc, ◌+◌, ◌<◌, ◌≤◌, List, [], ◌∷◌, ◌++◌, Option, Some, refl, sym, ◌∙◌, ap, subst, arith}
+use Rattle.std.proofs.Common.{◌≡◌, ℕ, zero, suc, ◌+◌, ◌≤◌, List, [], ◌∷◌, ◌++◌, Some, refl, sym, ◌∙◌, ap, subst, arith}
 use Rattle.first_fault.specs.Nesting.{Nested}
 use Rattle.first_fault.specs.Reading.{Reader}
 use Rattle.first_fault.specs.Rules.{Rule}
@@ -12,7 +12,6 @@ use Rattle.kernel.specs.declared.proof.Proof.TheVariants.{rolls-Line, rolls-Hyp,
 use Rattle.kernel.specs.declared.proof.Proof.TheOpen as proof
 use Rattle.kernel.specs.declared.proof.Proof.TheViews.{roll-Proof, out-Proof, roll-out-Proof, outs-Line, outs-Hyp, outs-AndI, outs-AndE, outs-OrI, outs-OrE, outs-ImpI, outs-ImpE, outs-NotI, outs-NotE, outs-Raa, outs-IffI, outs-IffL, outs-IffR, outs-AllI, outs-AllE, outs-ExI, outs-ExE, outs-Refl, outs-Subst, outs-Inhabit}
 use Rattle.kernel.specs.declared.proof.Proof.TheFolds.{fold-roll-Proof}
-use denote.Hole.Carrier.{roll}
 use Rattle.proof_log.specs.declared.name.ProofName.{ProofName}
 use Rattle.proof_log.specs.declared.name.ProofName.TheVariants as n
 use Rattle.proof_log.specs.Words.{Word, small, large, node, nested, AreInRange}
@@ -23,7 +22,7 @@ use Rattle.proof_log.specs.ReadTrees.{proof_by, term, form, proof}
 use Rattle.proof_log.proofs.Spelling.{Spell, ends, pair, good_pair, ranges-append, ranges-deeper}
 use Rattle.proof_log.proofs.NumberReader.{one_number, small_good, large_good}
 use Rattle.proof_log.proofs.ListReader.{list_words, good_list}
-use Rattle.proof_log.proofs.TreeReader.{Args, good_tree, good_deep_tree}
+use Rattle.proof_log.proofs.TreeReader.{good_tree, good_deep_tree}
 use Rattle.proof_log.proofs.TermReader.{good_term, term_sample}
 use Rattle.proof_log.proofs.FormReader.{good_form, form_sample}
 

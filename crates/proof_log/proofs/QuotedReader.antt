@@ -1,11 +1,11 @@
 -- The reader of quoted names is exact and finds each of them.
-use Rattle.std.proofs.Common.{◌≡◌, Bool, true, false, ℕ, zero, suc, ◌+◌, ◌<◌, ◌≤◌, List, [], ◌∷◌, ◌++◌, length, Option, Some, None, Ok, Err, inl, refl, sym, ◌∙◌, ap, subst, append_assoc, arith}
-use Rattle.std.specs.Prelude.{if◌then◌else◌, ◌==◌, ◌||◌, ◌&&◌}
+use Rattle.std.proofs.Common.{◌≡◌, Bool, true, false, ℕ, ◌<◌, List, [], ◌∷◌, ◌++◌, length, Ok, Err, inl, refl, sym, ◌∙◌, ap, subst, arith}
+use Rattle.std.specs.Prelude.{if◌then◌else◌, ◌==◌, ◌&&◌}
 use Rattle.std.specs.List.{flat_map, list_all}
 use Rattle.std.proofs.lemmas.Bool.Decides.{nat_tests}
 use Rattle.std.proofs.lemmas.List.Sums.{AllPass-from_list_all, list_all-from_AllPass}
 use Rattle.first_fault.specs.Nesting.{Nested, plain}
-use Rattle.first_fault.specs.Reading.{Unexpected, Reader, Outcome, mapped, next, opened}
+use Rattle.first_fault.specs.Reading.{Unexpected, Reader, Outcome, mapped, opened}
 use Rattle.first_fault.specs.Rules.{Rule}
 use Rattle.first_fault.proofs.Exact.{Exact, Inhabited, exact_stop, exact_after, exact_token, mapped_same, by_next, by_end}
 use Rattle.first_fault.proofs.Found.{Found}

@@ -1,5 +1,5 @@
 -- The readers of trees where there is room for one.
-use Rattle.std.proofs.Common.{◌≡◌, ℕ, zero, suc, ◌-◌, ◌<◌, refl, List, ap, ◌∙◌, sym, subst, Result, arith}
+use Rattle.std.proofs.Common.{◌≡◌, ℕ, suc, ◌-◌, ◌<◌, List, sym, subst, Result, arith}
 use Rattle.proof_log.specs.declared.stop.Stop.{Stop}
 use Rattle.fof_terms.specs.declared.term.Term.{Term}
 use Rattle.fof_terms.specs.declared.form.Form.{Form}

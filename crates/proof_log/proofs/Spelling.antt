@@ -1,16 +1,15 @@
 -- Texts of words, with the nesting of each byte, and readers of them.
-use Rattle.std.proofs.Common.{◌≡◌, Bool, true, false, ℕ, suc, ◌+◌, ◌≤◌, List, [], ◌∷◌, ◌++◌, map, Option, Some, None, refl, sym, ◌∙◌, ap, subst, append_assoc, arith}
+use Rattle.std.proofs.Common.{◌≡◌, Bool, true, false, ℕ, suc, ◌+◌, ◌≤◌, List, [], ◌∷◌, ◌++◌, Option, Some, None, refl, sym, ◌∙◌, ap, subst, append_assoc, arith}
 use Rattle.std.specs.Prelude.{decimal, if◌then◌else◌}
 use Rattle.std.specs.Char.{is_ascii_digit}
-use Rattle.std.specs.List.{flat_map}
 use Rattle.std.proofs.lemmas.List.Concat.{flat_map-append}
 use Rattle.first_fault.specs.Nesting.{Nested, plain, Within, WithinTo, done, before}
-use Rattle.first_fault.specs.Reading.{Reader, and_then, mapped, next}
+use Rattle.first_fault.specs.Reading.{Reader, mapped, next}
 use Rattle.first_fault.specs.Rules.{Rule}
-use Rattle.first_fault.proofs.Exact.{Can, Inhabited, plain-append}
+use Rattle.first_fault.proofs.Exact.{plain-append}
 use Rattle.first_fault.proofs.Good.{Good, good_then, good_map, Parts}
 use Rattle.proof_log.specs.ReadWords.{both}
-use Rattle.proof_log.specs.Words.{Word, Tree, Number, word, spelled, text_of, deeper, nested, nested_word, at_level, IsInRange, AreInRange}
+use Rattle.proof_log.specs.Words.{Word, Tree, Number, word, spelled, text_of, deeper, nested, nested_word, at_level, AreInRange}
 
 -- ---- texts
 

@@ -1,5 +1,5 @@
 -- The reader of terms is exact and finds each term within its limit.
-use Rattle.std.proofs.Common.{◌≡◌, ℕ, zero, suc, ◌+◌, ◌<◌, ◌≤◌, List, [], ◌∷◌, ◌++◌, Option, Some, refl, sym, ◌∙◌, ap, subst, arith}
+use Rattle.std.proofs.Common.{◌≡◌, ℕ, zero, suc, ◌+◌, ◌≤◌, List, [], ◌∷◌, ◌++◌, Some, refl, sym, ◌∙◌, ap, subst, arith}
 use Rattle.first_fault.specs.Nesting.{Nested}
 use Rattle.first_fault.specs.Reading.{Reader}
 use Rattle.first_fault.specs.Rules.{Rule}
@@ -10,18 +10,17 @@ use Rattle.fof_terms.specs.declared.term.Term.TheVariants.{rolls-Var, rolls-App}
 use Rattle.fof_terms.specs.declared.term.Term.TheOpen as term
 use Rattle.fof_terms.specs.declared.term.Term.TheViews.{roll-Term, out-Term, roll-out-Term, outs-Var, outs-App}
 use Rattle.fof_terms.specs.declared.term.Term.TheFolds.{fold-roll-Term}
-use denote.Hole.Carrier.{roll}
 use Rattle.proof_log.specs.declared.name.TermName.{TermName}
 use Rattle.proof_log.specs.declared.name.TermName.TheVariants as n
-use Rattle.proof_log.specs.Words.{Word, small, large, node, nested, AreInRange}
+use Rattle.proof_log.specs.Words.{Word, small, node, nested, AreInRange}
 use Rattle.proof_log.specs.LogText.{term_words, term_node}
 use Rattle.proof_log.specs.Names.{term_name, term_names}
 use Rattle.proof_log.specs.ReadWords.{find, number, listed, both}
 use Rattle.proof_log.specs.ReadTrees.{term_by, term}
-use Rattle.proof_log.proofs.Spelling.{Spell, ends, pair, good_pair, ranges-append, ranges-deeper}
-use Rattle.proof_log.proofs.NumberReader.{one_number, small_good, large_good}
+use Rattle.proof_log.proofs.Spelling.{Spell, ends, pair, good_pair, ranges-deeper}
+use Rattle.proof_log.proofs.NumberReader.{one_number, small_good}
 use Rattle.proof_log.proofs.ListReader.{list_words, good_list}
-use Rattle.proof_log.proofs.TreeReader.{Args, good_tree, good_deep_tree}
+use Rattle.proof_log.proofs.TreeReader.{good_tree, good_deep_tree}
 
 -- ---- names
 

@@ -33,6 +33,10 @@ pub record IsLogOf (limit : ℕ) (text : List ℕ) (entries : List Entry) : Type
   pub is : log_text entries ≡ text
   pub within : Within limit (nested_log entries)
 
+-- The entries can be read back from their text: each of them stands in logs, and no tree in them is nested too deep.
+abbrev pub CanBeRead : ℕ → List Entry → Type 0
+CanBeRead limit entries = AreLogged entries × Within limit (nested_log entries)
+
 -- What each answer tells of the text. Want of memory tells nothing.
 abbrev pub Tells : ℕ → List ℕ → LogFault → Type 0
 Tells limit text (fault.Text offset) = IsFirstFault limit text offset

@@ -1,5 +1,5 @@
 -- Why entries do not refute a theory.
-use Rattle.std.specs.Prelude.{◌≡◌, ℕ, List, take, slice_get, Some}
+use Rattle.std.specs.Prelude.{◌≡◌, ◌⊎◌, ℕ, List, take, slice_get, Some, Result, Ok, Err}
 use Rattle.kernel.specs.Statements.{Statements, IsRefuted}
 use Rattle.kernel.specs.Entries.{Legal, Admits}
 use Rattle.kernel.specs.declared.entry.Entry.{Entry}
@@ -25,3 +25,8 @@ abbrev pub IsCheckFault : Statements → List Entry → CheckFault → Type 0
 IsCheckFault t entries (fault.Illegal number) = IsFirstIllegal t entries number
 IsCheckFault t entries fault.NotRefuted = IsNotRefuted t entries
 IsCheckFault t entries fault.Memory = Unit {0}
+
+-- the fault, or want of memory
+abbrev pub IsFaultedFor : CheckFault → Result (Unit {0}) CheckFault → Type 0
+IsFaultedFor expected (Ok done) = ⊥
+IsFaultedFor expected (Err e) = (e ≡ expected) ⊎ (e ≡ fault.Memory)

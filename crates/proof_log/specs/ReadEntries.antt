@@ -1,8 +1,7 @@
 -- What the functions that read entries and whole logs compute.
 use Rattle.std.specs.Prelude.{ℕ, zero, suc, ◌==◌, Bool, true, false, if◌then◌else◌, List, [], ◌∷◌, length, Result, Ok, Err}
-use Rattle.first_fault.specs.Reading.{Cause, Outcome, Reader, refuse, and_then, mapped, opened, closed}
+use Rattle.first_fault.specs.Reading.{Cause, Outcome, Reader, refuse, mapped, opened, closed}
 use Rattle.fof_terms.specs.declared.signature.Kind.TheVariants.{Function, Predicate}
-use Rattle.fof_terms.specs.declared.signature.Symbol.{Symbol}
 use Rattle.kernel.specs.declared.entry.Decl.{Decl}
 use Rattle.kernel.specs.declared.entry.Decl.TheVariants.{Sort, Symbol as SymbolOf}
 use Rattle.kernel.specs.declared.entry.Entry.{Entry}

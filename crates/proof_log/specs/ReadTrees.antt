@@ -1,6 +1,6 @@
 -- What the functions that read terms, formulas and proofs compute. The number is how deep they may still nest.
-use Rattle.std.specs.Prelude.{ℕ, zero, suc, List}
-use Rattle.first_fault.specs.Reading.{Outcome, Reader, refuse, and_then, mapped}
+use Rattle.std.specs.Prelude.{ℕ, zero, suc}
+use Rattle.first_fault.specs.Reading.{Reader, refuse, and_then, mapped}
 use Rattle.fof_terms.specs.declared.term.Term.{Term, Var, App}
 use Rattle.fof_terms.specs.declared.form.Form.{Form, Atom, Eq, Not, And, Or, Imp, Iff, All, Ex}
 use Rattle.kernel.specs.declared.proof.Proof.{Proof, Line, Hyp, AndI, AndE, OrI, OrE, ImpI, ImpE, NotI, NotE, Raa, IffI, IffL, IffR, AllI, AllE, ExI, ExE, Refl, Subst, Inhabit}

@@ -1,7 +1,7 @@
 -- What the functions that read words compute.
 use Rattle.std.specs.Prelude.{ℕ, zero, suc, ◌+◌, ◌*◌, ◌-◌, ◌==◌, ◌&&◌, nat_le, max, Bool, if◌then◌else◌, List, [], ◌∷◌, length, drop, Option, Some, None, Ok, Err}
 use Rattle.std.specs.Char.{is_ascii_digit}
-use Rattle.first_fault.specs.Reading.{Unexpected, TooDeep, Outcome, Reader, refuse, and_then, mapped, opened}
+use Rattle.first_fault.specs.Reading.{Unexpected, TooDeep, Reader, refuse, and_then, mapped, opened}
 
 abbrev pub is_byte : ℕ → ℕ → Bool
 is_byte mark b = b == mark

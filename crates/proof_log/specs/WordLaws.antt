@@ -1,10 +1,10 @@
 -- The texts of words that are put together.
-use Rattle.std.specs.Prelude.{ℕ, ◌≡◌, List, [], ◌∷◌, ◌++◌, length, map, decimal}
+use Rattle.std.specs.Prelude.{◌≡◌, List, [], ◌∷◌, ◌++◌, length, map, decimal}
 use Rattle.std.specs.List.{flat_map}
 use Rattle.std.proofs.Common.{refl, sym, ◌∙◌, ap, append-nil}
 use Rattle.std.proofs.lemmas.List.{length-map}
 use Rattle.std.proofs.lemmas.List.Concat.{flat_map-append}
-use Rattle.proof_log.specs.Words.{Word, Tree, Number, spelled, word, text_of, deeper, node, list_of}
+use Rattle.proof_log.specs.Words.{Word, Tree, Number, spelled, word, text_of, deeper, list_of}
 
 pub text-append : (xs ys : List Word) → text_of (xs ++ ys) ≡ text_of xs ++ text_of ys
 text-append xs ys = flat_map-append (λ w. word (spelled w)) xs ys

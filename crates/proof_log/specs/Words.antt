@@ -1,5 +1,5 @@
 -- The words of a log: the names of trees and numbers, each with a blank before it.
-use Rattle.std.specs.Prelude.{ℕ, suc, ◌+◌, ◌≤◌, ⊤, List, [], ◌∷◌, ◌++◌, length, map, decimal}
+use Rattle.std.specs.Prelude.{ℕ, suc, ◌+◌, ◌≤◌, ⊤, List, [], ◌∷◌, length, map, decimal}
 use Rattle.std.specs.List.{flat_map}
 use Rattle.first_fault.specs.Nesting.{Nested}
 

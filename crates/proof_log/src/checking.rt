@@ -1,7 +1,7 @@
 // The entries of a log are checked.
-ghost use Rattle.std.specs.Prelude.{IfErr, OnOk};
+ghost use Rattle.std.specs.Prelude.{◌≡◌, ℕ, IfErr, OnOk};
 ghost use Rattle.kernel.specs.Entries.{Refutes};
-ghost use Rattle.proof_log.specs.Checks.{IsCheckFault};
+ghost use Rattle.proof_log.specs.Checks.{IsCheckFault, IsFaultedFor, IsFirstIllegal, IsNotRefuted};
 
 use kernel::{AdmitFault, Entry, Theory};
 use thiserror::Error;
@@ -24,7 +24,20 @@ pub enum CheckFault {
 /// # Errors
 ///
 /// As `CheckFault` tells them. The theory has then the entries before the first illegal one, or all.
+#[tactic(auto, using(crate::proofs::OneTheory::illegal_alone, crate::proofs::OneTheory::unrefuted_alone))]
 pub fn check_entries(theory: &mut Theory, entries: &[Entry]) -> Result<(), CheckFault>
+    ensures ok { OnOk result (Refutes theory.old entries.now) }
+    ensures fault { IfErr result (λ fault. IsCheckFault theory.old entries.now fault) }
+    // Each of these answers comes wherever it is true, unless memory runs out.
+    ensures refuted { Refutes theory.old entries.now → IfErr result (λ fault. fault ≡ CheckFault.Memory) }
+    ensures illegal { (number : ℕ) → IsFirstIllegal theory.old entries.now number → IsFaultedFor (CheckFault.Illegal number) result }
+    ensures unrefuted { IsNotRefuted theory.old entries.now → IsFaultedFor CheckFault.NotRefuted result }
+{
+    admit_all(theory, entries)
+}
+
+// The same, by what each answer tells alone.
+fn admit_all(theory: &mut Theory, entries: &[Entry]) -> Result<(), CheckFault>
     ensures ok { OnOk result (Refutes theory.old entries.now) }
     ensures fault { IfErr result (λ fault. IsCheckFault theory.old entries.now fault) }
 {

@@ -1,5 +1,7 @@
 //! Laws of the text of logs, shown by functions that do nothing.
 ghost use Rattle.std.specs.Prelude.{◌≡◌, ℕ, ◌++◌, List};
+ghost use Rattle.kernel.specs.Entries.{Admits};
+ghost use Rattle.kernel.specs.Statements.{Statements};
 ghost use Rattle.kernel.specs.declared.entry.Entry.{Entry};
 ghost use Rattle.proof_log.specs.Entries.{AreLogged, log_text};
 
@@ -12,4 +14,9 @@ pub fn one_text_is_of_one_log()
 pub fn a_log_begins_a_log()
     ensures { (first second : List Entry) (more : List ℕ) → AreLogged first → AreLogged second → log_text first ++ more ≡ log_text second →
         (others : List Entry) × (second ≡ first ++ others) }
+{}
+
+/// Entries that are legal in turn make one theory of another.
+pub fn entries_make_one_theory()
+    ensures { (start first second : Statements) (entries : List Entry) → Admits start entries first → Admits start entries second → first ≡ second }
 {}

@@ -1,6 +1,4 @@
-use Rattle.std.proofs.Common.{◌≡◌, ◌-◌, ◌⊎◌, List, ℕ, length, sym, ◌∙◌, ap, subst}
-use Rattle.kernel.specs.declared.entry.Entry.{Entry}
-use Rattle.proof_log.specs.declared.stop.Stop.{Stop}
+use Rattle.std.proofs.Common.{◌≡◌, ◌-◌, ◌⊎◌, length, sym, ◌∙◌, ap, subst}
 use Rattle.proof_log.specs.declared.reader.LogFault.{LogFault}
 use Rattle.proof_log.specs.declared.reader.LogFault.TheVariants as fault
 use Rattle.proof_log.specs.Answers.{fault_of, FailsEntries, Tells}
