@@ -6,3 +6,6 @@ pub mod Joins
 pub mod Sets
 pub mod Slashes
 pub mod Steps
+pub mod OneText
+pub mod OneAnswer
+pub mod ResolvedItems

@@ -1,4 +1,5 @@
 pub mod Causes
+pub mod Laws
 pub mod NameSet
 pub mod Names
 pub mod Opening

@@ -2,6 +2,7 @@
 #![tactic(auto)]
 
 mod fault;
+mod law;
 mod name_set;
 mod names;
 mod opened;
@@ -14,6 +15,7 @@ mod selection;
 mod spelling;
 
 pub use fault::{IncludeFault, TextFault};
+pub use law::{all_includes_are_replaced, one_answer};
 pub use problem::{MAX_DEPTH, Problem, TOTAL_SIZE};
 pub use resolving::resolve;
 

@@ -10,6 +10,7 @@ pub mod LineSorts
 pub mod Loops
 pub mod NameLists
 pub mod Noting
+pub mod OneAnswer
 pub mod Parts
 pub mod Scopes
 pub mod Stepping

@@ -8,3 +8,4 @@ pub mod Texts
 pub mod Given
 pub mod Sorting
 pub mod Namesakes
+pub mod Laws

@@ -9,6 +9,7 @@ mod denotation;
 mod fault;
 mod formulas;
 mod giving;
+mod law;
 mod line;
 mod names;
 mod namesakes;
@@ -20,6 +21,7 @@ mod variables;
 pub use denotation::denote;
 pub use fault::{SortFault, SortRule};
 pub use giving::given;
+pub use law::one_answer;
 pub use line::{GivenEntry, Line, TextKind};
 
 #[cfg(test)]

@@ -21,3 +21,5 @@ pub mod Nests
 pub mod Whole
 pub mod Digits
 pub mod Refusals
+pub mod Stuck
+pub mod OneAnswer

@@ -168,7 +168,7 @@ longer_at : (b : Bool) (c : Placed) (us : List Token) (n : ℕ) → n ≤ length
 longer_at true c us n le = le
 longer_at false c us n le = omega arith
 
-solid_longer : (front rest : List Placed) → length (solid rest) ≤ length (solid (front ++ rest))
+pub solid_longer : (front rest : List Placed) → length (solid rest) ≤ length (solid (front ++ rest))
 solid_longer [] rest = omega arith
 solid_longer (c ∷ front) rest = longer_at (is_remark c) c (solid (front ++ rest)) (length (solid rest)) (solid_longer front rest)
 
@@ -196,11 +196,11 @@ entry_found (c ∷ front) rest left h e = entry_by false left c (front ++ rest) 
 
 -- ---- what the answers say
 
-abbrev cause_of : FileOutcome → Cause
+abbrev pub cause_of : FileOutcome → Cause
 cause_of (Ok items) = Unexpected
 cause_of (Err f) = f.0
 
-abbrev items_of : FileOutcome → List Item
+abbrev pub items_of : FileOutcome → List Item
 items_of (Ok items) = items
 items_of (Err f) = []
 
@@ -215,7 +215,7 @@ module _ (room : ℕ) (items : List Item) (raw : List Placed) (us : Tokens) (d :
     | inr h ↦ (let same : ◌≡◌ {A = FileOutcome} (Err (TooDeep, plain h.0)) (Err (Unexpected, rest)) = sym h.2 ∙ e in let causes : TooDeep ≡ Unexpected = ap cause_of same in cc)
   ]
 
-  within_read : Within room us → file room raw ≡ Ok items
+  pub within_read : Within room us → file room raw ≡ Ok items
   within_read w = elim (found_file room d) [ inl h ↦ h.1 | inr h ↦ absurd (not_over h.1 w) ]
 
   deep_refused : (over : Tokens) → FirstOver room us over → (rest : Tokens) × (file room raw ≡ Err (TooDeep, plain rest))

@@ -17,3 +17,4 @@ pub mod Faults
 pub mod ReadItems
 pub mod ReadFile
 pub mod Answers
+pub mod Laws

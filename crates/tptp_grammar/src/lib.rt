@@ -8,6 +8,7 @@ mod fault;
 mod formulas;
 mod general;
 mod items;
+mod law;
 mod lists;
 mod reading;
 mod sorts;
@@ -16,6 +17,7 @@ mod terms;
 mod words;
 
 pub use fault::GrammarFault;
+pub use law::one_answer;
 pub use reading::parse;
 
 #[cfg(test)]

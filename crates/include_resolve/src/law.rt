@@ -1,0 +1,19 @@
+//! Laws of the definitions. Their bodies are empty: what they say is in their contracts.
+ghost use Rattle.std.specs.Prelude.{◌≡◌, ℕ, List, All, Option, Some, Ok, length};
+ghost use Rattle.tptp_base.specs.Store.{Files};
+ghost use Rattle.include_resolve.specs.declared.problem.Problem.{Problem};
+ghost use Rattle.include_resolve.specs.Laws.{IsResolvedItem};
+ghost use Rattle.include_resolve.specs.Parts.{Answer};
+ghost use Rattle.include_resolve.specs.Resolved.{Resolves};
+
+/// What a file gives with all that it includes, or the first fault on the walk through the files, is one.
+pub fn one_answer()
+    ensures { (files : Files) (root : Option (List ℕ)) (name : List ℕ) (answer other : Answer) →
+        Resolves (Some files) root name answer → Resolves (Some files) root name other → answer ≡ other }
+{}
+
+/// The items of a resolved problem are comments and formulas, whose places are in its files. Over every store.
+pub fn all_includes_are_replaced()
+    ensures { (told : Option Files) (root : Option (List ℕ)) (name : List ℕ) (problem : Problem) →
+        Resolves told root name (Ok problem) → All (IsResolvedItem (length problem.files)) problem.items }
+{}

@@ -1,0 +1,8 @@
+use Rattle.sort_check.proofs.OneAnswer.{one, some}
+use Rattle.sort_check.proofs.law.one_answer.Goals as goal
+
+pub returns-clause-some : goal.returns-clause-some
+returns-clause-some c = some
+
+pub returns-clause-one : goal.returns-clause-one
+returns-clause-one c = one

@@ -1,0 +1,16 @@
+-- What the laws of the parser's answers say.
+use Rattle.std.specs.Prelude.{◌≡◌, ◌⊎◌, List, Result, Err}
+use Rattle.tptp_base.specs.declared.item.Item.{Item}
+use Rattle.tptp_base.specs.declared.place.Place.{Place}
+use Rattle.tptp_grammar.specs.declared.fault.GrammarFault.{GrammarFault}
+use Rattle.tptp_grammar.specs.declared.fault.GrammarFault.TheVariants.{Memory}
+use Rattle.tptp_grammar.specs.Answers.{Answers}
+use Rattle.tptp_grammar.specs.Solid.{Placed}
+
+-- Two answers are one, but that memory may be wanting.
+abbrev pub IsOne : Result (List Item) GrammarFault → Result (List Item) GrammarFault → Type 0
+IsOne answer other = (answer ≡ other) ⊎ ((answer ≡ Err Memory) ⊎ (other ≡ Err Memory))
+
+-- The tokens have an answer other than want of memory.
+abbrev pub HasAnswer : List Placed → Place → Type 0
+HasAnswer tokens end = (answer : Result (List Item) GrammarFault) × (answer ≡ Err Memory → ⊥) × Answers tokens end answer
