@@ -44,3 +44,7 @@ pub mod Rewritten
 pub mod RewrittenAt
 pub mod RewriteCode
 pub mod FirstRule
+pub mod Unlike
+pub mod Uncovered
+pub mod Changing
+pub mod Unmet

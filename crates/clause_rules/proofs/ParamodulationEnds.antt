@@ -1,20 +1,17 @@
--- Where a paramodulation has no place, no equation or no heads that match, and the places and equations that are tried.
-use Rattle.std.specs.Prelude.{ℕ, Bool, true, false, ◌≡◌, ◌+◌, List, [], ◌∷◌, ◌++◌, length, map, Option, Some, None, slice_get}
-use Rattle.std.proofs.Common.{ap, sym, subst, ◌∙◌, arith, zero, suc, eq-eqb}
+-- Where a paramodulation has no place, no equation or no terms that meet, and the places and equations that are tried.
+use Rattle.std.specs.Prelude.{ℕ, Bool, true, false, ◌≡◌, ◌+◌, List, [], ◌∷◌, ◌++◌, length, Option, Some, None, slice_get}
+use Rattle.std.proofs.Common.{ap, sym, subst, ◌∙◌, arith, zero, suc}
 use Rattle.fof_terms.specs.Vocabulary.{Vocabulary}
-use Rattle.fof_terms.specs.declared.term.Term.{Term, Var, App}
-use Rattle.fof_terms.specs.declared.term.Term.TheOpen as term
-use Rattle.fof_terms.specs.declared.term.Term.TheViews.{out-Term, outs-Var, outs-App}
-use Rattle.fof_terms.specs.Induction.{term_induction}
+use Rattle.fof_terms.specs.declared.term.Term.{Term}
 use Rattle.fof_terms.specs.Lift.{lifted_term}
-use Rattle.fof_terms.specs.Walks.{TermWalk, both_terms, lifting_term}
+use Rattle.fof_terms.specs.Walks.{lifting_term}
 use Rattle.clause_form.specs.declared.clause.Lit.{Lit}
 use Rattle.clause_form.specs.declared.clause.Clause.{Clause}
 use Rattle.clause_form.specs.declared.path.Parent.{Parent}
 use Rattle.clause_form.specs.ClauseLaws.{get_image}
 use Rattle.clause_form.specs.ClauseView.{clause_of}
 use Rattle.clause_form.specs.Covers.{lit_apart, lit_image}
-use Rattle.clause_form.specs.Images.{image}
+use Rattle.clause_form.specs.Images.{image, image_of_lifted}
 use Rattle.fof_terms.specs.declared.form.Form.{Form}
 use Rattle.clause_rules.specs.declared.joint.Joint.{Joint}
 use Rattle.clause_rules.specs.declared.just.Just.{Just}
@@ -25,34 +22,17 @@ use Rattle.clause_rules.specs.Answers.{IsAnswer, paramodulation, rule_of}
 use Rattle.clause_rules.specs.JointClauses.{IsJoined}
 use Rattle.clause_rules.specs.Justified.{Shows}
 use Rattle.clause_rules.specs.ParamodulationRule.{HasPlace, Paramodulates}
-use Rattle.clause_rules.specs.ParamodulationSearch.{heads_match, layers_match, sites_of_places, sites_of_lits, sites_of_slot, sites_from, readings_of_atom, readings_of_lits, readings_of_slot, readings_from, HasSpot, HasEquation, FoundAtSites}
+use Rattle.clause_rules.specs.ParamodulationSearch.{sites_of_places, sites_of_lits, sites_of_slot, sites_from, readings_of_atom, readings_of_lits, readings_of_slot, readings_from, HasSpot, HasEquation, FoundAtSites}
 use Rattle.clause_rules.specs.Places.{lit_term_at}
 use Rattle.clause_rules.specs.PlaceSearch.{places_of}
+use Rattle.clause_rules.specs.Screens.{NeverEqual}
 use Rattle.clause_rules.specs.Steps.{equation, instances, apart_from, clauses_of}
 use Rattle.clause_rules.proofs.Equations.{equation_image, equation_parts, same_sides}
 use Rattle.clause_rules.proofs.Factoring.{get_of_map, get_lifted}
 use Rattle.clause_rules.proofs.Firsts.{one_at}
 use Rattle.clause_rules.proofs.LitImages.{imaging}
 use Rattle.clause_rules.proofs.PlaceLaws.{lit_at_walk, place_listed}
-
-var_left : (k : ℕ) (u : Term) → heads_match (Var k) u ≡ true
-var_left k = term_induction _ (record {
-  var = λ m. ap (λ y. layers_match y (out-Term (Var m))) (outs-Var k) ∙ ap (layers_match (term.Var k)) (outs-Var m);
-  app = λ g us all. ap (λ y. layers_match y (out-Term (App g us))) (outs-Var k) ∙ ap (layers_match (term.Var k)) (outs-App g us);
-})
-
--- terms with the same image have heads that match
-pub heads : (f g : Term → Term) → TermWalk f → TermWalk g → (t u : Term) → f t ≡ g u → heads_match t u ≡ true
-heads f g w x = term_induction _ (record {
-  var = λ k u e. var_left k u;
-  app = λ p ts all. term_induction _ (record {
-    var = λ m e. ap (λ y. layers_match y (out-Term (Var m))) (outs-App p ts) ∙ ap (layers_match (term.App p ts)) (outs-Var m);
-    app = λ q us all' e.
-        let apps : App p (map f ts) ≡ App q (map g us) = sym (w.app p ts) ∙ e ∙ x.app q us in
-        let same : p ≡ q = cc in
-        ap (λ y. layers_match y (out-Term (App q us))) (outs-App p ts) ∙ ap (layers_match (term.App p ts)) (outs-App q us) ∙ eq-eqb p q same;
-  });
-})
+use Rattle.clause_rules.proofs.Uncovered.{no_line}
 
 module _ (v : Vocabulary) (into from line : Clause) (i j : ℕ) (place : List ℕ) (flipped : Bool) (more : List ℕ) (s : ℕ → Term) (h : Paramodulates v into from line i place j flipped more s) where
   pub no_spot : HasSpot into.lits i place None → ⊥
@@ -70,8 +50,8 @@ module _ (v : Vocabulary) (into from line : Clause) (i j : ℕ) (place : List �
   pub no_equation : HasEquation from.lits j flipped None → ⊥
   no_equation none = none from_equation.0 from_equation.1 from_equation.2
 
-  pub no_heads : (k : Lit) (u l r : Term) → slice_get into.lits i ≡ Some k → lit_term_at place k ≡ Some u → slice_get from.lits j ≡ Some (equation flipped l r) → heads_match u l ≡ false → ⊥
-  no_heads k u l r at there over clash =
+  pub no_heads : (k : Lit) (u l r : Term) → slice_get into.lits i ≡ Some k → lit_term_at place k ≡ Some u → slice_get from.lits j ≡ Some (equation flipped l r) → NeverEqual false u l → ⊥
+  no_heads k u l r at there over never =
       let p = h.paramodulant in
       let changed : p.changed ≡ lit_image s k = one_at (instances s into.lits) i p.changed (lit_image s k) p.in_into (get_image s into.lits i k at) in
       let stands : Some (image s u) ≡ Some p.left = sym (lit_at_walk (image s) (imaging s) place k u there) ∙ ap (lit_term_at place) (sym changed) ∙ p.stands in
@@ -80,9 +60,7 @@ module _ (v : Vocabulary) (into from line : Clause) (i j : ℕ) (place : List �
       let apart : slice_get (apart_from into from.lits) j ≡ Some (equation flipped (lift l) (lift r)) = get_lifted (lit_apart (length into.sorts)) from.lits j (equation flipped l r) over ∙ ap Some (equation_image lift flipped l r) in
       let there_ : slice_get (instances s (apart_from into from.lits)) j ≡ Some (equation flipped (image s (lift l)) (image s (lift r))) = get_image s (apart_from into from.lits) j (equation flipped (lift l) (lift r)) apart ∙ ap Some (equation_image (image s) flipped (lift l) (lift r)) in
       let sides = same_sides flipped p.left p.right (image s (lift l)) (image s (lift r)) (one_at (instances s (apart_from into from.lits)) j (equation flipped p.left p.right) (equation flipped (image s (lift l)) (image s (lift r))) p.in_from there_) in
-      let yes = heads (image s) (λ t. image s (lift t)) (imaging s) (both_terms (image s) lift (imaging s) (lifting_term (length into.sorts) 0)) u l (left ∙ sides.0) in
-      let never : false ≡ true = sym clash ∙ yes in
-      cc
+      never s (λ m. s (m + length into.sorts)) (no_line (λ m. s (m + length into.sorts))) (left ∙ sides.0 ∙ image_of_lifted s (length into.sorts) l)
 
   module _ (joint : Joint) (joined : IsJoined line into from joint) where
     pub no_joint_spot : HasSpot joint.left i place None → ⊥
@@ -218,3 +196,9 @@ paramodulation_answer v parents form line clauses sites readings is same listed 
       },
     ) in
     (ap rule_of w.is, subst (Shows v parents form) (sym w.is) shows)
+
+-- nothing is found where no equation is read
+pub no_readings : (v : Vocabulary) (clauses : List (Option Clause)) (sites : List Site) (readings : List Reading) (line : Clause) → readings ≡ [] → FoundAtSites v clauses sites readings line None
+no_readings v clauses sites readings line empty = λ m site at k reading e. let none : slice_get [] k ≡ Some reading = ap (λ (rs : List Reading). slice_get rs k) (sym empty) ∙ e in absurd (nothing k reading none) where
+  nothing : (k : ℕ) (reading : Reading) → slice_get [] k ≡ Some reading → ⊥
+  nothing k reading e = cc

@@ -1,33 +1,30 @@
 -- The search at two literals: its goal is well-sorted, and what solves it shows the resolution.
-use Rattle.std.specs.Prelude.{ℕ, ◌≡◌, ◌<◌, ◌≤◌, ◌^◌, not, Bool, true, false, List, [], ◌∷◌, ◌++◌, length, map, Option, Some, None, slice_get, get_or, refl}
-use Rattle.std.proofs.Common.{ap, sym, subst, ◌∙◌, arith, inl, inr, length-append, zero, suc}
-use Rattle.std.proofs.lemmas.Bool.{eq-eqb}
+use Rattle.std.specs.Prelude.{ℕ, ◌≡◌, ◌+◌, ◌<◌, ◌≤◌, ◌^◌, not, true, List, [], ◌∷◌, ◌++◌, length, map, Option, Some, None, slice_get, get_or, refl}
+use Rattle.std.proofs.Common.{ap, sym, subst, arith, length-append, zero, suc}
 use Rattle.std.proofs.lemmas.List.{length-reverse}
 use Rattle.std.proofs.lemmas.List.Elements.{All-append, All-cons, All-nil, All-get_or}
 use Rattle.std.proofs.lemmas.Option.{slice_get-get_or, slice_get_within}
 use Rattle.fof_terms.specs.Vocabulary.{Vocabulary}
 use Rattle.fof_terms.specs.declared.term.Term.{Term}
-use Rattle.fof_terms.specs.Lift.{lifted_term}
-use Rattle.clause_form.specs.declared.clause.AtomOf.{AtomOf}
-use Rattle.clause_form.specs.declared.clause.AtomOf.TheVariants.{Pred, Eq, True, False}
 use Rattle.clause_form.specs.declared.clause.Lit.{Lit}
 use Rattle.clause_form.specs.declared.clause.Clause.{Clause}
-use Rattle.clause_form.specs.Covers.{at_terms, in_lit, lit_apart, lit_image, scope_of, is_sorted_atom, AreSorted, IsSameAtom, AreComplementary}
-use Rattle.clause_form.specs.Images.{image}
+use Rattle.clause_form.specs.ClauseLaws.{get_image}
+use Rattle.clause_form.specs.Covers.{lit_apart, lit_image, scope_of, is_sorted_atom, AreSorted, AreComplementary}
 use Rattle.unify_terms.specs.declared.goal.Goal.{Goal}
 use Rattle.unify_terms.specs.Goals.{goal_sorted}
 use Rattle.unify_terms.specs.Substitution.{image_at}
 use Rattle.clause_rules.specs.declared.joint.Joint.{Joint}
 use Rattle.clause_rules.specs.declared.resolution_rule.Found.{Found}
-use Rattle.clause_rules.specs.Heads.{is_same_head}
 use Rattle.clause_rules.specs.JointClauses.{IsJoined}
 use Rattle.clause_rules.specs.ResolutionRule.{IsResolvent, Resolves}
-use Rattle.clause_rules.specs.ResolutionSearch.{resolution_needs, is_other, can_clash, AsksAt, ClashAt, FoundAt}
+use Rattle.clause_rules.specs.ResolutionSearch.{resolution_needs, NeverResolves, AsksAt, FoundAt}
+use Rattle.clause_rules.specs.Screens.{NeverClash, NeverPivot}
 use Rattle.clause_rules.specs.Settled.{IsFit, Settles, IsSolution}
-use Rattle.clause_rules.specs.Steps.{scope_of_both, apart_from, IsJoint}
+use Rattle.clause_rules.specs.Steps.{scope_of_both, apart_from, instances, IsJoint}
 use Rattle.clause_rules.specs.Ways.{MeetsNeeds, cover_needs}
+use Rattle.clause_rules.proofs.Firsts.{one_at}
 use Rattle.clause_rules.proofs.JointImages.{sorted_further, sorted_apart, made, made_joint, parents_images}
-use Rattle.clause_rules.proofs.LitImages.{lit_twice}
+use Rattle.clause_rules.proofs.LitImages.{images_apart}
 use Rattle.clause_rules.proofs.Meeting.{solved_needs, unsolved_needs}
 use Rattle.clause_rules.proofs.NeedSorts.{NeedsFit, sorted_fits, lit_fits, all_cover_fits, more_fit, goal_fits}
 use Rattle.clause_rules.proofs.Resolving.{resolvent_forth, resolvent_back}
@@ -130,48 +127,6 @@ module _ (v : Vocabulary) (left right line : Clause) (left_fit : IsFit v left) (
           },
         )
 
--- literals whose signs are one or whose heads differ do not become complementary
-same_heads : (f g : Term → Term) (a b : AtomOf) → IsSameAtom (at_terms f a) (at_terms g b) → is_same_head a b ≡ true
-same_heads f g (Pred p ts) (Pred q us) (inl e) = let same : p ≡ q = cc in eq-eqb p q same
-same_heads f g (Pred p ts) (Pred q us) (inr e) = let same : p ≡ q = cc in eq-eqb p q same
-same_heads f g (Pred p ts) (Eq c d) (inl e) = cc
-same_heads f g (Pred p ts) (Eq c d) (inr e) = cc
-same_heads f g (Pred p ts) True (inl e) = cc
-same_heads f g (Pred p ts) True (inr e) = cc
-same_heads f g (Pred p ts) False (inl e) = cc
-same_heads f g (Pred p ts) False (inr e) = cc
-same_heads f g (Eq l r) (Pred q us) (inl e) = cc
-same_heads f g (Eq l r) (Pred q us) (inr e) = cc
-same_heads f g (Eq l r) (Eq c d) h = refl
-same_heads f g (Eq l r) True (inl e) = cc
-same_heads f g (Eq l r) True (inr e) = cc
-same_heads f g (Eq l r) False (inl e) = cc
-same_heads f g (Eq l r) False (inr e) = cc
-same_heads f g True (Pred q us) (inl e) = cc
-same_heads f g True (Pred q us) (inr e) = cc
-same_heads f g True (Eq c d) (inl e) = cc
-same_heads f g True (Eq c d) (inr e) = cc
-same_heads f g True True h = refl
-same_heads f g True False (inl e) = cc
-same_heads f g True False (inr e) = cc
-same_heads f g False (Pred q us) (inl e) = cc
-same_heads f g False (Pred q us) (inr e) = cc
-same_heads f g False (Eq c d) (inl e) = cc
-same_heads f g False (Eq c d) (inr e) = cc
-same_heads f g False True (inl e) = cc
-same_heads f g False True (inr e) = cc
-same_heads f g False False h = refl
-
-other_signs : (g h : Bool) → not g ≡ h → is_other g h ≡ true
-other_signs true true e = cc
-other_signs true false e = refl
-other_signs false true e = refl
-other_signs false false e = cc
-
-clashes : (f g : Term → Term) (k l : Lit) → AreComplementary (in_lit f k) (in_lit g l) → can_clash k l ≡ true
-clashes f g k l (inl e) = rw (other_signs k.positive l.positive (ap (λ (x : Lit). x.positive) e), same_heads f g k.atom l.atom (inl (ap (λ (x : Lit). x.atom) e))) refl
-clashes f g k l (inr e) = rw (other_signs k.positive l.positive (ap (λ (x : Lit). x.positive) e), same_heads f g k.atom l.atom (inr (ap (λ (x : Lit). x.atom) e))) refl
-
 get_of_map : {X Y : Type 0} (f : X → Y) (xs : List X) (i : ℕ) (y : Y) → slice_get (map f xs) i ≡ Some y → (x : X) × (slice_get xs i ≡ Some x) × (f x ≡ y)
 get_of_map f [] i y e = cc
 get_of_map f (x ∷ xs) zero y e = (x, refl, cc)
@@ -186,18 +141,23 @@ some_at [] i h = absurd (omega arith)
 some_at (x ∷ xs) zero h = (x, refl)
 some_at (x ∷ xs) (suc i) h = some_at xs i (omega arith)
 
-pub no_clash : (v : Vocabulary) (left right line : Clause) (i j : ℕ) (answer : Bool) → ClashAt left right i j answer → answer ≡ false → (more : List ℕ) (s : ℕ → Term) → Resolves v left right line i j more s → ⊥
-no_clash v left right line i j answer told e more s r =
-    let k = get_of_map (lit_image s) left.lits i r.resolvent.pivot r.resolvent.in_left in
-    let m = get_of_map (lit_image s) (apart_from left right.lits) j r.resolvent.opposite r.resolvent.in_right in
-    let l = get_of_map (lit_apart (length left.sorts)) right.lits j m.0 m.1 in
-    let whole : lit_image s (lit_apart (length left.sorts) l.0) ≡ r.resolvent.opposite = ap (lit_image s) l.2 ∙ m.2 in
-    let both : AreComplementary (lit_image s k.0) (in_lit (λ t. image s (lifted_term (length left.sorts) 0 t)) l.0) =
-    subst (AreComplementary (lit_image s k.0)) (sym whole ∙ lit_twice (image s) (lifted_term (length left.sorts) 0) (λ t. image s (lifted_term (length left.sorts) 0 t)) (λ t. refl) l.0)
-    (subst (λ x. AreComplementary x r.resolvent.opposite) (sym k.2) r.resolvent.complementary) in
-    let yes = clashes (image s) (λ t. image s (lifted_term (length left.sorts) 0 t)) k.0 l.0 both in
-    let same = told k.0 l.0 k.1 l.1 in
-    cc
+-- tests that come before
+module _ (line left right : List Lit) (i j : ℕ) (k l : Lit) (at : slice_get left i ≡ Some k) (over : slice_get right j ≡ Some l) where
+  pub never_clashing : NeverClash k l → NeverResolves line left right i j
+  never_clashing never = λ s r h.
+      let one : lit_image s k ≡ h.pivot = one_at (instances s left) i (lit_image s k) h.pivot (get_image s left i k at) h.in_left in
+      let two : lit_image r l ≡ h.opposite = one_at (instances r right) j (lit_image r l) h.opposite (get_image r right j l over) h.in_right in
+      never s r (subst (λ (x : Lit). AreComplementary x (lit_image r l)) (sym one) (subst (λ (y : Lit). AreComplementary h.pivot y) (sym two) h.complementary))
+
+pub never_left : (line left right : List Lit) (i j : ℕ) → NeverPivot line left i → NeverResolves line left right i j
+never_left line left right i j never = λ s r h. never s h.pivot h.in_left h.left_covered
+
+pub never_right : (line left right : List Lit) (i j : ℕ) → NeverPivot line right j → NeverResolves line left right i j
+never_right line left right i j never = λ s r h. never r h.opposite h.in_right h.right_covered
+
+pub no_resolution : (v : Vocabulary) (left right line : Clause) (i j : ℕ) → NeverResolves line.lits left.lits right.lits i j → (more : List ℕ) (s : ℕ → Term) → Resolves v left right line i j more s → ⊥
+no_resolution v left right line i j never more s r =
+    never s (λ k. s (k + length left.sorts)) (subst (λ ks. IsResolvent line.lits (instances s left.lits) ks i j) (images_apart s (length left.sorts) right.lits) r.resolvent)
 
 module _ (v : Vocabulary) (left right line : Clause) (left_fit : IsFit v left) (right_fit : IsFit v right) (line_fit : IsFit v line) (joint : Joint) (joined : IsJoined line left right joint) (i j : ℕ) (goal : Goal) (asks : AsksAt line joint i j goal) (in_left : i < length left.lits) (in_right : j < length right.lits) where
   pivot_at : (k : Lit) × (slice_get joint.left i ≡ Some k)

@@ -1,5 +1,5 @@
 -- The search for a rewriting, as code makes it.
-use Rattle.std.specs.Prelude.{ℕ, Bool, true, false, ◌≡◌, ◌<◌, ◌≤◌, ◌^◌, List, [], ◌++◌, length, map, Option, Some, None, Result, IfOk, slice_get, refl}
+use Rattle.std.specs.Prelude.{ℕ, Bool, true, ◌≡◌, ◌<◌, ◌≤◌, ◌^◌, List, [], ◌++◌, length, map, Option, Some, None, Result, IfOk, slice_get, refl}
 use Rattle.std.specs.List.{All as Each}
 use Rattle.std.proofs.Common.{ap, sym, subst, ◌∙◌, arith, append_assoc, length-append}
 use Rattle.std.proofs.lemmas.List.{length-reverse}
@@ -7,9 +7,8 @@ use Rattle.std.proofs.lemmas.List.Elements.{All-weaker}
 use Rattle.std.proofs.lemmas.Option.{slice_get_within}
 use Rattle.fof_terms.specs.Vocabulary.{Vocabulary}
 use Rattle.fof_terms.specs.declared.form.Form.{Form}
-use Rattle.fof_terms.specs.declared.term.Term.{Term}
+use Rattle.fof_terms.specs.declared.term.Term.{Term, Var}
 use Rattle.fof_terms.specs.Lift.{lifted_term}
-use Rattle.fof_terms.specs.Walks.{staying_term}
 use Rattle.clause_form.specs.declared.clause.Lit.{Lit}
 use Rattle.clause_form.specs.declared.clause.Clause.{Clause}
 use Rattle.clause_form.specs.declared.path.Parent.{Parent}
@@ -32,11 +31,12 @@ use Rattle.clause_rules.specs.declared.sites.Site.{Site}
 use Rattle.clause_rules.specs.Answers.{IsAnswer, rewrite, rule_of}
 use Rattle.clause_rules.specs.JointClauses.{IsJoinedOne}
 use Rattle.clause_rules.specs.Justified.{Shows}
-use Rattle.clause_rules.specs.ParamodulationSearch.{HasEquation, heads_match, sites_from, readings_from}
+use Rattle.clause_rules.specs.ParamodulationSearch.{HasEquation, sites_from, readings_from}
 use Rattle.clause_rules.specs.Places.{lit_term_at}
 use Rattle.clause_rules.specs.Reach.{atom_reach}
 use Rattle.clause_rules.specs.RewriteRule.{AreLitsRewritten, Rewrites}
 use Rattle.clause_rules.specs.RewriteSearch.{NoRewriting, IsRewriting, SettlesRewriting, NoRewritingAt, ShowsRewritingAt, TriedRewriting, ShowsRewriting, RewritesAtSite, RewritesAtSites}
+use Rattle.clause_rules.specs.Screens.{NeverEqual}
 use Rattle.clause_rules.specs.Settled.{IsFit, Settles, IsSolution}
 use Rattle.clause_rules.specs.Steps.{AreCovered, equation, instances, clauses_of, scope_of_both}
 use Rattle.clause_rules.specs.Ways.{cover_needs, goal_of_needs}
@@ -45,12 +45,13 @@ use Rattle.clause_rules.proofs.Equations.{equation_image, same_sides}
 use Rattle.clause_rules.proofs.Factoring.{get_of_map, no_lits}
 use Rattle.clause_rules.proofs.Firsts.{one_at, ok_map}
 use Rattle.clause_rules.proofs.JointImages.{sorted_further}
-use Rattle.clause_rules.proofs.LitImages.{imaging}
+use Rattle.clause_rules.proofs.LitImages.{image_itself}
 use Rattle.clause_rules.proofs.Moving.{reach_of}
 use Rattle.clause_rules.proofs.NeedSorts.{all_cover_fits, goal_fits}
-use Rattle.clause_rules.proofs.ParamodulationEnds.{heads, site_listed, reading_listed}
+use Rattle.clause_rules.proofs.ParamodulationEnds.{site_listed, reading_listed}
 use Rattle.clause_rules.proofs.ResolvedAt.{parents_fit}
 use Rattle.clause_rules.proofs.Settling.{settled_by, settles_like}
+use Rattle.clause_rules.proofs.Uncovered.{itself}
 
 pub reaches_over : (v : Vocabulary) (into by : Clause) (lits : List Lit) (n : ℕ) → length into.sorts ≤ 1000000000 → length by.sorts ≤ 1000000000 → n ≤ 1000000000 → AreSorted v (scope_of_both into by) lits → Each (λ (l : Lit). atom_reach n l.atom < 2 ^ 32) lits
 reaches_over v into by lits n a b c sorted =
@@ -103,13 +104,11 @@ unified_as v sorts ss n rigid pairs lent o e f g h = subst (λ ps. Unified v sor
 pub replaced_as : (target new wanted : Term) (old lent lits given : List Lit) → new ≡ wanted → lent ≡ old → given ≡ lits → AreLitsRewritten target new lent lits → AreLitsRewritten target wanted old given
 replaced_as target new wanted old lent lits given e f g h = subst (AreLitsRewritten target wanted old) (sym g) (subst (λ ls. AreLitsRewritten target wanted ls lits) f (subst (λ x. AreLitsRewritten target x lent lits) e h))
 
-pub no_rewrite_heads : (v : Vocabulary) (into by line : Clause) (target : Term) (flipped : Bool) (l r0 : Term) → slice_get by.lits 0 ≡ Some (equation flipped l r0) → heads_match target l ≡ false → NoRewriting v into by line target flipped
-no_rewrite_heads v into by line target flipped l r0 at clash further r more s h =
+pub no_rewrite_heads : (v : Vocabulary) (into by line : Clause) (target : Term) (flipped : Bool) (l r0 : Term) → slice_get by.lits 0 ≡ Some (equation flipped l r0) → NeverEqual true l target → NoRewriting v into by line target flipped
+no_rewrite_heads v into by line target flipped l r0 at never further r more s h =
     let there : slice_get by.lits 0 ≡ Some (equation flipped h.left h.right) = ap (λ (ks : List Lit). slice_get ks 0) h.is_equation in
     let sides = same_sides flipped h.left h.right l r0 (one_at by.lits 0 (equation flipped h.left h.right) (equation flipped l r0) there at) in
-    let yes = heads (λ t. t) (image r) staying_term (imaging r) target l (sym h.matched ∙ ap (image r) sides.0) in
-    let never : false ≡ true = sym clash ∙ yes in
-    cc
+    never r Var itself (ap (image r) (sym sides.0) ∙ h.matched ∙ sym (image_itself target))
 
 pub no_match_equation : (v : Vocabulary) (into by line : Clause) (target : Term) (flipped : Bool) (joint : Joint) → IsJoinedOne into by joint → HasEquation joint.left 0 flipped None → NoRewriting v into by line target flipped
 no_match_equation v into by line target flipped joint joined none further r more s h =
@@ -192,3 +191,9 @@ rewrite_answer v parents form line clauses sites readings is same listed read (S
       },
     ) in
     (ap rule_of w.is, subst (Shows v parents form) (sym w.is) shows)
+
+-- nothing is found where no equation is read
+pub no_readings : (v : Vocabulary) (clauses : List (Option Clause)) (sites : List Site) (readings : List Reading) (line : Clause) → readings ≡ [] → RewritesAtSites v clauses sites readings line None
+no_readings v clauses sites readings line empty = λ m site at k reading e. let none : slice_get [] k ≡ Some reading = ap (λ (rs : List Reading). slice_get rs k) (sym empty) ∙ e in absurd (nothing k reading none) where
+  nothing : (k : ℕ) (reading : Reading) → slice_get [] k ≡ Some reading → ⊥
+  nothing k reading e = cc

@@ -1,4 +1,5 @@
 pub mod Answers
+pub mod Chances
 pub mod CoverFound
 pub mod CoverRule
 pub mod CoverSearch
@@ -17,6 +18,7 @@ pub mod ResolutionRule
 pub mod ResolutionSearch
 pub mod RewriteRule
 pub mod RewriteSearch
+pub mod Screens
 pub mod Settled
 pub mod Steps
 pub mod TautologyRule

@@ -1,9 +1,7 @@
 -- How far the search for a paramodulation has come.
-use Rattle.std.specs.Prelude.{ℕ, Bool, true, false, ◌≡◌, ◌==◌, List, [], ◌∷◌, ◌++◌, remove, Option, Some, None, slice_get, slice_set}
+use Rattle.std.specs.Prelude.{ℕ, Bool, true, false, ◌≡◌, List, [], ◌∷◌, ◌++◌, remove, Option, Some, None, slice_get, slice_set}
 use Rattle.fof_terms.specs.Vocabulary.{Vocabulary}
 use Rattle.fof_terms.specs.declared.term.Term.{Term}
-use Rattle.fof_terms.specs.declared.term.Term.TheOpen as term
-use Rattle.fof_terms.specs.declared.term.Term.TheViews.{out-Term}
 use Rattle.clause_form.specs.declared.clause.AtomOf.{AtomOf}
 use Rattle.clause_form.specs.declared.clause.AtomOf.TheVariants.{Pred, Eq, True, False}
 use Rattle.clause_form.specs.declared.clause.Lit.{Lit}
@@ -18,6 +16,7 @@ use Rattle.clause_rules.specs.declared.sites.Spot.{Spot}
 use Rattle.clause_rules.specs.ParamodulationRule.{Paramodulates}
 use Rattle.clause_rules.specs.Places.{lit_term_at, lit_put_at}
 use Rattle.clause_rules.specs.PlaceSearch.{places_of}
+use Rattle.clause_rules.specs.Settled.{IsFit}
 use Rattle.clause_rules.specs.Steps.{scope_of_both, equation, IsJoint, images_of_parents}
 use Rattle.clause_rules.specs.Ways.{pair_of, cover_needs}
 use Rattle.std.proofs.Common.{suc}
@@ -27,15 +26,9 @@ use Rattle.std.proofs.Common.{suc}
 abbrev pub paramodulation_needs : List Lit → List Lit → List Lit → ℕ → List ℕ → Lit → Term → Term → Term → ℕ → List (List (List Pair))
 paramodulation_needs line into from i place k u l r j = ((pair_of u l ∷ []) ∷ []) ∷ cover_needs line (slice_set into i (lit_put_at place r k) ++ remove from j)
 
--- functions that differ never become equal
-abbrev pub layers_match : term.Term-F Term → term.Term-F Term → Bool
-layers_match (term.App f ts) (term.App g us) = f == g
-layers_match (term.App f ts) (term.Var k) = true
-layers_match (term.Var k) (term.App g us) = true
-layers_match (term.Var k) (term.Var m) = true
-
-abbrev pub heads_match : Term → Term → Bool
-heads_match t u = layers_match (out-Term t) (out-Term u)
+-- no paramodulation changes the clause at this place
+abbrev pub NeverAt : Clause → Clause → Site → Type 0
+NeverAt line into site = (v : Vocabulary) → IsFit v into → (from : Clause) (j : ℕ) (flipped : Bool) (more : List ℕ) (s : ℕ → Term) → Paramodulates v into from line site.lit site.at j flipped more s → ⊥
 
 -- what each element gives with its number, the first being n
 abbrev pub indexed : {X Y : Type 0} → (ℕ → X → List Y) → ℕ → List X → List Y

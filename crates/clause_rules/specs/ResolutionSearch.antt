@@ -1,6 +1,6 @@
 -- How far the search for a resolution has come: at two literals, at one literal of the left clause, at two clauses, and
 -- among the clauses that the parents are.
-use Rattle.std.specs.Prelude.{ℕ, ◌≡◌, ◌&&◌, Bool, true, false, not, List, [], ◌∷◌, ◌++◌, Option, Some, None, slice_get}
+use Rattle.std.specs.Prelude.{ℕ, ◌≡◌, not, List, [], ◌∷◌, ◌++◌, Option, Some, None, slice_get}
 use Rattle.fof_terms.specs.declared.term.Term.{Term}
 use Rattle.fof_terms.specs.Vocabulary.{Vocabulary}
 use Rattle.clause_form.specs.declared.clause.Lit.{Lit}
@@ -8,13 +8,12 @@ use Rattle.clause_form.specs.declared.clause.Clause.{Clause}
 use Rattle.unify_terms.specs.declared.goal.Goal.{Goal}
 use Rattle.unify_terms.specs.declared.pair.Pair.{Pair}
 use Rattle.clause_rules.specs.declared.joint.Joint.{Joint}
-use Rattle.clause_rules.specs.Heads.{is_same_head}
 use Rattle.clause_rules.specs.declared.just.Just.{Just}
 use Rattle.clause_rules.specs.declared.just.Just.TheVariants.{Resolution}
 use Rattle.clause_rules.specs.declared.resolution_rule.Found.{Found}
 use Rattle.clause_rules.specs.declared.resolution_rule.Pivots.{Pivots}
-use Rattle.clause_rules.specs.Steps.{scope_of_both, IsJoint, images_of_parents}
-use Rattle.clause_rules.specs.ResolutionRule.{Resolves}
+use Rattle.clause_rules.specs.Steps.{scope_of_both, instances, IsJoint, images_of_parents}
+use Rattle.clause_rules.specs.ResolutionRule.{IsResolvent, Resolves}
 use Rattle.clause_rules.specs.Ways.{lit_ways, cover_needs, goal_of_needs}
 
 -- what is asked of a substitution: the pivot becomes complementary to the opposite, and each literal is covered
@@ -22,19 +21,9 @@ abbrev pub resolution_needs : List Lit → List Lit → List Lit → Lit → Lit
 resolution_needs line left right pivot opposite =
     lit_ways (not pivot.positive) pivot.atom opposite ∷ (cover_needs (line ++ pivot ∷ []) left ++ cover_needs (line ++ opposite ∷ []) right)
 
--- the literals have different signs and one head
-abbrev pub is_other : Bool → Bool → Bool
-is_other true true = false
-is_other true false = true
-is_other false true = true
-is_other false false = false
-
-abbrev pub can_clash : Lit → Lit → Bool
-can_clash k l = is_other k.positive l.positive && is_same_head k.atom l.atom
-
--- the answer for literal i of the left clause and literal j of the right one
-abbrev pub ClashAt : Clause → Clause → ℕ → ℕ → Bool → Type 0
-ClashAt left right i j answer = (k l : Lit) → slice_get left.lits i ≡ Some k → slice_get right.lits j ≡ Some l → answer ≡ can_clash k l
+-- no instances of the two clauses have the line as their resolvent at these literals
+abbrev pub NeverResolves : List Lit → List Lit → List Lit → ℕ → ℕ → Type 0
+NeverResolves line left right i j = (s r : ℕ → Term) → IsResolvent line (instances s left) (instances r right) i j → ⊥
 
 -- the goal asks this at literal i of the left clause and literal j of the right one
 abbrev pub AsksAt : Clause → Joint → ℕ → ℕ → Goal → Type 0

@@ -13,11 +13,16 @@ use Rattle.clause_rules.specs.declared.sites.Site.{Site}
 use Rattle.clause_rules.specs.Justified.{IsMatch}
 use Rattle.clause_rules.specs.Places.{lit_term_at}
 use Rattle.clause_rules.specs.RewriteRule.{Rewrites}
+use Rattle.clause_rules.specs.Settled.{IsFit}
 use Rattle.clause_rules.specs.Steps.{scope_of_both, IsJoint, images_of_parents}
 
 -- no substitutions rewrite this term
 abbrev pub NoRewriting : Vocabulary → Clause → Clause → Clause → Term → Bool → Type 0
 NoRewriting v into by line target flipped = (further : List ℕ) (r : ℕ → Term) (more : List ℕ) (s : ℕ → Term) → Rewrites v into by line target flipped further r more s → ⊥
+
+-- no equation rewrites this term of the clause
+abbrev pub NeverRewritten : Clause → Clause → Term → Type 0
+NeverRewritten line into target = (v : Vocabulary) → IsFit v into → (by : Clause) (flipped : Bool) → NoRewriting v into by line target flipped
 
 -- the two lists of images show the rewriting of this term
 pub record IsRewriting (v : Vocabulary) (into by line : Clause) (target : Term) (flipped : Bool) (by_images images : List Term) : Type 0 where

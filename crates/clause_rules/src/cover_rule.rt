@@ -15,14 +15,14 @@ use crate::just::Just;
 use crate::numbers::number;
 use crate::opening::open;
 use crate::scopes::scope_of_clause;
-use crate::search::settle;
+use crate::search::{settle, solution_of};
 use crate::taking::{Reached, reached_by};
 use crate::ways::all_covered;
 use clause_form::{Clause, FormFault, Parent, Path, as_clause, norm};
 use fof_terms::{Form, Signature};
 use std::alloc::Global;
 use tptp_base::{Boxed, List, Memory};
-use unify_terms::{Goal, Scope, Solution, Subst, solve};
+use unify_terms::{Goal, Scope, Solution, Subst};
 
 /// A path, and a substitution that covers what it reaches.
 #[derive(Drop)]
@@ -127,7 +127,7 @@ fn cover_norm(
     let mut names = List::new(alloc);
     let goal = open(norm, alloc, line.lits.as_slice(), &mut names, &mut sorts)?;
     let scope = Scope { sorts, rigid };
-    match solve(alloc, sig, &scope, &goal)? {
+    match solution_of(alloc, sig, &scope, &goal)? {
         Some(solution) => {
             let Solution { subst: _, choices } = solution;
             let reached = reached_by(alloc, norm, choices.as_slice())?;

@@ -12,6 +12,7 @@ ghost use Rattle.clause_rules.specs.Ways.{goal_of_needs};
 use crate::joint::{Joint, join_one};
 use crate::just::Just;
 use crate::numbers::number;
+use crate::screening::may_others_be_covered;
 use crate::search::{clauses_of_parents, settle};
 use crate::sides::{Sides, sides_of};
 use crate::ways::{all_covered, alone, one_pair};
@@ -196,7 +197,7 @@ fn factor_with(
     Ok(None)
 }
 
-// A factoring whose first equation is literal i.
+// A factoring whose first equation is literal i. A cheap test of the other literals comes first.
 fn factor_from(
     alloc: Global,
     sig: &Signature,
@@ -211,6 +212,9 @@ fn factor_from(
     requires first { i < length joint.now.left }
     ensures { IfOk result (λ found. FoundFactor sig.now clause.now line.now (NoneFrom sig.now clause.now line.now i) found) }
 {
+    if !may_others_be_covered(line.lits.as_slice(), clause.lits.as_slice(), i) {
+        return Ok(None);
+    }
     for j in 0..joint.left.len() {
         let found = factor_with(alloc, sig, clause, line, joint, i, j)?;
         if let Some(factor) = found {

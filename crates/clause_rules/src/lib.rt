@@ -3,12 +3,14 @@
 #![tactic(auto)]
 
 mod apart;
+mod chances;
 mod cover_rule;
 mod eqfactor_rule;
 mod heads;
 mod joint;
 mod just;
 mod laws;
+mod matching;
 mod naming;
 mod norm_rule;
 mod numbers;
@@ -22,6 +24,7 @@ mod replacing;
 mod resolution_rule;
 mod rewrite_rule;
 mod scopes;
+mod screening;
 mod search;
 mod sides;
 mod sites;

@@ -1,10 +1,10 @@
-ghost use Rattle.std.specs.Prelude.{◌≡◌, ◌↔◌, IsTrue, Some, IfOk, option_copied, slice_get};
+ghost use Rattle.std.specs.Prelude.{◌≡◌, ◌↔◌, ◌≤◌, false, length, IsTrue, Some, IfOk, option_copied, slice_get};
 ghost use Rattle.fof_terms.specs.Sorts.{sort_of_term};
 ghost use Rattle.clause_rules.specs.declared.just.Just.TheVariants.{Paramodulation};
 ghost use Rattle.clause_rules.specs.Answers.{IsAnswer, paramodulation};
 ghost use Rattle.clause_rules.specs.JointClauses.{IsJoined};
 ghost use Rattle.clause_rules.specs.ParamodulationRule.{HasPlace, Paramodulates};
-ghost use Rattle.clause_rules.specs.ParamodulationSearch.{FoundAtSite, FoundAtSites, HasClause, TriedAtSite, heads_match, paramodulation_needs};
+ghost use Rattle.clause_rules.specs.ParamodulationSearch.{FoundAtSite, FoundAtSites, HasClause, NeverAt, TriedAtSite, paramodulation_needs};
 ghost use Rattle.clause_rules.specs.Places.{lit_term_at};
 ghost use Rattle.clause_rules.specs.Settled.{AllFit, IsFit, Settles};
 ghost use Rattle.clause_rules.specs.Steps.{AreReady, IsReady, equation, scope_of_both};
@@ -12,9 +12,11 @@ ghost use Rattle.clause_rules.specs.Ways.{goal_of_needs};
 
 use crate::joint::{Joint, join};
 use crate::just::Just;
+use crate::matching::may_meet;
 use crate::places::put_in;
 use crate::position::Position;
 use crate::scopes::reversed;
+use crate::screening::{may_be_covered, may_others_be_covered};
 use crate::search::{clauses_of_parents, settle};
 use crate::sides::Sides;
 use crate::sites::{Reading, Site, Spot, equation_in, readings_of, sites_of, spot_in};
@@ -42,6 +44,9 @@ pub fn paramodulation_step(
             let clauses = clauses_of_parents(alloc, parents)?;
             let clauses = clauses.as_slice();
             let readings = readings_of(alloc, clauses)?;
+            if readings.is_empty() {
+                return Ok(None);
+            }
             let sites = sites_of(alloc, clauses)?;
             at_sites(
                 alloc,
@@ -78,8 +83,51 @@ fn at_sites(
     Ok(None)
 }
 
-// A justification at this place.
+// A justification at this place. A cheap test of the literals comes first.
 fn at_site(
+    alloc: Global,
+    sig: &Signature,
+    clauses: &[Option<Clause>],
+    readings: &[Reading],
+    line: &Clause,
+    site: &Site,
+) -> Result<Option<Just>, Memory>
+    requires clauses { AllFit sig.now clauses.now }
+    requires line { IsFit sig.now line.now }
+    ensures { IfOk result (λ found. FoundAtSite sig.now clauses.now readings.now line.now site.now found) }
+{
+    match clause_in(clauses, site.clause) {
+        Some(into) => {
+            let is_open = may_change(alloc, line, into, site)?;
+            if !is_open {
+                return Ok(None);
+            }
+            at_open_site(alloc, sig, clauses, readings, line, site)
+        }
+        None => Ok(None),
+    }
+}
+
+// Whether the line may cover the clause with another term at this place: its other literals, and what is left of its own.
+fn may_change(alloc: Global, line: &Clause, into: &Clause, site: &Site) -> Result<bool, Memory>
+    requires few { length into.now.sorts ≤ 1000000000 }
+    ensures { IfOk result (λ answer. answer ≡ false → NeverAt line.now into.now site.now) }
+{
+    let lits = into.lits.as_slice();
+    let at = site.lit as usize;
+    if at >= lits.len() {
+        return Ok(true);
+    }
+    if !may_others_be_covered(line.lits.as_slice(), lits, at) {
+        return Ok(false);
+    }
+    let hole = Term::Var(into.sorts.len() as u32);
+    let open = put_in(alloc, &lits[at], site.at.as_slice(), &hole)?;
+    Ok(may_be_covered(line.lits.as_slice(), &open))
+}
+
+// A justification at this place with one of the equations.
+fn at_open_site(
     alloc: Global,
     sig: &Signature,
     clauses: &[Option<Clause>],
@@ -154,7 +202,7 @@ pub fn clause_in(clauses: &[Option<Clause>], at: u32) -> Option<&Clause>
     clauses[at].as_ref()
 }
 
-// The same with these clauses: a cheap test of heads comes first.
+// The same with these clauses: cheap tests of the two terms and of the other literals come first.
 fn of_clauses(
     alloc: Global,
     sig: &Signature,
@@ -172,7 +220,14 @@ fn of_clauses(
     match spot_in(into.lits.as_slice(), site.lit, site.at.as_slice()) {
         Some(spot) => match equation_in(from.lits.as_slice(), reading.lit, reading.flipped) {
             Some(sides) => {
-                if !may_match(spot.term, sides.left) {
+                if !may_meet(spot.term, sides.left, false) {
+                    return Ok(None);
+                }
+                if !may_others_be_covered(
+                    line.lits.as_slice(),
+                    from.lits.as_slice(),
+                    reading.lit as usize,
+                ) {
                     return Ok(None);
                 }
                 of_joint(alloc, sig, into, from, line, site, reading)
@@ -180,16 +235,6 @@ fn of_clauses(
             None => Ok(None),
         },
         None => Ok(None),
-    }
-}
-
-/// Whether the terms are no two applications of different functions. Those never become equal.
-pub fn may_match(left: &Term, right: &Term) -> bool
-    ensures { result ≡ heads_match left.now right.now }
-{
-    match (left, right) {
-        (Term::App(function, _), Term::App(other, _)) => function == other,
-        _ => true,
     }
 }
 

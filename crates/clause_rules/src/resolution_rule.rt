@@ -1,17 +1,17 @@
-ghost use Rattle.std.specs.Prelude.{◌≡◌, ◌<◌, length, Some, IfOk};
+ghost use Rattle.std.specs.Prelude.{◌≡◌, ◌<◌, false, length, Some, IfOk};
 ghost use Rattle.clause_rules.specs.declared.just.Just.TheVariants.{Resolution};
 ghost use Rattle.clause_rules.specs.Answers.{IsAnswer, resolution};
 ghost use Rattle.clause_rules.specs.ResolutionRule.{Resolves};
-ghost use Rattle.clause_rules.specs.ResolutionSearch.{resolution_needs, can_clash, AsksAt, ClashAt, FoundAt, FoundIn, FoundInSlot, FoundWith, FoundFrom, FoundAmong};
+ghost use Rattle.clause_rules.specs.ResolutionSearch.{resolution_needs, AsksAt, NeverResolves, FoundAt, FoundIn, FoundInSlot, FoundWith, FoundFrom, FoundAmong};
 ghost use Rattle.clause_rules.specs.Settled.{IsFit, IsSlotFit, AllFit, Settles};
 ghost use Rattle.clause_rules.specs.Steps.{scope_of_both, AreReady, IsReady};
 ghost use Rattle.clause_rules.specs.Ways.{goal_of_needs};
 
-use crate::heads::same_head;
 use crate::joint::{Joint, join};
 use crate::just::Just;
 use crate::numbers::number;
 use crate::scopes::with_one;
+use crate::screening::{may_be_pivot, may_clash};
 use crate::search::{clauses_of_parents, settle};
 use crate::ways::{all_covered, alone, ways_to};
 use clause_form::{Clause, Lit, Parent, as_clause};
@@ -249,7 +249,8 @@ fn resolve_at(
     requires right_lit { j < length right.now.lits }
     ensures { IfOk result (λ found. Settles sig.now line.now (scope_of_both left.now right.now) (Resolves sig.now left.now right.now line.now i j) found) }
 {
-    if !may_clash(left, right, i, j) {
+    let line_lits = line.lits.as_slice();
+    if !may_resolve(line_lits, left.lits.as_slice(), right.lits.as_slice(), i, j) {
         return Ok(None);
     }
     let joint = join(alloc, sig, line, left, right)?;
@@ -257,19 +258,20 @@ fn resolve_at(
     settle(alloc, sig, &joint.scope, &goal)
 }
 
-// Whether the literals have different signs and one head. Others do not become complementary.
-fn may_clash(left: &Clause, right: &Clause, i: usize, j: usize) -> bool
-    requires left_lit { i < length left.now.lits }
-    requires right_lit { j < length right.now.lits }
-    ensures { ClashAt left.now right.now i j result }
+// Whether the literals may become complementary, and all others be covered or be theirs. These tests are cheap, and come
+// before a goal is made.
+fn may_resolve(line: &[Lit], left: &[Lit], right: &[Lit], i: usize, j: usize) -> bool
+    requires left_lit { i < length left.now }
+    requires right_lit { j < length right.now }
+    ensures { result ≡ false → NeverResolves line.now left.now right.now i j }
 {
-    clash(&left.lits.as_slice()[i], &right.lits.as_slice()[j])
-}
-
-fn clash(left: &Lit, right: &Lit) -> bool
-    ensures { result ≡ can_clash left.now right.now }
-{
-    left.positive != right.positive && same_head(&left.atom, &right.atom)
+    if !may_clash(&left[i], &right[j]) {
+        return false;
+    }
+    if !may_be_pivot(line, left, i) {
+        return false;
+    }
+    may_be_pivot(line, right, j)
 }
 
 // What is asked of a substitution at these literals.

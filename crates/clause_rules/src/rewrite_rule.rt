@@ -1,19 +1,21 @@
-ghost use Rattle.std.specs.Prelude.{◌≡◌, ◌≤◌, ◌∷◌, [], length, Some, IfOk};
+ghost use Rattle.std.specs.Prelude.{◌≡◌, ◌≤◌, ◌∷◌, [], false, length, Some, IfOk};
 ghost use Rattle.std.specs.Option.{option_map};
 ghost use Rattle.clause_form.specs.Covers.{AreSorted, CoversBy};
 ghost use Rattle.clause_rules.specs.declared.just.Just.TheVariants.{Rewrite};
 ghost use Rattle.clause_rules.specs.Answers.{IsAnswer, rewrite};
 ghost use Rattle.clause_rules.specs.RewriteRule.{StandsIn};
-ghost use Rattle.clause_rules.specs.RewriteSearch.{RewritesAtSite, RewritesAtSites, SettlesRewriting, TriedRewriting};
+ghost use Rattle.clause_rules.specs.RewriteSearch.{NeverRewritten, RewritesAtSite, RewritesAtSites, SettlesRewriting, TriedRewriting};
 ghost use Rattle.clause_rules.specs.Settled.{AllFit, IsFit, Settles};
 ghost use Rattle.clause_rules.specs.Steps.{AreReady, IsReady, scope_of_both};
 
 use crate::apart::apart;
 use crate::joint::join_one;
 use crate::just::Just;
-use crate::paramodulation_rule::{clause_in, may_match};
+use crate::matching::may_meet;
+use crate::paramodulation_rule::clause_in;
 use crate::replacing::replace_in_lits;
 use crate::scopes::scope_of_clause;
+use crate::screening::may_all_be_covered;
 use crate::search::{clauses_of_parents, settle};
 use crate::sites::{Reading, Site, equation_in, readings_of, sites_of, spot_in};
 use crate::ways::all_covered;
@@ -48,6 +50,9 @@ pub fn rewrite_step(
             let clauses = clauses_of_parents(alloc, parents)?;
             let clauses = clauses.as_slice();
             let readings = readings_of(alloc, clauses)?;
+            if readings.is_empty() {
+                return Ok(None);
+            }
             let sites = sites_of(alloc, clauses)?;
             at_sites(
                 alloc,
@@ -151,7 +156,7 @@ fn with_reading(
     }
 }
 
-// A rewriting of this term with the equation that a clause is, read so: a cheap test of heads comes first.
+// A rewriting of this term with the equation that a clause is, read so: cheap tests of the two terms and of the literals come first.
 fn of_term(
     alloc: Global,
     sig: &Signature,
@@ -172,13 +177,32 @@ fn of_term(
     }
     match equation_in(by.lits.as_slice(), 0, flipped) {
         Some(sides) => {
-            if !may_match(target, sides.left) {
+            if !may_meet(sides.left, target, true) {
+                return Ok(None);
+            }
+            let is_open = may_be_rewritten(alloc, into, line, target)?;
+            if !is_open {
                 return Ok(None);
             }
             of_match(alloc, sig, into, by, line, target, flipped)
         }
         None => Ok(None),
     }
+}
+
+// Whether the line may cover the clause with some term in place of each occurrence of the target.
+fn may_be_rewritten(
+    alloc: Global,
+    into: &Clause,
+    line: &Clause,
+    target: &Term,
+) -> Result<bool, Memory>
+    requires few { length into.now.sorts ≤ 1000000000 }
+    ensures { IfOk result (λ answer. answer ≡ false → NeverRewritten line.now into.now target.now) }
+{
+    let hole = Term::Var(into.sorts.len() as u32);
+    let open = replace_in_lits(alloc, into.lits.as_slice(), target, &hole)?;
+    Ok(may_all_be_covered(line.lits.as_slice(), open.as_slice()))
 }
 
 // The same over one list of variables with the equation's: the left side is matched with the term.

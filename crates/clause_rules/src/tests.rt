@@ -5,11 +5,14 @@ use std::alloc::Global;
 use std::test::Fail;
 use tptp_base::{Boxed, List, Memory};
 
-// The symbols a, b and c, constants; f, a function of one argument; p, q and r, predicates of one; s, of two.
-const LETTERS: &[u8] = b"abcfpqrs";
+// The symbols a, b and c, constants; f, a function of one argument; p, q and r, predicates of one; s, of two. The constants
+// d and e are of another sort, and t is a predicate of it.
+const LETTERS: &[u8] = b"abcfpqrsdet";
 
 fn signature(alloc: Global) -> Result<Signature, Memory> {
     let mut signature = Signature::new(alloc)?;
+    let name = List::from_slice(alloc, b"other")?;
+    signature.add_sort(name).map_err(|_| Memory)?;
     for letter in LETTERS {
         declare(&mut signature, alloc, *letter)?;
     }
@@ -18,7 +21,7 @@ fn signature(alloc: Global) -> Result<Signature, Memory> {
 
 fn arity(letter: u8) -> (Kind, usize) {
     match letter {
-        b'a'..=b'c' => (Kind::Function, 0),
+        b'a'..=b'e' => (Kind::Function, 0),
         b'f' => (Kind::Function, 1),
         b's' => (Kind::Predicate, 2),
         _ => (Kind::Predicate, 1),
@@ -28,19 +31,27 @@ fn arity(letter: u8) -> (Kind, usize) {
 fn declare(signature: &mut Signature, alloc: Global, letter: u8) -> Result<(), Memory> {
     let count = signature.sort_count();
     let (kind, arity) = arity(letter);
+    let sort = match letter {
+        b'd' | b'e' | b't' => 1,
+        _ => 0,
+    };
     let mut args = List::new(alloc);
     for _ in 0..arity {
-        args.push(0)?;
+        args.push(sort)?;
     }
+    let result = match kind {
+        Kind::Function => sort,
+        Kind::Predicate => 0,
+    };
     let name = List::from_slice(alloc, &[letter])?;
-    if count == 0 || !args.as_slice().iter().all(|sort| *sort < count) {
+    if result >= count || !args.as_slice().iter().all(|sort| *sort < count) {
         return Err(Memory);
     }
     let symbol = Symbol {
         name,
         kind,
         args,
-        result: 0,
+        result,
     };
     match signature.add(symbol) {
         Ok(_) => Ok(()),
@@ -56,7 +67,7 @@ fn symbol(letter: u8) -> SymId {
 }
 
 // The formula of a text in which the parts stand before what they are parts of: a digit is the variable of that number,
-// a to c are constants, f, p, q and r take the term before them, s and = the two before them, ~ negates, | joins the two
+// a to e are constants, f, p, q, r and t take the term before them, s and = the two before them, ~ negates, | joins the two
 // formulas before it, & does so by And, ! and ? bind a variable, T and F are truth and falsehood.
 fn form(alloc: Global, text: &str) -> Result<Boxed<Form>, Memory> {
     let mut terms = List::new(alloc);
@@ -64,7 +75,7 @@ fn form(alloc: Global, text: &str) -> Result<Boxed<Form>, Memory> {
     for byte in text.as_bytes() {
         match *byte {
             b'0'..=b'9' => terms.push(Term::Var(*byte as u32 - 48))?,
-            b'a'..=b'c' => terms.push(Term::App(symbol(*byte), List::new(alloc)))?,
+            b'a'..=b'e' => terms.push(Term::App(symbol(*byte), List::new(alloc)))?,
             b'f' => {
                 let arg = last_terms(alloc, &mut terms, 1)?;
                 terms.push(Term::App(symbol(b'f'), arg))?
@@ -95,7 +106,7 @@ fn node(
     forms: &mut List<Boxed<Form>>,
 ) -> Result<Boxed<Form>, Memory> {
     let made = match byte {
-        b'p' | b'q' | b'r' => Form::Atom(symbol(byte), last_terms(alloc, terms, 1)?),
+        b'p' | b'q' | b'r' | b't' => Form::Atom(symbol(byte), last_terms(alloc, terms, 1)?),
         b's' => Form::Atom(symbol(byte), last_terms(alloc, terms, 2)?),
         b'=' => {
             let right = terms.pop().ok_or(Memory)?;
@@ -227,6 +238,41 @@ fn steps(rt: HostRuntime) -> Result<(), Fail> {
         ("CP", "0p! ab= bp"),
         ("E", "0fa=bfc=|! ac=~bfc=|"),
         ("", "0fa=bfc=|! ac=~"),
+    ] {
+        let found = rules(rt.alloc(), row)?;
+        assert_eq!(rt; found.as_slice(), want.as_bytes(), "{row}");
+    }
+    Ok(())
+}
+
+// Each step beside one that differs from it in a literal, a variable or a sort.
+#[test]
+fn close_decoys(rt: HostRuntime) -> Result<(), Fail> {
+    for (want, row) in [
+        ("N", "0p?~~ 0p?"),
+        ("", "0p?~~ 0q?"),
+        ("C", "01=!! ab=bp|"),
+        ("", "01=!! de="),
+        ("C", "0p0q|! apaq|br|"),
+        ("", "0p0q|! apbq|br|"),
+        ("", "0p0q|! ap"),
+        ("", "apaq~|"),
+        ("", "apbp~|"),
+        ("R", "apbq| ap~ bqcr|"),
+        ("", "apbq| ap bq"),
+        ("", "apbq| ap~ cq"),
+        ("", "0tdt|! et~ F"),
+        ("P", "0f0=ap|! bfq bqap|"),
+        ("", "0f0=ap|! bfq cqap|"),
+        ("", "0f0=ap|! bfq bqbp|"),
+        ("P", "ab=cp| aas bascp|"),
+        ("", "ab=cp| aas bbscp|"),
+        ("E", "0fa=bfc=|! ca=~bfc=|"),
+        ("", "0fa=bfc=|! ab=~bfc=|"),
+        ("", "0fa=bfc=|! aa=~bfc=|"),
+        ("W", "0f0=! afafs aas"),
+        ("P", "0f0=! afafs aafs"),
+        ("", "0f0=! afafs abs"),
     ] {
         let found = rules(rt.alloc(), row)?;
         assert_eq!(rt; found.as_slice(), want.as_bytes(), "{row}");

@@ -4,14 +4,14 @@ use Rattle.clause_rules.proofs.CoverTop.{few_in_goal, goal_is_sorted, no_cover, 
 use Rattle.clause_rules.proofs.Firsts.{ok_map}
 use Rattle.clause_rules.proofs.cover_rule.cover_norm.Goals as goal
 
-pub solve-requires-clause-few : goal.solve-requires-clause-few
-solve-requires-clause-few c =
+pub solution_of-requires-clause-few : goal.solution_of-requires-clause-few
+solution_of-requires-clause-few c =
     few_in_goal c.args.sig.now c.args.line.now c.requires.line c.args.norm.now c.requires.norm c.requires.small (record { sorts = c.open.new.sorts; rigid = c.len-rigid.result }) c.in_ok-goal.goal
     (sorts_as c.args.norm.now c.args.line.now.lits c.as_slice.result.now c.in_ok-sorts.sorts c.open.new.sorts (scope_of c.args.line.now) c.as_slice.ensures c.in_ok-sorts.ensures c.in_ok-goal.ensures.1) c.len-rigid.ensures
     (asks_as c.args.norm.now c.args.line.now.lits c.as_slice.result.now c.in_ok-sorts.sorts c.new-names.result (scope_of c.args.line.now) c.in_ok-goal.goal c.as_slice.ensures c.in_ok-sorts.ensures c.new-names.ensures c.in_ok-goal.ensures.0)
 
-pub solve-requires-clause-sorted : goal.solve-requires-clause-sorted
-solve-requires-clause-sorted c =
+pub solution_of-requires-clause-sorted : goal.solution_of-requires-clause-sorted
+solution_of-requires-clause-sorted c =
     goal_is_sorted c.args.sig.now c.args.line.now c.requires.line c.args.norm.now c.requires.norm c.requires.small (record { sorts = c.open.new.sorts; rigid = c.len-rigid.result }) c.in_ok-goal.goal
     (sorts_as c.args.norm.now c.args.line.now.lits c.as_slice.result.now c.in_ok-sorts.sorts c.open.new.sorts (scope_of c.args.line.now) c.as_slice.ensures c.in_ok-sorts.ensures c.in_ok-goal.ensures.1) c.len-rigid.ensures
     (asks_as c.args.norm.now c.args.line.now.lits c.as_slice.result.now c.in_ok-sorts.sorts c.new-names.result (scope_of c.args.line.now) c.in_ok-goal.goal c.as_slice.ensures c.in_ok-sorts.ensures c.new-names.ensures c.in_ok-goal.ensures.0)

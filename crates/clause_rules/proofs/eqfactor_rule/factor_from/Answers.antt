@@ -1,6 +1,13 @@
-use Rattle.std.proofs.Common.{arith, below_more}
+use Rattle.std.proofs.Common.{arith, below_more, subst}
+use Rattle.clause_rules.specs.Screens.{NeverOthers}
+use Rattle.clause_rules.proofs.Changing.{never_factored}
 use Rattle.clause_rules.proofs.Factoring.{none_found, second_within}
 use Rattle.clause_rules.proofs.eqfactor_rule.factor_from.Goals as goal
+
+pub returns-then-not-may_others_be_covered : goal.returns-then-not-may_others_be_covered
+returns-then-not-may_others_be_covered c =
+    never_factored c.args.sig.now c.args.clause.now c.args.line.now c.args.i
+    (subst (λ ls. NeverOthers ls c.args.clause.now.lits c.args.i) c.as_slice.ensures (subst (λ ls. NeverOthers c.as_slice.result.now ls c.args.i) c.as_slice-2.ensures (c.may_others_be_covered.ensures c.if-not-may_others_be_covered.true)))
 
 pub loop-j-preserved : goal.loop-j-preserved
 loop-j-preserved c = below_more _ _ c.loop-j.invariant (none_found c.args.sig.now c.args.clause.now c.args.line.now _ c.in_ok-found.found c.in_default.is c.in_ok-found.ensures)

@@ -1,9 +1,15 @@
+use Rattle.std.proofs.Common.{subst}
+use Rattle.clause_rules.specs.ResolutionSearch.{NeverResolves}
 use Rattle.clause_rules.proofs.Firsts.{ok_map}
-use Rattle.clause_rules.proofs.ResolvedAt.{asked_sorted, asked_settled, no_clash}
+use Rattle.clause_rules.proofs.ResolvedAt.{asked_sorted, asked_settled, no_resolution}
 use Rattle.clause_rules.proofs.resolution_rule.resolve_at.Goals as goal
 
-pub returns-then-not-may_clash : goal.returns-then-not-may_clash
-returns-then-not-may_clash c = no_clash c.args.sig.now c.args.left.now c.args.right.now c.args.line.now c.args.i c.args.j c.may_clash.result c.may_clash.ensures c.if-not-may_clash.true
+pub returns-then-not-may_resolve : goal.returns-then-not-may_resolve
+returns-then-not-may_resolve c =
+    no_resolution c.args.sig.now c.args.left.now c.args.right.now c.args.line.now c.args.i c.args.j
+    (subst (λ ls. NeverResolves ls c.args.left.now.lits c.args.right.now.lits c.args.i c.args.j) c.as_slice-line_lits.ensures
+    (subst (λ ls. NeverResolves c.as_slice-line_lits.result.now ls c.args.right.now.lits c.args.i c.args.j) c.as_slice.ensures
+    (subst (λ ls. NeverResolves c.as_slice-line_lits.result.now c.as_slice.result.now ls c.args.i c.args.j) c.as_slice-2.ensures (c.may_resolve.ensures c.if-not-may_resolve.true))))
 
 pub settle-requires-clause-sorted : goal.settle-requires-clause-sorted
 settle-requires-clause-sorted c =
