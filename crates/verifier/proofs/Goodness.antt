@@ -2,13 +2,12 @@
 use Rattle.std.proofs.Common.{◌≡◌, ℕ, ◌+◌, ◌-◌, ◌<◌, inl, inr, ◌==◌, ◌||◌, Bool, true, false, List, [], ◌∷◌, ◌++◌, length, map, Option, None, Some, slice_get, slice_set, refl, sym, ◌∙◌, ap, subst, arith}
 use Rattle.std.specs.List.{list_all}
 use Rattle.std.proofs.lemmas.Bool.Decides.{nat_tests}
-use Rattle.std.proofs.lemmas.List.{length-set, length-replicate}
+use Rattle.std.proofs.lemmas.List.{append-nil, length-set, length-replicate}
 use Rattle.std.proofs.lemmas.Option.{slice_get_within}
 use Rattle.fof_terms.specs.Vocabulary.{Vocabulary}
 use Rattle.fof_terms.specs.declared.form.Form.{Form}
 use Rattle.clause_form.specs.declared.path.Parent.{Parent}
 use Rattle.kernel.specs.Statements.{Statements}
-use Rattle.kernel.specs.Entries.{with_formula}
 use Rattle.kernel.specs.declared.entry.Entry.{Entry}
 use Rattle.elaborate.specs.ByRule.{IsFirst, IsNone, IsFirstAlone, IsNoneAlone, LeafRule, rules, leaf_rules}
 use Rattle.elaborate.specs.declared.answer.Rule.{Rule}
@@ -19,8 +18,8 @@ use Rattle.tstp_graph.specs.declared.shape.Ref.{Ref}
 use Rattle.tstp_graph.specs.declared.shape.Ref.TheVariants as ref
 use Rattle.tstp_graph.specs.declared.shape.Node.{Node}
 use Rattle.tstp_graph.specs.Order.{is_taken, is_done, TakesInTurn, first_left}
-use Rattle.verifier.specs.Good.{form_of, forms_of, without_numbers, FollowsAs, IsGood}
-use Rattle.verifier.specs.Lines.{Derivation, Line, numbered, parent_of, parents_of, candidates_of}
+use Rattle.verifier.specs.Good.{form_of, forms_of, without_numbers, so_far, FollowsAs, Follows, FollowInTurn, IsGood}
+use Rattle.verifier.specs.Lines.{Derivation, Line, IsLineAt, numbered, parent_of, parents_of, candidates_of}
 use Rattle.verifier.specs.Report.{AreAccepted}
 use Rattle.verifier.specs.Run.{Progress, AnswersKind, AnswersPlace, AreAnswered, IsAnswered, IsRun, begun}
 use Rattle.verifier.specs.declared.answer.LineAnswer.{LineAnswer}
@@ -28,20 +27,21 @@ use Rattle.verifier.specs.declared.answer.LineAnswer.TheVariants.{Accepted, Unve
 use Rattle.verifier.proofs.Counting.{IsAccepted, all_accepted}
 use Rattle.verifier.proofs.Derived.{accepted_theory}
 use Rattle.verifier.proofs.Knowing.{both_is}
-use Rattle.verifier.proofs.Renumbering.{Alike, first_by_forms, alone_by_forms}
+use Rattle.verifier.proofs.Renumbering.{Alike, first_alike_rule, alone_alike_rule}
 use Rattle.verifier.proofs.Slots.{set_here, set_elsewhere, one_value, has_value}
+use Rattle.verifier.proofs.Symbols.{SameSymbols, same_symbols, other_way, gained_same}
 use Rattle.verifier.proofs.Turns.{HasTurn, turn_of, taken_more, none_left, both_true}
 
 -- a rule that is the first to hold, and no rule that holds
-first_or_none : (rs : List Rule) (v : Vocabulary) (parents : List Parent) (line : Form) (rule : Rule) → IsFirst rs v parents line rule → IsNone rs v parents line → ⊥
-first_or_none [] v parents line rule first none = first
-first_or_none (r ∷ rs) v parents line rule (inl (same, holds)) none = none.0 holds
-first_or_none (r ∷ rs) v parents line rule (inr (fails, rest)) none = first_or_none rs v parents line rule rest none.1
+first_or_none : (rs : List Rule) (t : Statements) (parents : List Parent) (line : Form) (rule : Rule) → IsFirst rs t parents line rule → IsNone rs t parents line → ⊥
+first_or_none [] t parents line rule first none = first
+first_or_none (r ∷ rs) t parents line rule (inl (same, holds)) none = none.0 holds
+first_or_none (r ∷ rs) t parents line rule (inr (fails, rest)) none = first_or_none rs t parents line rule rest none.1
 
-alone_or_none : (rs : List Rule) (v : Vocabulary) (candidates : List Parent) (line : Form) (rule : Rule) (i : ℕ) → IsFirstAlone rs v candidates line rule i → IsNoneAlone rs v candidates line → ⊥
-alone_or_none [] v candidates line rule i first none = first
-alone_or_none (r ∷ rs) v candidates line rule i (inl (same, gives)) none = none.0 i gives.0
-alone_or_none (r ∷ rs) v candidates line rule i (inr (fails, rest)) none = alone_or_none rs v candidates line rule i rest none.1
+alone_or_none : (rs : List Rule) (t : Statements) (candidates : List Parent) (line : Form) (rule : Rule) (i : ℕ) → IsFirstAlone rs t candidates line rule i → IsNoneAlone rs t candidates line → ⊥
+alone_or_none [] t candidates line rule i first none = first
+alone_or_none (r ∷ rs) t candidates line rule i (inl (same, gives)) none = none.0 i gives.0
+alone_or_none (r ∷ rs) t candidates line rule i (inr (fails, rest)) none = alone_or_none rs t candidates line rule i rest none.1
 
 -- the parents have these formulas
 abbrev HaveForms : List Parent → List Form → Type 0
@@ -51,65 +51,68 @@ forms_without_numbers : (forms : List Form) → HaveForms (without_numbers forms
 forms_without_numbers [] = refl
 forms_without_numbers (form ∷ forms) = ap (λ (fs : List Form). form ∷ fs) (forms_without_numbers forms)
 
-candidates_alike : (rule : Rule) (v : Vocabulary) (given : List Form) (cited : Bool) (line : Form) (i : ℕ) (ps qs : List Parent) → Alike ps qs → LeafRule v (candidates_of given cited ps) line rule i → LeafRule v (candidates_of given cited qs) line rule i
-candidates_alike rule v given true line i ps qs same holds = alone_by_forms leaf_rules v line rule i ps qs same holds
-candidates_alike rule v given false line i ps qs same holds = holds
+candidates_alike : (given : List Form) (cited : Bool) (ps qs : List Parent) → Alike ps qs → Alike (candidates_of given cited ps) (candidates_of given cited qs)
+candidates_alike given true ps qs same = same
+candidates_alike given false ps qs same = refl
 
--- a line that follows is not unverified
-never_unverified : (is_leaf : Bool) (t : Statements) (given : List Form) (cited : Bool) (parents : List Parent) (forms : List Form) (form : Form) (reason : Reason) → HaveForms parents forms → FollowsAs is_leaf t.vocabulary given cited forms form → AnswersKind is_leaf t given cited parents form (step.Unverified reason) → ⊥
-never_unverified true t given cited parents forms form NotYet have (rule, i, follows) answers =
-    let same : Alike (without_numbers forms) parents = forms_without_numbers forms ∙ sym have in
-    alone_or_none leaf_rules t.vocabulary (candidates_of given cited parents) form rule i (candidates_alike rule t.vocabulary given cited form i (without_numbers forms) parents same follows) answers.0
-never_unverified true t given cited parents forms form Leaf have (rule, i, follows) answers =
-    let same : Alike (without_numbers forms) parents = forms_without_numbers forms ∙ sym have in
-    alone_or_none leaf_rules t.vocabulary (candidates_of given cited parents) form rule i (candidates_alike rule t.vocabulary given cited form i (without_numbers forms) parents same follows) answers.0
-never_unverified false t given cited parents forms form NotYet have (rule, follows) answers =
-    let same : Alike (without_numbers forms) parents = forms_without_numbers forms ∙ sym have in
-    first_or_none rules t.vocabulary parents form rule (first_by_forms rules t.vocabulary form rule (without_numbers forms) parents same follows) answers
-never_unverified false t given cited parents forms form Leaf have (rule, follows) answers = answers
+-- a line that follows by the texts is not unverified in a theory with the same symbols
+never_unverified : (is_leaf : Bool) (t u : Statements) (given : List Form) (cited : Bool) (parents : List Parent) (forms : List Form) (form : Form) (reason : Reason) → SameSymbols u t → HaveForms parents forms → FollowsAs is_leaf u given cited forms form → AnswersKind is_leaf t given cited parents form (step.Unverified reason) → ⊥
+never_unverified is_leaf t u given cited parents forms form reason same have = by is_leaf reason
+  where
+    alike : Alike (without_numbers forms) parents
+    alike = forms_without_numbers forms ∙ sym have
 
--- what is known of a run of a good derivation: the lines that are taken have numbers
-record IsSound (v : Vocabulary) (d : Derivation) (taken : List ℕ) (p : Progress) : Type 0 where
-  vocabulary : p.theory.vocabulary ≡ v
+    leaf : (rule : Rule) (i : ℕ) → LeafRule u (candidates_of given cited (without_numbers forms)) form rule i → IsNoneAlone leaf_rules t (candidates_of given cited parents) form → ⊥
+    leaf rule i follows none =
+        alone_or_none leaf_rules t (candidates_of given cited parents) form rule i
+        (alone_alike_rule leaf_rules u t form rule i (candidates_of given cited (without_numbers forms)) (candidates_of given cited parents) same (candidates_alike given cited (without_numbers forms) parents alike) follows) none
+
+    by : (is_leaf : Bool) (reason : Reason) → FollowsAs is_leaf u given cited forms form → AnswersKind is_leaf t given cited parents form (step.Unverified reason) → ⊥
+    by true NotYet (rule, i, follows) answers = leaf rule i follows answers.0
+    by true Leaf (rule, i, follows) answers = leaf rule i follows answers.0
+    by false NotYet (rule, follows) answers = first_or_none rules t parents form rule (first_alike_rule rules u t form rule (without_numbers forms) parents same alike follows) answers
+    by false Leaf (rule, follows) answers = answers
+
+-- What is known of a run of a good derivation: the lines that are taken have numbers, and the theory has the symbols of what
+-- is given and of the lines so far.
+record IsSound (v : Vocabulary) (d : Derivation) (taken : List ℕ) (earlier : List Form) (p : Progress) : Type 0 where
+  same : SameSymbols p.theory (so_far v d.given earlier)
   count : length p.numbers ≡ length d.nodes
   numbers : (k : ℕ) → is_taken taken k ≡ true → (n : ℕ) × (slice_get p.numbers k ≡ Some (Some n))
 
 -- a parent that is given or taken
-found_parent : (v : Vocabulary) (d : Derivation) (taken : List ℕ) (p : Progress) (r : Ref) (form : Form) → IsSound v d taken p → is_done (is_taken taken) r ≡ true → form_of d.given d.forms r ≡ Some form → (n : ℕ) × (parent_of d.given d.forms p.numbers r ≡ Some (numbered n form))
-found_parent v d taken p (ref.Given place) form sound done is = (place, rw is refl)
-found_parent v d taken p (ref.Line place) form sound done is = let number = sound.numbers place done in (number.0, rw (number.1, is) refl)
+found_parent : (v : Vocabulary) (d : Derivation) (taken : List ℕ) (earlier : List Form) (p : Progress) (r : Ref) (form : Form) → IsSound v d taken earlier p → is_done (is_taken taken) r ≡ true → form_of d.given d.forms r ≡ Some form → (n : ℕ) × (parent_of d.given d.forms p.numbers r ≡ Some (numbered n form))
+found_parent v d taken earlier p (ref.Given place) form sound done is = (place, rw is refl)
+found_parent v d taken earlier p (ref.Line place) form sound done is = let number = sound.numbers place done in (number.0, rw (number.1, is) refl)
 
 -- the parents of a line that has its turn
-found_parents : (v : Vocabulary) (d : Derivation) (taken : List ℕ) (p : Progress) (rs : List Ref) (forms : List Form) → IsSound v d taken p → list_all (is_done (is_taken taken)) rs ≡ true → forms_of d.given d.forms rs ≡ Some forms → (parents : List Parent) × (parents_of d.given d.forms p.numbers rs ≡ Some parents) × HaveForms parents forms
-found_parents v d taken p [] forms sound done is = ([], refl, cc)
-found_parents v d taken p (r ∷ rs) forms sound done is =
+found_parents : (v : Vocabulary) (d : Derivation) (taken : List ℕ) (earlier : List Form) (p : Progress) (rs : List Ref) (forms : List Form) → IsSound v d taken earlier p → list_all (is_done (is_taken taken)) rs ≡ true → forms_of d.given d.forms rs ≡ Some forms → (parents : List Parent) × (parents_of d.given d.forms p.numbers rs ≡ Some parents) × HaveForms parents forms
+found_parents v d taken earlier p [] forms sound done is = ([], refl, cc)
+found_parents v d taken earlier p (r ∷ rs) forms sound done is =
     let parts = both_is (form_of d.given d.forms r) (forms_of d.given d.forms rs) forms is in
     let dones = both_true (is_done (is_taken taken) r) (list_all (is_done (is_taken taken)) rs) done in
-    let first = found_parent v d taken p r parts.0 sound dones.0 parts.2 in
-    let rest = found_parents v d taken p rs parts.1 sound dones.1 parts.3 in (
+    let first = found_parent v d taken earlier p r parts.0 sound dones.0 parts.2 in
+    let rest = found_parents v d taken earlier p rs parts.1 sound dones.1 parts.3 in (
       numbered first.0 parts.0 ∷ rest.0,
       rw (first.1, rest.1) refl,
       ap (λ (fs : List Form). parts.0 ∷ fs) rest.2 ∙ sym parts.4,
     )
 
 -- a line that follows from the parents that it has is accepted, and is taken then
-accepts : (v : Vocabulary) (d : Derivation) (taken : List ℕ) (old : Progress) (place : ℕ) (line : Line) (parents : List Parent) (forms : List Form) (answer : LineAnswer) (entries : List Entry) (new : Progress) → IsSound v d taken old → place < length d.nodes
-    → HaveForms parents forms → FollowsAs line.node.leaf v d.given line.node.cited forms line.form → IsAnswered d.given old place line (Some parents) answer entries new → IsAccepted answer × IsSound v d (taken ++ place ∷ []) new
-accepts v d taken old place line parents forms Skipped entries new sound within have follows is = absurd is
-accepts v d taken old place line parents forms (Unverified reason) entries new sound within have follows is =
-    absurd (never_unverified line.node.leaf old.theory d.given line.node.cited parents forms line.form reason have (subst (λ (w : Vocabulary). FollowsAs line.node.leaf w d.given line.node.cited forms line.form) (sym sound.vocabulary) follows) is.0)
-accepts v d taken old place line parents forms (Accepted rule cites) entries new sound within have follows (answers, (theory, admits, is)) = (
+accepts : (v : Vocabulary) (d : Derivation) (taken : List ℕ) (earlier : List Form) (old : Progress) (place : ℕ) (line : Line) (parents : List Parent) (forms : List Form) (answer : LineAnswer) (entries : List Entry) (new : Progress) → IsSound v d taken earlier old → place < length d.nodes
+    → HaveForms parents forms → FollowsAs line.node.leaf (so_far v d.given earlier) d.given line.node.cited forms line.form → IsAnswered d.given old place line (Some parents) answer entries new → IsAccepted answer × IsSound v d (taken ++ place ∷ []) (earlier ++ line.form ∷ []) new
+accepts v d taken earlier old place line parents forms Skipped entries new sound within have follows is = absurd is
+accepts v d taken earlier old place line parents forms (Unverified reason) entries new sound within have follows is =
+    absurd (never_unverified line.node.leaf old.theory (so_far v d.given earlier) d.given line.node.cited parents forms line.form reason (other_way old.theory (so_far v d.given earlier) sound.same) have follows is.0)
+accepts v d taken earlier old place line parents forms (Accepted rule cites) entries new sound within have follows (answers, (theory, admits, is)) = (
   tt,
-  subst (IsSound v d (taken ++ place ∷ [])) (sym is) (record {
-    vocabulary = ap (λ (t : Statements). t.vocabulary) made ∙ sound.vocabulary;
+  subst (IsSound v d (taken ++ place ∷ []) (earlier ++ line.form ∷ [])) (sym is) (record {
+    same = gained_same v d.given earlier old.theory theory line.form sound.same (accepted_theory line.node.leaf old.theory theory d.given line.node.cited parents line.form rule cites entries answers admits);
     count = length-set old.numbers place (Some (length theory.formulas - 1)) ∙ sound.count;
     numbers = numbers;
   }),
 )
   where
-    made : theory ≡ with_formula old.theory line.form
-    made = accepted_theory line.node.leaf old.theory theory d.given line.node.cited parents line.form rule cites entries answers admits
-
     numbers : (k : ℕ) → is_taken (taken ++ place ∷ []) k ≡ true → (n : ℕ) × (slice_get (slice_set old.numbers place (Some (length theory.formulas - 1))) k ≡ Some (Some n))
     numbers k is_now = by (k == place) refl
       where
@@ -122,40 +125,55 @@ accepts v d taken old place line parents forms (Accepted rule cites) entries new
             let before = sound.numbers k (taken_more taken place k is_now apart) in
             (before.0, set_elsewhere old.numbers place k (Some (length theory.formulas - 1)) apart ∙ before.1)
 
--- the line that has its turn is accepted
-turn_accepted : (v : Vocabulary) (d : Derivation) (answers : List LineAnswer) (taken : List ℕ) (old : Progress) (place : ℕ) (entries : List Entry) (new : Progress) → IsGood v d → IsSound v d taken old → HasTurn d.nodes taken place → AnswersPlace d answers old place entries new → ((a : LineAnswer) × (slice_get answers place ≡ Some a) × IsAccepted a) × IsSound v d (taken ++ place ∷ []) new
-turn_accepted v d answers taken old place entries new good sound turn a =
-    let follows = good.each place a.line a.there in
-    let same : turn.node ≡ a.line.node = one_value (slice_get d.nodes place) turn.node a.line.node turn.there a.there.node in
-    let done : list_all (is_done (is_taken taken)) a.line.node.parents ≡ true = subst (λ (n : Node). list_all (is_done (is_taken taken)) n.parents ≡ true) same turn.behind in
-    let parents = found_parents v d taken old a.line.node.parents follows.0 sound done follows.1 in
-    let is : IsAnswered d.given old place a.line (Some parents.0) a.answer entries new = subst (λ (ps : Option (List Parent)). IsAnswered d.given old place a.line ps a.answer entries new) parents.1 a.is in
-    let accepted = accepts v d taken old place a.line parents.0 follows.0 a.answer entries new sound (slice_get_within d.nodes place turn.node turn.there) parents.2 follows.2 is in
+abbrev line_of : Node → Form → Line
+line_of node form = record { node = node; form = form }
+
+-- one line stands at a place
+same_line : (d : Derivation) (place : ℕ) (l m : Line) → IsLineAt d place l → IsLineAt d place m → l ≡ m
+same_line d place l m first second =
+    ap (λ (n : Node). line_of n l.form) (one_value (slice_get d.nodes place) l.node m.node first.node second.node)
+    ∙ ap (λ (f : Form). line_of m.node f) (one_value (slice_get d.forms place) l.form m.form first.form second.form)
+
+-- the line that has its turn, and follows, is accepted
+turn_accepted : (v : Vocabulary) (d : Derivation) (answers : List LineAnswer) (taken : List ℕ) (earlier : List Form) (old : Progress) (place : ℕ) (entries : List Entry) (new : Progress) (line : Line) → IsLineAt d place line → Follows (so_far v d.given earlier) d line → IsSound v d taken earlier old → HasTurn d.nodes taken place
+    → AnswersPlace d answers old place entries new → ((a : LineAnswer) × (slice_get answers place ≡ Some a) × IsAccepted a) × IsSound v d (taken ++ place ∷ []) (earlier ++ line.form ∷ []) new
+turn_accepted v d answers taken earlier old place entries new line there follows sound turn a =
+    let same : turn.node ≡ line.node = one_value (slice_get d.nodes place) turn.node line.node turn.there there.node in
+    let done : list_all (is_done (is_taken taken)) line.node.parents ≡ true = subst (λ (n : Node). list_all (is_done (is_taken taken)) n.parents ≡ true) same turn.behind in
+    let parents = found_parents v d taken earlier old line.node.parents follows.0 sound done follows.1 in
+    let here : IsAnswered d.given old place line (parents_of d.given d.forms old.numbers line.node.parents) a.answer entries new =
+    subst (λ (l : Line). IsAnswered d.given old place l (parents_of d.given d.forms old.numbers l.node.parents) a.answer entries new) (same_line d place a.line line a.there there) a.is in
+    let is : IsAnswered d.given old place line (Some parents.0) a.answer entries new = subst (λ (ps : Option (List Parent)). IsAnswered d.given old place line ps a.answer entries new) parents.1 here in
+    let accepted = accepts v d taken earlier old place line parents.0 follows.0 a.answer entries new sound (slice_get_within d.nodes place turn.node turn.there) parents.2 follows.2 is in
     ((a.answer, a.answer_there, accepted.0), accepted.1)
 
 -- each line that has its turn later is accepted
-later_accepted : (v : Vocabulary) (d : Derivation) (answers : List LineAnswer) (taken : List ℕ) (old : Progress) (places : List ℕ) (entries : List Entry) (new : Progress) (k : ℕ) → IsGood v d → IsSound v d taken old → TakesInTurn d.nodes taken places → AreAnswered d answers old places entries new → is_taken places k ≡ true
-    → (a : LineAnswer) × (slice_get answers k ≡ Some a) × IsAccepted a
-later_accepted v d answers taken old [] entries new k good sound turns are is = absurd (cc)
-later_accepted v d answers taken old (place ∷ places) entries new k good sound turns (own, mid, a, (later, entries_are, rest)) is =
-    let here = turn_accepted v d answers taken old place own mid good sound (turn_of d.nodes taken place turns.0) a in
-    by (place == k) refl is here.0 (later_accepted v d answers (taken ++ place ∷ []) mid places later new k good here.1 turns.1 rest)
+later_accepted : (v : Vocabulary) (d : Derivation) (answers : List LineAnswer) (taken : List ℕ) (earlier : List Form) (old : Progress) (places : List ℕ) (entries : List Entry) (new : Progress) (k : ℕ) → FollowInTurn v d earlier places → IsSound v d taken earlier old → TakesInTurn d.nodes taken places
+    → AreAnswered d answers old places entries new → is_taken places k ≡ true → (a : LineAnswer) × (slice_get answers k ≡ Some a) × IsAccepted a
+later_accepted v d answers taken earlier old [] entries new k follow sound turns are is = absurd (cc)
+later_accepted v d answers taken earlier old (place ∷ places) entries new k (line, there, follows, follow) sound turns (own, mid, a, (later, entries_are, rest)) is =
+    let here = turn_accepted v d answers taken earlier old place own mid line there follows sound (turn_of d.nodes taken place turns.0) a in
+    by (place == k) refl is here.0 (later_accepted v d answers (taken ++ place ∷ []) (earlier ++ line.form ∷ []) mid places later new k follow here.1 turns.1 rest)
   where
     by : (b : Bool) → (place == k) ≡ b → (b || is_taken places k) ≡ true → ((a : LineAnswer) × (slice_get answers place ≡ Some a) × IsAccepted a) → (is_taken places k ≡ true → (a : LineAnswer) × (slice_get answers k ≡ Some a) × IsAccepted a) → (a : LineAnswer) × (slice_get answers k ≡ Some a) × IsAccepted a
     by false test is first on = on is
     by true test is first on = let same : place ≡ k = grind (arith, nat_tests) in (first.0, ap (slice_get answers) (sym same) ∙ first.1, first.2)
 
 -- a good derivation is accepted whole
-pub good_accepted : (start : Statements) (d : Derivation) (order : List ℕ) (answers : List LineAnswer) (entries : List Entry) (end : Statements) → IsGood start.vocabulary d → TakesInTurn d.nodes [] order → first_left (is_taken order) 0 d.nodes ≡ None → IsRun start d order answers entries end → AreAccepted answers
-good_accepted start d order answers entries end good turns all run = all_accepted answers each
+pub good_accepted : (start : Statements) (d : Derivation) (order : List ℕ) (answers : List LineAnswer) (entries : List Entry) (end : Statements) → start.formulas ≡ d.given → IsGood start.vocabulary d order → TakesInTurn d.nodes [] order → first_left (is_taken order) 0 d.nodes ≡ None
+    → IsRun start d order answers entries end → AreAccepted answers
+good_accepted start d order answers entries end given good turns all run = all_accepted answers each
   where
-    sound : IsSound start.vocabulary d [] (begun start d)
-    sound = record { vocabulary = refl; count = length-replicate (length d.nodes) None; numbers = λ k is. absurd (cc) }
+    begins : SameSymbols start (so_far start.vocabulary d.given [])
+    begins = subst (λ (fs : List Form). SameSymbols start (record { vocabulary = start.vocabulary; formulas = fs })) (given ∙ sym (append-nil d.given)) (same_symbols start)
+
+    sound : IsSound start.vocabulary d [] [] (begun start d)
+    sound = record { same = begins; count = length-replicate (length d.nodes) None; numbers = λ k is. absurd (cc) }
 
     each : (k : ℕ) (a : LineAnswer) → slice_get answers k ≡ Some a → IsAccepted a
     each k a at =
         let node = has_value d.nodes k (omega (arith, run.count, slice_get_within answers k a at)) in
         let zero_more : 0 + k ≡ k = omega arith in
         let taken : is_taken order k ≡ true = ap (is_taken order) (sym zero_more) ∙ none_left (is_taken order) 0 d.nodes k node.0 all node.1 in
-        let found = later_accepted start.vocabulary d answers [] (begun start d) order entries (record { theory = end; numbers = run.numbers }) k good sound turns run.answered taken in
+        let found = later_accepted start.vocabulary d answers [] [] (begun start d) order entries (record { theory = end; numbers = run.numbers }) k good.each sound turns run.answered taken in
         subst IsAccepted (one_value (slice_get answers k) found.0 a found.1 at) found.2

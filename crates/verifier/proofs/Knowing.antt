@@ -1,21 +1,27 @@
 -- What is known of the theory so far: that the parents of a line stand in it, and how it goes on.
-use Rattle.std.proofs.Common.{◌≡◌, ℕ, suc, ◌+◌, ◌-◌, ◌⊎◌, inl, inr, List, [], ◌∷◌, ◌++◌, length, Option, None, Some, slice_get, replicate, refl, sym, ◌∙◌, ap, subst, arith, length-append}
+use Rattle.std.proofs.Common.{◌≡◌, ℕ, suc, ◌+◌, ◌-◌, ◌==◌, ◌⊎◌, inl, inr, Bool, true, false, List, [], ◌∷◌, ◌++◌, length, Option, None, Some, slice_get, slice_set, replicate, refl, sym, ◌∙◌, ap, subst, arith}
 use Rattle.std.specs.List.{All}
+use Rattle.std.proofs.lemmas.Bool.Decides.{nat_tests}
 use Rattle.std.proofs.lemmas.List.{length-set, length-replicate}
+use Rattle.std.proofs.lemmas.Option.{slice_get_within}
 use Rattle.std.proofs.lemmas.List.Elements.{All-nil, All-cons, All-weaker}
+use Rattle.fof_terms.specs.Vocabulary.{Vocabulary}
 use Rattle.fof_terms.specs.declared.form.Form.{Form}
 use Rattle.clause_form.specs.declared.path.Parent.{Parent}
 use Rattle.clause_rules.specs.Steps.{IsReady, AreReady}
 use Rattle.kernel.specs.Statements.{Statements}
-use Rattle.kernel.specs.Entries.{with_formula}
-use Rattle.elaborate.specs.Derived.{AreOfTheory}
+use Rattle.kernel.specs.Entries.{IsFresh}
+use Rattle.derive_kit.specs.Derived.{AreOfTheory}
 use Rattle.tstp_graph.specs.declared.shape.Ref.{Ref}
 use Rattle.tstp_graph.specs.declared.shape.Ref.TheVariants as ref
 use Rattle.verifier.specs.Lines.{Derivation, numbered, given_from, with_number, accepted, parent_of, both, parents_of}
 use Rattle.verifier.specs.Numbered.{Knows, IsOver, AreNumbered, forms_in, progress_of, derivation_in}
 use Rattle.verifier.specs.declared.lines.Lines.{Lines}
 use Rattle.verifier.specs.Run.{Progress, begun, with_line}
-use Rattle.verifier.proofs.Slots.{set_cases, of_all, stays_behind, comes_last, one_value, in_replicate}
+use Rattle.verifier.specs.Symbols.{IsAbsent, IsInNoNumbered, IsUnused}
+use Rattle.verifier.proofs.Derived.{with_stays}
+use Rattle.verifier.proofs.Slots.{set_here, set_elsewhere, set_cases, of_all, last_behind, one_value, in_replicate}
+use Rattle.verifier.proofs.Symbols.{Gains, gained_fresh, gained_still}
 
 -- the parent stands in the theory, and the rules may be asked about it
 pub record Stands (t : Statements) (p : Parent) : Type 0 where
@@ -35,10 +41,6 @@ pub both_is : {X : Type 0} (x : Option X) (xs : Option (List X)) (ys : List X) �
 both_is None xs ys is = absurd (cc)
 both_is (Some x) None ys is = absurd (cc)
 both_is (Some x) (Some xs) ys is = (x, xs, refl, refl, cc)
-
--- the number of a formula that comes behind others
-abbrev pub last_number : List Form → Form → ℕ
-last_number forms form = length (forms ++ form ∷ []) - 1
 
 module _ (d : Derivation) (p : Progress) (knows : Knows d p) where
   pub parent_stands : (r : Ref) (q : Parent) → parent_of d.given d.forms p.numbers r ≡ Some q → Stands p.theory q
@@ -74,25 +76,64 @@ module _ (d : Derivation) (p : Progress) (knows : Knows d p) where
   given_stand = given_on 0 d.given (λ k a is. let same : 0 + k ≡ k = omega arith in ap (slice_get d.given) same ∙ is)
 
   -- a line at a place is added
-  pub knows_more : (place : ℕ) (form : Form) (u : Statements) → slice_get d.forms place ≡ Some form → u ≡ with_formula p.theory form → Knows d (with_line p place u)
-  knows_more place form u at is =
-      subst (λ (w : Statements). Knows d (with_line p place w)) (sym is) (record {
-        given = λ k a there. stays_behind p.theory.formulas (form ∷ []) k a (knows.given k a there);
-        lines = λ k n a number there. line k n a there (set_cases p.numbers place k (Some (last_number p.theory.formulas form)) (Some n) number);
-        given_ready = knows.given_ready;
-        lines_ready = knows.lines_ready;
-        count = length-set p.numbers place (Some (last_number p.theory.formulas form)) ∙ knows.count;
-      })
+  pub knows_more : (place : ℕ) (form : Form) (u : Statements) → slice_get d.forms place ≡ Some form → Gains p.theory u form → Knows d (with_line p place u)
+  knows_more place form u at gains = record {
+    given = λ k a there. stays k a (knows.given k a there);
+    lines = λ k n a number there. line k n a there (set_cases p.numbers place k (Some (length u.formulas - 1)) (Some n) number);
+    symbols = λ k. (forth k, back k);
+    given_ready = subst (λ (v : Vocabulary). All (IsReady v) d.given) (sym same) knows.given_ready;
+    lines_ready = subst (λ (v : Vocabulary). All (IsReady v) d.forms) (sym same) knows.lines_ready;
+    count = length-set p.numbers place (Some (length u.formulas - 1)) ∙ knows.count;
+  }
     where
-      at_last : last_number p.theory.formulas form ≡ length p.theory.formulas
-      at_last = omega (arith, length-append p.theory.formulas (form ∷ []))
+      same : u.vocabulary ≡ p.theory.vocabulary
+      same = ap (λ (t : Statements). t.vocabulary) gains.made
 
-      line : (k n : ℕ) (a : Form) → slice_get d.forms k ≡ Some a → ((k ≡ place) × (Some n ≡ Some (last_number p.theory.formulas form))) ⊎ (slice_get p.numbers k ≡ Some (Some n)) → slice_get (p.theory.formulas ++ form ∷ []) n ≡ Some a
-      line k n a there (inl (same, number)) =
-          let n_is : n ≡ length p.theory.formulas = (let e : n ≡ last_number p.theory.formulas form = cc in e ∙ at_last) in
-          let form_is : form ≡ a = one_value (slice_get d.forms place) form a at (ap (slice_get d.forms) (sym same) ∙ there) in
-          ap (slice_get (p.theory.formulas ++ form ∷ [])) n_is ∙ comes_last p.theory.formulas form ∙ ap Some form_is
-      line k n a there (inr number) = stays_behind p.theory.formulas (form ∷ []) n a (knows.lines k n a number there)
+      stays : (k : ℕ) (a : Form) → slice_get p.theory.formulas k ≡ Some a → slice_get u.formulas k ≡ Some a
+      stays k a there = with_stays p.theory u (gains.before ++ form ∷ []) k a gains.made there
+
+      at_last : slice_get u.formulas (length u.formulas - 1) ≡ Some form
+      at_last = subst (λ (t : Statements). slice_get t.formulas (length t.formulas - 1) ≡ Some form) (sym gains.made) (last_behind p.theory.formulas gains.before form)
+
+      line : (k n : ℕ) (a : Form) → slice_get d.forms k ≡ Some a → ((k ≡ place) × (Some n ≡ Some (length u.formulas - 1))) ⊎ (slice_get p.numbers k ≡ Some (Some n)) → slice_get u.formulas n ≡ Some a
+      line k n a there (inl (here, number)) =
+          let n_is : n ≡ length u.formulas - 1 = cc in
+          let form_is : form ≡ a = one_value (slice_get d.forms place) form a at (ap (slice_get d.forms) (sym here) ∙ there) in
+          ap (slice_get u.formulas) n_is ∙ at_last ∙ ap Some form_is
+      line k n a there (inr number) = stays n a (knows.lines k n a number there)
+
+      here : slice_get (slice_set p.numbers place (Some (length u.formulas - 1))) place ≡ Some (Some (length u.formulas - 1))
+      here = set_here p.numbers place (Some (length u.formulas - 1)) (omega (arith, knows.count, slice_get_within d.forms place form at))
+
+      forth : (k : ℕ) → IsFresh k u → IsUnused k d (slice_set p.numbers place (Some (length u.formulas - 1)))
+      forth k fresh = (was.0, now)
+        where
+          parts : IsFresh k p.theory × IsAbsent k form
+          parts = gained_fresh p.theory u form k gains fresh
+
+          was : IsUnused k d p.numbers
+          was = (knows.symbols k).0 parts.0
+
+          now : IsInNoNumbered k d.forms (slice_set p.numbers place (Some (length u.formulas - 1)))
+          now q n a number there = by (set_cases p.numbers place q (Some (length u.formulas - 1)) (Some n) number)
+            where
+              by : ((q ≡ place) × (Some n ≡ Some (length u.formulas - 1))) ⊎ (slice_get p.numbers q ≡ Some (Some n)) → IsAbsent k a
+              by (inl (is, said)) = subst (IsAbsent k) (one_value (slice_get d.forms place) form a at (ap (slice_get d.forms) (sym is) ∙ there)) parts.1
+              by (inr before) = was.1 q n a before there
+
+      back : (k : ℕ) → IsUnused k d (slice_set p.numbers place (Some (length u.formulas - 1))) → IsFresh k u
+      back k unused = gained_still p.theory u form k gains ((knows.symbols k).1 (unused.0, before)) (unused.1 place (length u.formulas - 1) form here at)
+        where
+          before : IsInNoNumbered k d.forms p.numbers
+          before q n a number there = by (q == place) refl
+            where
+              by : (b : Bool) → (q == place) ≡ b → IsAbsent k a
+              by true test =
+                  let is : q ≡ place = grind (arith, nat_tests) in
+                  unused.1 place (length u.formulas - 1) a here (ap (slice_get d.forms) (sym is) ∙ there)
+              by false test =
+                  let apart : q ≡ place → ⊥ = λ is. grind (arith, nat_tests) in
+                  unused.1 q n a (set_elsewhere p.numbers place q (Some (length u.formulas - 1)) apart ∙ number) there
 
 pub of_theory : (t : Statements) (ps : List Parent) → All (Stands t) ps → AreOfTheory t ps
 of_theory t ps all = All-weaker (Stands t) (λ (p : Parent). slice_get t.formulas p.number ≡ Some p.form) (λ p s. s.at) ps all
@@ -105,6 +146,7 @@ pub knows_none : (t : Statements) (d : Derivation) → d.given ≡ t.formulas �
 knows_none t d same count given_ready lines_ready = record {
   given = λ k a there. ap (λ (fs : List Form). slice_get fs k) (sym same) ∙ there;
   lines = λ k n a number there. absurd (no_number k n number);
+  symbols = λ k. (λ fresh. (subst (All (IsAbsent k)) (sym same) fresh, λ q n a number there. absurd (no_number q n number)), λ unused. subst (All (IsAbsent k)) same unused.0);
   given_ready = subst (All (IsReady t.vocabulary)) (sym same) given_ready;
   lines_ready = lines_ready;
   count = length-replicate (length d.nodes) None ∙ sym count;

@@ -12,4 +12,6 @@ pub mod Refuting
 pub mod Renumbering
 pub mod Running
 pub mod Slots
+pub mod Speaking
+pub mod Symbols
 pub mod Turns

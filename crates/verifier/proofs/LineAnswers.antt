@@ -1,5 +1,5 @@
 -- The answer to one line, and what is taken of it.
-use Rattle.std.proofs.Common.{◌≡◌, ℕ, ◌<◌, ◌≤◌, Bool, true, false, List, [], length, get_or, Option, None, Some, Result, IfOk, OnOk, refl, sym, ◌∙◌, subst, arith}
+use Rattle.std.proofs.Common.{◌≡◌, ℕ, ◌<◌, ◌≤◌, Bool, true, false, List, [], ◌∷◌, ◌++◌, length, get_or, Option, None, Some, Result, IfOk, OnOk, refl, sym, ◌∙◌, subst, arith}
 use Rattle.std.proofs.lemmas.Option.{slice_get-get_or}
 use Rattle.std.proofs.lemmas.Result.{IfOk-weaker}
 use Rattle.tptp_base.specs.Sink.{Takes}
@@ -7,8 +7,9 @@ use Rattle.tptp_base.proofs.Taken.{takes_nothing}
 use Rattle.fof_terms.specs.declared.form.Form.{Form}
 use Rattle.clause_form.specs.declared.path.Parent.{Parent}
 use Rattle.kernel.specs.Statements.{Statements}
-use Rattle.kernel.specs.Entries.{Admits, with_formula}
+use Rattle.kernel.specs.Entries.{Admits}
 use Rattle.kernel.specs.declared.entry.Entry.{Entry}
+use Rattle.derive_kit.specs.Derived.{with_formulas}
 use Rattle.elaborate.specs.Answers.{IsLeafAnswer}
 use Rattle.elaborate.specs.declared.answer.Rule.{Rule}
 use Rattle.elaborate.specs.declared.answer.StepAnswer.{StepAnswer}
@@ -42,13 +43,13 @@ module _ {E : Type 0} (result : Result StepAnswer E) (t : Statements) (given : L
 pub can_admit : (t : Statements) (answer : StepAnswer) (rule : Rule) (cites : List ℕ) (entries : List Entry) → answer ≡ step.Accepted rule cites entries → CanTake t answer → CanAdmit t entries
 can_admit t answer rule cites entries is can =
     let own : CanTake t (step.Accepted rule cites entries) = subst (CanTake t) is can in
-    (with_formula t own.0, own.1)
+    (with_formulas t (own.1.0 ++ own.0 ∷ []), own.1.1)
 
 -- and what they make of the theory is not empty
 pub took_some : (t u : Statements) (answer : StepAnswer) (rule : Rule) (cites : List ℕ) (entries : List Entry) → answer ≡ step.Accepted rule cites entries → CanTake t answer → Admits t entries u → 1 ≤ length u.formulas
 took_some t u answer rule cites entries is can admits =
     let own : CanTake t (step.Accepted rule cites entries) = subst (CanTake t) is can in
-    some_formula t u own.0 (one_admitted t entries u (with_formula t own.0) admits own.1)
+    some_formula t u own.1.0 own.0 (one_admitted t entries u (with_formulas t (own.1.0 ++ own.0 ∷ [])) admits own.1.1)
 
 -- ---- a line at its place
 

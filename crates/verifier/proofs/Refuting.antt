@@ -1,5 +1,5 @@
 -- A run whose lines are all accepted, one of them falsehood, refutes.
-use Rattle.std.proofs.Common.{◌≡◌, ℕ, ◌+◌, ◌-◌, ◌==◌, ◌||◌, Bool, true, false, List, [], ◌∷◌, ◌++◌, length, Option, None, Some, slice_get, refl, sym, ◌∙◌, ap, subst, arith, length-append}
+use Rattle.std.proofs.Common.{◌≡◌, ℕ, ◌+◌, ◌-◌, ◌==◌, ◌||◌, Bool, true, false, List, [], ◌∷◌, ◌++◌, length, Option, None, Some, slice_get, refl, sym, ◌∙◌, ap, subst, arith}
 use Rattle.std.proofs.lemmas.Bool.Decides.{nat_tests}
 use Rattle.std.proofs.lemmas.Option.{slice_get_within}
 use Rattle.fof_terms.specs.declared.form.Form.{Form, Or}
@@ -30,7 +30,7 @@ use Rattle.verifier.specs.declared.answer.LineAnswer.TheVariants.{Accepted, Unve
 use Rattle.verifier.proofs.Counting.{IsAccepted, one_accepted}
 use Rattle.verifier.proofs.Derived.{accepted_theory, formula_stays}
 use Rattle.verifier.proofs.Running.{answers_admit}
-use Rattle.verifier.proofs.Slots.{comes_last, one_value, has_value}
+use Rattle.verifier.proofs.Slots.{last_is, last_behind, one_value, has_value}
 use Rattle.verifier.proofs.Turns.{none_left}
 
 -- an accepted line stands in the theory
@@ -39,12 +39,10 @@ accepted_stands d old place line parents Skipped entries new good is = absurd go
 accepted_stands d old place line parents (Unverified reason) entries new good is = absurd good
 accepted_stands d old place line None (Accepted rule cites) entries new good is = absurd is
 accepted_stands d old place line (Some parents) (Accepted rule cites) entries new good is =
-    let made : is.1.0 ≡ with_formula old.theory line.form = accepted_theory line.node.leaf old.theory is.1.0 d.given line.node.cited parents line.form rule cites entries is.0 is.1.1 in (
-      length old.theory.formulas,
-      ap (λ (p : Progress). slice_get p.theory.formulas (length old.theory.formulas)) is.1.2
-          ∙ ap (λ (t : Statements). slice_get t.formulas (length old.theory.formulas)) made
-          ∙ comes_last old.theory.formulas line.form,
-    )
+    let gains = accepted_theory line.node.leaf old.theory is.1.0 d.given line.node.cited parents line.form rule cites entries is.0 is.1.1 in
+    let at_last : slice_get is.1.0.formulas (length is.1.0.formulas - 1) ≡ Some line.form =
+    subst (λ (t : Statements). slice_get t.formulas (length t.formulas - 1) ≡ Some line.form) (sym gains.made) (last_behind old.theory.formulas gains.before line.form) in
+    (length is.1.0.formulas - 1, ap (λ (p : Progress). slice_get p.theory.formulas (length is.1.0.formulas - 1)) is.1.2 ∙ at_last)
 
 -- so does each of them in the end
 line_stands : (d : Derivation) (answers : List LineAnswer) (old : Progress) (places : List ℕ) (entries : List Entry) (new : Progress) (k : ℕ) (form : Form) → AreAccepted answers → AreAnswered d answers old places entries new → is_taken places k ≡ true → slice_get d.forms k ≡ Some form → (i : ℕ) × (slice_get new.theory.formulas i ≡ Some form)
@@ -78,9 +76,6 @@ false_sorted t = or_sorted t.vocabulary [] 2147483647 (record { few_variables = 
 -- a line of the theory shows falsehood
 pub line_shows : (t : Statements) (number : ℕ) → slice_get t.formulas number ≡ Some (Or []) → Proves t [] [] (Cited number) (Or [])
 line_shows t number at = (Proves-Line t [] [] number (Or [])).1 (false_sorted t, at)
-
-last_is : (fs : List Form) (f : Form) → slice_get (fs ++ f ∷ []) (length (fs ++ f ∷ []) - 1) ≡ Some f
-last_is fs f = let at : length (fs ++ f ∷ []) - 1 ≡ length fs = omega (arith, length-append fs (f ∷ [])) in ap (slice_get (fs ++ f ∷ [])) at ∙ comes_last fs f
 
 -- legal entries, and the last one for a verdict that all is verified, refute
 pub closed_refutes : (t u : Statements) (entries last : List Entry) (verdict : Verdict) → Admits t entries u → IsVerified verdict → Closes verdict u last → Refutes t (entries ++ last)

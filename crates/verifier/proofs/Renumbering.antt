@@ -1,4 +1,5 @@
--- The rules look at the formulas of parents alone: their numbers do not matter.
+-- The rules look at the formulas of parents alone, so their numbers do not matter; and of a theory they look at the symbols,
+-- and at which of them are new to its formulas.
 use Rattle.std.proofs.Common.{◌≡◌, ℕ, zero, suc, inl, inr, List, [], ◌∷◌, map, Option, Some, slice_get, refl, sym, ◌∙◌, ap, subst}
 use Rattle.fof_terms.specs.Vocabulary.{Vocabulary}
 use Rattle.fof_terms.specs.declared.form.Form.{Form}
@@ -8,8 +9,11 @@ use Rattle.clause_form.specs.declared.path.Parent.{Parent}
 use Rattle.clause_rules.specs.Answers.{Rule as Word, norm, cover, tautology, resolution, paramodulation, eqfactor, rewrite, Holds as Gives}
 use Rattle.clause_rules.specs.NormRule.{HasNorm}
 use Rattle.clause_rules.specs.Steps.{IsClauseAt, clauses_of}
-use Rattle.elaborate.specs.ByRule.{Holds, by_shape, IsFirst, GivesAlone, GivesNowhere, IsFirstAlone}
+use Rattle.kernel.specs.Statements.{Statements}
+use Rattle.elaborate.specs.ByRule.{Holds, IsFirst, GivesAlone, GivesNowhere, IsFirstAlone}
 use Rattle.elaborate.specs.declared.answer.Rule.{Rule}
+use Rattle.elaborate.specs.declared.answer.Rule.TheVariants.{Norm, Cover, Tautology, Resolution, Paramodulation, EqFactor, Rewrite}
+use Rattle.verifier.proofs.Symbols.{SameSymbols, other_way}
 
 -- both have the same formulas
 abbrev pub Alike : List Parent → List Parent → Type 0
@@ -143,29 +147,45 @@ gives_alike v line rewrite ps qs same (a, b, target, flipped, into, by, e, furth
   },
 )
 
-holds_alike : (v : Vocabulary) (line : Form) (rule : Rule) (ps qs : List Parent) → Alike ps qs → Holds v ps line rule → Holds v qs line rule
-holds_alike v line rule ps qs same holds = gives_alike v line (by_shape rule) ps qs same holds
+-- by its shape
+shaped_alike : (t u : Statements) (line : Form) (word : Word) (ps qs : List Parent) → SameSymbols t u → Alike ps qs → Gives t.vocabulary ps line word → Gives u.vocabulary qs line word
+shaped_alike t u line word ps qs same alike gives = subst (λ (v : Vocabulary). Gives v qs line word) same.vocabulary (gives_alike t.vocabulary line word ps qs alike gives)
+
+-- A rule holds where it holds of parents with the same formulas and of a theory with the same symbols.
+pub holds_alike : (t u : Statements) (line : Form) (rule : Rule) (ps qs : List Parent) → SameSymbols t u → Alike ps qs → Holds t ps line rule → Holds u qs line rule
+holds_alike t u line Norm ps qs same alike holds = shaped_alike t u line norm ps qs same alike holds
+holds_alike t u line Cover ps qs same alike holds = shaped_alike t u line cover ps qs same alike holds
+holds_alike t u line Tautology ps qs same alike holds = shaped_alike t u line tautology ps qs same alike holds
+holds_alike t u line Resolution ps qs same alike holds = shaped_alike t u line resolution ps qs same alike holds
+holds_alike t u line Paramodulation ps qs same alike holds = shaped_alike t u line paramodulation ps qs same alike holds
+holds_alike t u line EqFactor ps qs same alike holds = shaped_alike t u line eqfactor ps qs same alike holds
+holds_alike t u line Rewrite ps qs same alike holds = shaped_alike t u line rewrite ps qs same alike holds
+
+-- nor does it hold there where it does not here
+fails_alike : (t u : Statements) (line : Form) (rule : Rule) (ps qs : List Parent) → SameSymbols t u → Alike ps qs → (Holds t ps line rule → ⊥) → Holds u qs line rule → ⊥
+fails_alike t u line rule ps qs same alike fails holds = fails (holds_alike u t line rule qs ps (other_way t u same) (sym alike) holds)
 
 -- the first rule of steps that holds
-pub first_by_forms : (rs : List Rule) (v : Vocabulary) (line : Form) (rule : Rule) (ps qs : List Parent) → Alike ps qs → IsFirst rs v ps line rule → IsFirst rs v qs line rule
-first_by_forms [] v line rule ps qs same first = first
-first_by_forms (r ∷ rs) v line rule ps qs same (inl (is, holds)) = inl (is, holds_alike v line r ps qs same holds)
-first_by_forms (r ∷ rs) v line rule ps qs same (inr (fails, rest)) =
-    inr (λ holds. fails (holds_alike v line r qs ps (sym same) holds), first_by_forms rs v line rule ps qs same rest)
+pub first_alike_rule : (rs : List Rule) (t u : Statements) (line : Form) (rule : Rule) (ps qs : List Parent) → SameSymbols t u → Alike ps qs → IsFirst rs t ps line rule → IsFirst rs u qs line rule
+first_alike_rule [] t u line rule ps qs same alike first = first
+first_alike_rule (r ∷ rs) t u line rule ps qs same alike (inl (is, holds)) = inl (is, holds_alike t u line r ps qs same alike holds)
+first_alike_rule (r ∷ rs) t u line rule ps qs same alike (inr (fails, rest)) =
+    inr (λ holds. fails_alike t u line r ps qs same alike fails holds, first_alike_rule rs t u line rule ps qs same alike rest)
 
 -- ---- leaves
 
-gives_alone : (v : Vocabulary) (line : Form) (rule : Rule) (ps qs : List Parent) (i : ℕ) → Alike ps qs → GivesAlone v ps line rule i → GivesAlone v qs line rule i
-gives_alone v line rule ps qs i same (p, there, holds) =
-    let q = alike_at ps qs i p same there in
-    (q.parent, q.there, holds_alike v line rule (p ∷ []) (q.parent ∷ []) (ap (λ (f : Form). f ∷ []) (sym q.same)) holds)
+gives_alone : (t u : Statements) (line : Form) (rule : Rule) (ps qs : List Parent) (i : ℕ) → SameSymbols t u → Alike ps qs → GivesAlone t ps line rule i → GivesAlone u qs line rule i
+gives_alone t u line rule ps qs i same alike (p, there, holds) =
+    let q = alike_at ps qs i p alike there in
+    (q.parent, q.there, holds_alike t u line rule (p ∷ []) (q.parent ∷ []) same (ap (λ (f : Form). f ∷ []) (sym q.same)) holds)
 
-gives_nowhere : (v : Vocabulary) (line : Form) (rule : Rule) (ps qs : List Parent) → Alike ps qs → GivesNowhere v ps line rule → GivesNowhere v qs line rule
-gives_nowhere v line rule ps qs same none = λ j gives. none j (gives_alone v line rule qs ps j (sym same) gives)
+gives_nowhere : (t u : Statements) (line : Form) (rule : Rule) (ps qs : List Parent) → SameSymbols t u → Alike ps qs → GivesNowhere t ps line rule → GivesNowhere u qs line rule
+gives_nowhere t u line rule ps qs same alike none = λ j gives. none j (gives_alone u t line rule qs ps j (other_way t u same) (sym alike) gives)
 
 -- the first rule of leaves that holds
-pub alone_by_forms : (rs : List Rule) (v : Vocabulary) (line : Form) (rule : Rule) (i : ℕ) (ps qs : List Parent) → Alike ps qs → IsFirstAlone rs v ps line rule i → IsFirstAlone rs v qs line rule i
-alone_by_forms [] v line rule i ps qs same first = first
-alone_by_forms (r ∷ rs) v line rule i ps qs same (inl (is, (gives, before))) =
-    inl (is, (gives_alone v line r ps qs i same gives, λ j lt found. before j lt (gives_alone v line r qs ps j (sym same) found)))
-alone_by_forms (r ∷ rs) v line rule i ps qs same (inr (none, rest)) = inr (gives_nowhere v line r ps qs same none, alone_by_forms rs v line rule i ps qs same rest)
+pub alone_alike_rule : (rs : List Rule) (t u : Statements) (line : Form) (rule : Rule) (i : ℕ) (ps qs : List Parent) → SameSymbols t u → Alike ps qs → IsFirstAlone rs t ps line rule i → IsFirstAlone rs u qs line rule i
+alone_alike_rule [] t u line rule i ps qs same alike first = first
+alone_alike_rule (r ∷ rs) t u line rule i ps qs same alike (inl (is, (gives, before))) =
+    inl (is, (gives_alone t u line r ps qs i same alike gives, λ j lt found. before j lt (gives_alone u t line r qs ps j (other_way t u same) (sym alike) found)))
+alone_alike_rule (r ∷ rs) t u line rule i ps qs same alike (inr (none, rest)) =
+    inr (gives_nowhere t u line r ps qs same alike none, alone_alike_rule rs t u line rule i ps qs same alike rest)

@@ -1,5 +1,5 @@
 -- Lists in which one place is written, and lists that grow at their end.
-use Rattle.std.proofs.Common.{◌≡◌, ℕ, zero, suc, ◌<◌, ◌⊎◌, inl, inr, List, [], ◌∷◌, ◌++◌, length, Option, Some, slice_get, replicate, refl, ap, subst, arith}
+use Rattle.std.proofs.Common.{◌≡◌, ℕ, zero, suc, ◌-◌, ◌<◌, ◌⊎◌, inl, inr, List, [], ◌∷◌, ◌++◌, length, Option, Some, slice_get, replicate, refl, ◌∙◌, ap, subst, arith, append_assoc, length-append}
 use Rattle.std.specs.List.{All}
 use Rattle.std.proofs.Math.ListN.{set}
 use Rattle.std.proofs.lemmas.Option.{slice_get_within, get_or_from_slice_get}
@@ -44,6 +44,13 @@ module _ {X : Type 0} where
   pub comes_last : (xs : List X) (x : X) → slice_get (xs ++ x ∷ []) (length xs) ≡ Some x
   comes_last [] x = refl
   comes_last (y ∷ xs) x = comes_last xs x
+
+  -- what is last
+  pub last_is : (xs : List X) (x : X) → slice_get (xs ++ x ∷ []) (length (xs ++ x ∷ []) - 1) ≡ Some x
+  last_is xs x = let at : length (xs ++ x ∷ []) - 1 ≡ length xs = omega (arith, length-append xs (x ∷ [])) in ap (slice_get (xs ++ x ∷ [])) at ∙ comes_last xs x
+
+  pub last_behind : (xs ys : List X) (x : X) → slice_get (xs ++ (ys ++ x ∷ [])) (length (xs ++ (ys ++ x ∷ [])) - 1) ≡ Some x
+  last_behind xs ys x = subst (λ (zs : List X). slice_get zs (length zs - 1) ≡ Some x) (append_assoc xs ys (x ∷ [])) (last_is (xs ++ ys) x)
 
   -- two values of one place
   pub one_value : (o : Option X) (x y : X) → o ≡ Some x → o ≡ Some y → x ≡ y

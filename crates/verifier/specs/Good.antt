@@ -1,9 +1,10 @@
--- What a good derivation is, by its text alone: each line follows from its parents by a rule, each leaf from what is given,
--- and some line is falsehood. No rule that is built so far asks that a symbol be new to earlier lines, so each line is
--- judged by itself.
-use Rattle.std.specs.Prelude.{ℕ, ◌≡◌, Bool, true, false, List, [], ◌∷◌, Option, Some, map, slice_get}
+-- What a good derivation is, by its texts alone. Its lines are gone through in an order: each follows from its parents by a
+-- rule, each leaf from what is given, and some line is falsehood. For the rules that ask for a new symbol, a symbol is new
+-- to a line where it stands neither in a given formula nor in the formula of a line before it in the order.
+use Rattle.std.specs.Prelude.{ℕ, ◌≡◌, ⊤, Bool, true, false, List, [], ◌∷◌, ◌++◌, Option, Some, map, slice_get}
 use Rattle.fof_terms.specs.Vocabulary.{Vocabulary}
 use Rattle.fof_terms.specs.declared.form.Form.{Form}
+use Rattle.kernel.specs.Statements.{Statements}
 use Rattle.clause_form.specs.declared.path.Parent.{Parent}
 use Rattle.elaborate.specs.ByRule.{ByRule, LeafRule}
 use Rattle.elaborate.specs.declared.answer.Rule.{Rule}
@@ -25,15 +26,26 @@ forms_of given forms (ref ∷ refs) = both (form_of given forms ref) (forms_of g
 abbrev pub without_numbers : List Form → List Parent
 without_numbers forms = map (numbered 0) forms
 
--- the first rule of leaves, or of steps, that gives the line from parents with these formulas
-abbrev pub FollowsAs : Bool → Vocabulary → List Form → Bool → List Form → Form → Type 0
-FollowsAs true v given cited forms line = (rule : Rule) × (i : ℕ) × LeafRule v (candidates_of given cited (without_numbers forms)) line rule i
-FollowsAs false v given cited forms line = (rule : Rule) × ByRule v (without_numbers forms) line rule
+-- these symbols, and the formulas that are given or stand in the lines before
+abbrev pub so_far : Vocabulary → List Form → List Form → Statements
+so_far v given earlier = record { vocabulary = v; formulas = given ++ earlier }
 
--- a rule gives the line
-abbrev pub Follows : Vocabulary → Derivation → Line → Type 0
-Follows v d line = (forms : List Form) × (forms_of d.given d.forms line.node.parents ≡ Some forms) × FollowsAs line.node.leaf v d.given line.node.cited forms line.form
+-- with what is so far, the first rule of leaves, or of steps, that gives the line from parents with these formulas
+abbrev pub FollowsAs : Bool → Statements → List Form → Bool → List Form → Form → Type 0
+FollowsAs true t given cited forms line = (rule : Rule) × (i : ℕ) × LeafRule t (candidates_of given cited (without_numbers forms)) line rule i
+FollowsAs false t given cited forms line = (rule : Rule) × ByRule t (without_numbers forms) line rule
 
-pub record IsGood (v : Vocabulary) (d : Derivation) : Type 0 where
-  pub each : (place : ℕ) (line : Line) → IsLineAt d place line → Follows v d line
+-- with what is so far, a rule gives the line
+abbrev pub Follows : Statements → Derivation → Line → Type 0
+Follows t d line = (forms : List Form) × (forms_of d.given d.forms line.node.parents ≡ Some forms) × FollowsAs line.node.leaf t d.given line.node.cited forms line.form
+
+-- behind lines with these formulas, the lines at these places follow, one after another
+abbrev pub FollowInTurn : Vocabulary → Derivation → List Form → List ℕ → Type 0
+FollowInTurn v d earlier [] = ⊤
+FollowInTurn v d earlier (place ∷ places) =
+    (line : Line) × IsLineAt d place line × Follows (so_far v d.given earlier) d line × FollowInTurn v d (earlier ++ line.form ∷ []) places
+
+-- with these symbols, the derivation is good in this order
+pub record IsGood (v : Vocabulary) (d : Derivation) (order : List ℕ) : Type 0 where
+  pub each : FollowInTurn v d [] order
   pub ends : HasFalse d.forms

@@ -8,4 +8,5 @@ pub mod Logged
 pub mod Numbered
 pub mod Report
 pub mod Run
+pub mod Symbols
 pub mod Taking

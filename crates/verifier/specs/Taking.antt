@@ -1,10 +1,11 @@
 -- What the code that runs one line has done.
-use Rattle.std.specs.Prelude.{ℕ, ◌≡◌, ⊤, List, Option}
+use Rattle.std.specs.Prelude.{ℕ, ◌≡◌, ⊤, List, [], ◌∷◌, ◌++◌, Option}
 use Rattle.tptp_base.specs.Sink.{Takes}
 use Rattle.fof_terms.specs.declared.form.Form.{Form}
 use Rattle.kernel.specs.Statements.{Statements}
-use Rattle.kernel.specs.Entries.{Admits, with_formula}
+use Rattle.kernel.specs.Entries.{Admits}
 use Rattle.kernel.specs.declared.entry.Entry.{Entry}
+use Rattle.derive_kit.specs.Derived.{with_formulas}
 use Rattle.elaborate.specs.declared.answer.StepAnswer.{StepAnswer}
 use Rattle.elaborate.specs.declared.answer.StepAnswer.TheVariants as step
 use Rattle.verifier.specs.Lines.{Derivation, Line, IsLineAt, parents_of}
@@ -13,12 +14,12 @@ use Rattle.verifier.specs.Run.{Progress, IsAnswered, with_line}
 use Rattle.verifier.specs.declared.answer.LineAnswer.{LineAnswer}
 use Rattle.verifier.specs.declared.answer.LineAnswer.TheVariants.{Accepted, Unverified}
 
--- the entries of the answer, if there are any, add this formula to the theory
+-- the entries of the answer, if there are any, add some formulas to the theory, and this one last
 abbrev pub Adds : Statements → Form → StepAnswer → Type 0
-Adds t form (step.Accepted rule cites entries) = Admits t entries (with_formula t form)
+Adds t form (step.Accepted rule cites entries) = (before : List Form) × Admits t entries (with_formulas t (before ++ form ∷ []))
 Adds t form (step.Unverified reason) = ⊤
 
--- the entries of the answer, if there are any, add some formula
+-- the entries of the answer, if there are any, add some formula last
 abbrev pub CanTake : Statements → StepAnswer → Type 0
 CanTake t answer = (form : Form) × Adds t form answer
 

@@ -22,7 +22,7 @@ pub use closing::close_log;
 pub use declarations::declare;
 pub use ending::{has_false, verdict};
 pub use fault::RunFault;
-pub use laws::{a_good_derivation_is_accepted, a_verified_run_refutes};
+pub use laws::{a_good_derivation_is_accepted, a_run_speaks_of_its_lines, a_verified_run_refutes};
 pub use names::{answer_of, reason_name, rule_name};
 pub use run::run_lines;
 

@@ -2,7 +2,7 @@
 ghost use Rattle.std.specs.Prelude.{◌≡◌, ◌<◌, ◌≤◌, length, IfOk, IfErr, OnOk, OnErr};
 ghost use Rattle.tptp_base.specs.Count.{Rose};
 ghost use Rattle.clause_rules.specs.Steps.{AreReady, IsReady};
-ghost use Rattle.elaborate.specs.Derived.{AreOfTheory};
+ghost use Rattle.derive_kit.specs.Derived.{AreOfTheory};
 ghost use Rattle.verifier.specs.Faults.{HasCause};
 ghost use Rattle.verifier.specs.Logged.{LogsSome};
 ghost use Rattle.verifier.specs.Numbered.{forms_in, AreNumbered, progress_of, derivation_in, Knows};

@@ -17,7 +17,9 @@ pub fn rule_name(rule: Rule) -> &'static [u8]
         Rule::Cover => b"cover",
         Rule::Tautology => b"tautology",
         Rule::Resolution => b"resolution",
+        Rule::Paramodulation => b"paramodulation",
         Rule::EqFactor => b"eqfactor",
+        Rule::Rewrite => b"rewrite",
     }
 }
 
