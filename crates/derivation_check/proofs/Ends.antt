@@ -114,5 +114,5 @@ good_verdict claim problem forms answers (BadClaim word) accepted has justified 
 pub good_verified : (asked : Asked) (t : Statements) (d : Derivation) (w : Vocabulary) (verified : Bool) (report log : List ℕ) → TakesInTurn d.graph.nodes [] d.graph.order → first_left (is_taken d.graph.order) 0 d.graph.nodes ≡ None
     → IsGoodCase asked t d w → Checks asked t d w verified report log → verified ≡ true
 good_verified asked t d w verified report log turns all good c =
-    let accepted = good_accepted (widened t w) (lines_over t d) d.graph.order c.answers c.runs.own c.end good.good turns all c.runs.run in
+    let accepted = good_accepted (widened t w) (lines_over t d) d.graph.order c.answers c.runs.own c.end refl good.good turns all c.runs.run in
     c.verified_is ∙ good_verdict (claim_by asked c.answers) asked.problem d.forms c.answers c.verdict accepted good.good.ends (good.justified c.answers) c.first_that_applies
