@@ -10,6 +10,7 @@ use crate::form_reader::form;
 use crate::name::{DECL_NAMES, DeclName, ENTRY_NAMES, EntryName};
 use crate::proof_reader::proof;
 use crate::quoted::quoted;
+use crate::room::list_for;
 use crate::stop::Stop;
 use crate::words::{head, large, name, small};
 use fof_terms::{Kind, Symbol};
@@ -23,7 +24,7 @@ fn numbers(alloc: Global, text: &mut Cursor<'_>) -> Result<List<u32>, Stop>
     ensures { Reads (listed (number 4294967295) text.old) result text.new }
 {
     let count = large(text)?;
-    let mut found = List::new(alloc);
+    let mut found = list_for(alloc, count)?;
     for _ in 0..count {
         found.push(small(text)?)?;
     }

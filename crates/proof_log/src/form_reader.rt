@@ -7,6 +7,7 @@ ghost use Rattle.proof_log.specs.Outcomes.{Reads};
 
 use crate::cursor::Cursor;
 use crate::name::{FORM_NAMES, FormName};
+use crate::room::list_for;
 use crate::stop::Stop;
 use crate::term_reader::{term, terms};
 use crate::words::{deep_head, head, large, small};
@@ -66,7 +67,7 @@ pub fn forms(alloc: Global, text: &mut Cursor<'_>, room: usize) -> Result<List<F
     ensures { Reads (listed (spec.form room) text.old) result text.new }
 {
     let count = large(text)?;
-    let mut found = List::new(alloc);
+    let mut found = list_for(alloc, count)?;
     for _ in 0..count {
         let next = form(alloc, text, room)?;
         found.push(next.into_inner())?;

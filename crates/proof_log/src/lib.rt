@@ -13,6 +13,7 @@ mod proof_reader;
 mod proofs;
 mod quoted;
 mod reader;
+mod room;
 mod stop;
 mod term_reader;
 mod words;

@@ -8,6 +8,7 @@ ghost use Rattle.proof_log.specs.Outcomes.{Reads};
 use crate::cursor::Cursor;
 use crate::form_reader::{form, forms};
 use crate::name::{PROOF_NAMES, ProofName};
+use crate::room::list_for;
 use crate::stop::Stop;
 use crate::term_reader::term;
 use crate::words::{deep_head, head, large, small};
@@ -79,7 +80,7 @@ pub fn proofs(alloc: Global, text: &mut Cursor<'_>, room: usize) -> Result<List<
     ensures { Reads (listed (spec.proof room) text.old) result text.new }
 {
     let count = large(text)?;
-    let mut found = List::new(alloc);
+    let mut found = list_for(alloc, count)?;
     for _ in 0..count {
         let next = proof(alloc, text, room)?;
         found.push(next.into_inner())?;

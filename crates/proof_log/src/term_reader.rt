@@ -8,6 +8,7 @@ ghost use Rattle.proof_log.specs.Outcomes.{Reads};
 
 use crate::cursor::Cursor;
 use crate::name::{TERM_NAMES, TermName};
+use crate::room::list_for;
 use crate::stop::Stop;
 use crate::words::{deep_head, head, large, small};
 use fof_terms::Term;
@@ -63,7 +64,7 @@ pub fn terms(alloc: Global, text: &mut Cursor<'_>, room: usize) -> Result<List<T
     ensures { Reads (listed (spec.term room) text.old) result text.new }
 {
     let count = large(text)?;
-    let mut found = List::new(alloc);
+    let mut found = list_for(alloc, count)?;
     for _ in 0..count {
         let next = term(alloc, text, room)?;
         found.push(next.into_inner())?;

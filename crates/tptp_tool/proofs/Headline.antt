@@ -44,7 +44,7 @@ use Rattle.tptp_tool.proofs.Stages.{if_map}
 
 -- ---- an ending of status 0 is no refusal
 
-no_refusal : {T : Type 0} (ending : Ending) (status : ℕ) (out : List ℕ) → ending.status ≡ 0 → ending ≡ says (suc status) out → T
+pub no_refusal : {T : Type 0} (ending : Ending) (status : ℕ) (out : List ℕ) → ending.status ≡ 0 → ending ≡ says (suc status) out → T
 no_refusal ending status out zero is = absurd (omega (arith, zero, ap (λ (e : Ending). e.status) is))
 
 no_rule : {T : Type 0} (ending : Ending) (r : SortRule) (out : List ℕ) → ending.status ≡ 0 → ending ≡ says (rule_status r) out → T
@@ -75,7 +75,7 @@ no_text : {T : Type 0} (name : List ℕ) (fault : TextFault) (ending : Ending) �
 no_text name (Lex fault) ending zero says = no_lex name fault ending zero says
 no_text name (Grammar fault) ending zero says = no_grammar name fault ending zero says
 
-no_include : {T : Type 0} (fault : IncludeFault) (ending : Ending) → ending.status ≡ 0 → SaysIncludeFault fault ending → T
+pub no_include : {T : Type 0} (fault : IncludeFault) (ending : Ending) → ending.status ≡ 0 → SaysIncludeFault fault ending → T
 no_include (included.Missing name) ending zero says = no_refusal ending 2 _ zero says
 no_include (included.Cycle name) ending zero says = no_refusal ending 2 _ zero says
 no_include (included.DeepInclude name) ending zero says = no_refusal ending 6 _ zero says
@@ -85,7 +85,7 @@ no_include (included.Limit file limit) ending zero says = no_refusal ending 6 _ 
 no_include included.Store ending zero says = absurd says
 no_include included.Memory ending zero says = absurd says
 
-no_sort : {T : Type 0} (files : List (List ℕ)) (fault : SortFault) (ending : Ending) → ending.status ≡ 0 → SaysSortFault files fault ending → T
+pub no_sort : {T : Type 0} (files : List (List ℕ)) (fault : SortFault) (ending : Ending) → ending.status ≡ 0 → SaysSortFault files fault ending → T
 no_sort files (sorted.Line r place name) ending zero says = no_rule ending r _ zero says
 no_sort files sorted.Memory ending zero says = absurd says
 

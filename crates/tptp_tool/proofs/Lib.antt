@@ -1,6 +1,7 @@
 pub mod Causes
 pub mod Checks
 pub mod Derivations
+pub mod Exact
 pub mod Formats
 pub mod GoodEnds
 pub mod Headline

@@ -9,6 +9,7 @@ pub mod GoodRuns
 pub mod Options
 pub mod Outcome
 pub mod Parsed
+pub mod Refuted
 pub mod Sources
 pub mod Spelled
 pub mod Stop

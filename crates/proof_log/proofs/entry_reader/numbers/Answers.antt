@@ -4,7 +4,7 @@ use Rattle.proof_log.proofs.Loops.{Kept, kept_first, kept_more, kept_fails, kept
 use Rattle.proof_log.proofs.entry_reader.numbers.Goals as goal
 
 pub loop-init : goal.loop-init
-loop-init c = subst (λ xs. Kept (number 4294967295) c.in_ok-count.count c.large.new.text xs 0 c.large.new.text) (sym c.new-found.ensures) (kept_first (number 4294967295) c.in_ok-count.count c.large.new.text)
+loop-init c = subst (λ xs. Kept (number 4294967295) c.in_ok-count.count c.large.new.text xs 0 c.large.new.text) (sym c.in_ok-found.ensures) (kept_first (number 4294967295) c.in_ok-count.count c.large.new.text)
 
 pub returns-in_err-small : goal.returns-in_err-small
 returns-in_err-small c =

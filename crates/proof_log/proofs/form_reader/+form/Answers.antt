@@ -8,7 +8,7 @@ pub form-returns-else-room-eq0 : goal.form-returns-else-room-eq0
 form-returns-else-room-eq0 t c = form_room c.args.room (omega arith) c.args.text.now c.form_within.result c.form_within.new.text c.form_within.ensures
 
 pub forms-loop-init : goal.forms-loop-init
-forms-loop-init t c = subst (λ xs. Kept (spec.form c.args.room) c.in_ok-count.count c.large.new.text xs 0 c.large.new.text) (sym c.new-found.ensures) (kept_first (spec.form c.args.room) c.in_ok-count.count c.large.new.text)
+forms-loop-init t c = subst (λ xs. Kept (spec.form c.args.room) c.in_ok-count.count c.large.new.text xs 0 c.large.new.text) (sym c.in_ok-found.ensures) (kept_first (spec.form c.args.room) c.in_ok-count.count c.large.new.text)
 
 pub forms-returns-in_err-next : goal.forms-returns-in_err-next
 forms-returns-in_err-next t c =

@@ -8,7 +8,7 @@ pub proof-returns-else-room-eq0 : goal.proof-returns-else-room-eq0
 proof-returns-else-room-eq0 t c = proof_room c.args.room (omega arith) c.args.text.now c.proof_within.result c.proof_within.new.text c.proof_within.ensures
 
 pub proofs-loop-init : goal.proofs-loop-init
-proofs-loop-init t c = subst (λ xs. Kept (spec.proof c.args.room) c.in_ok-count.count c.large.new.text xs 0 c.large.new.text) (sym c.new-found.ensures) (kept_first (spec.proof c.args.room) c.in_ok-count.count c.large.new.text)
+proofs-loop-init t c = subst (λ xs. Kept (spec.proof c.args.room) c.in_ok-count.count c.large.new.text xs 0 c.large.new.text) (sym c.in_ok-found.ensures) (kept_first (spec.proof c.args.room) c.in_ok-count.count c.large.new.text)
 
 pub proofs-returns-in_err-next : goal.proofs-returns-in_err-next
 proofs-returns-in_err-next t c =

@@ -8,7 +8,7 @@ pub term-returns-else-room-eq0 : goal.term-returns-else-room-eq0
 term-returns-else-room-eq0 t c = term_room c.args.room (omega arith) c.args.text.now c.term_within.result c.term_within.new.text c.term_within.ensures
 
 pub terms-loop-init : goal.terms-loop-init
-terms-loop-init t c = subst (λ xs. Kept (spec.term c.args.room) c.in_ok-count.count c.large.new.text xs 0 c.large.new.text) (sym c.new-found.ensures) (kept_first (spec.term c.args.room) c.in_ok-count.count c.large.new.text)
+terms-loop-init t c = subst (λ xs. Kept (spec.term c.args.room) c.in_ok-count.count c.large.new.text xs 0 c.large.new.text) (sym c.in_ok-found.ensures) (kept_first (spec.term c.args.room) c.in_ok-count.count c.large.new.text)
 
 pub terms-returns-in_err-next : goal.terms-returns-in_err-next
 terms-returns-in_err-next t c =

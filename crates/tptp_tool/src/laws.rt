@@ -1,0 +1,30 @@
+//! Laws of the command `check`, shown by functions that do nothing. A run on words ends so by the clause `outcome` of
+//! `run_tptp`, and the log of a success is a refutation by its clause `sound`.
+ghost use Rattle.std.specs.Prelude.{◌≡◌, ◌⊎◌, ℕ, List, [], Some, length};
+ghost use Rattle.proof_log.specs.Answers.{CanBeRead};
+ghost use Rattle.proof_log.specs.declared.reader.TheConstants.{MAX_NESTING};
+ghost use Rattle.tptp_base.specs.Store.{Files as StoreFiles, file_at};
+ghost use Rattle.tptp_tool.specs.CheckedLog.{refuted};
+ghost use Rattle.tptp_tool.specs.Ending.{Ending};
+ghost use Rattle.tptp_tool.specs.Ends.{Ends};
+ghost use Rattle.tptp_tool.specs.Outcome.{IsRefutation};
+ghost use Rattle.tptp_tool.specs.Refuted.{Fits, GivesTheSame, IsExact, IsRefused};
+ghost use Rattle.tptp_tool.specs.Words.{Check, Request, IsForm};
+
+/// A check ends with status 0 exactly where the file has the text of a log, within the limits, whose entries refute what
+/// the problem gives. A problem that has a fault gives nothing, and the fault is said.
+pub fn a_check_is_exact()
+    ensures { (files : StoreFiles) (words : List (List ℕ)) (request : Request) (problem log : List ℕ) (ending : Ending)
+        → Ends files words ending → IsForm words request → request.task ≡ Check problem log
+        → IsRefused files request.root problem ending ⊎ IsExact files request.root problem log ending }
+{}
+
+/// The log of a success, put into a store in which the problem gives the same, is found to refute the problem: if the log is
+/// within the limits, and its entries can be read back.
+pub fn a_verified_log_checks()
+    ensures { (files after : StoreFiles) (words : List (List ℕ)) (request : Request) (problem log text : List ℕ)
+        → (run : IsRefutation files request.root problem (Some List.[]) (Some text)) → CanBeRead MAX_NESTING run.entries
+        → GivesTheSame files after request.root problem → file_at after log ≡ Some text → Fits run.read (length text)
+        → (ending : Ending) → Ends after words ending → IsForm words request → request.task ≡ Check problem log
+        → ending ≡ refuted (length run.entries) }
+{}
