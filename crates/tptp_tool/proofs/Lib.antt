@@ -4,6 +4,7 @@ pub mod Derivations
 pub mod Formats
 pub mod GoodEnds
 pub mod Headline
+pub mod OneProblem
 pub mod Parses
 pub mod Requests
 pub mod Sourced

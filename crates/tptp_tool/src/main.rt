@@ -6,6 +6,7 @@ mod denoted;
 mod derived;
 mod format;
 mod given;
+mod law;
 mod parse;
 mod refusals;
 mod resolved;
