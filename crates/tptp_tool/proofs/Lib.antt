@@ -4,6 +4,8 @@ pub mod Derivations
 pub mod Formats
 pub mod GoodEnds
 pub mod Headline
+pub mod OneEnding
+pub mod OneFormat
 pub mod OneProblem
 pub mod Parses
 pub mod Requests
