@@ -9,3 +9,4 @@ pub mod Steps
 pub mod OneText
 pub mod OneAnswer
 pub mod ResolvedItems
+pub mod SomeAnswer

@@ -1,6 +1,6 @@
 -- The walk through files that are told has one answer.
 use Rattle.std.specs.Prelude.{⊤, IsSomeAnd, IsNone}
-use Rattle.std.proofs.Common.{◌≡◌, ◌≤◌, ◌<◌, refl, sym, ◌∙◌, ap, subst, arith, ℕ, ◌+◌, ◌-◌, Bool, true, false, List, [], ◌∷◌, length, All, Option, None, Some, Ok, Err}
+use Rattle.std.proofs.Common.{◌≡◌, ◌≤◌, ◌<◌, refl, sym, ◌∙◌, ap, subst, arith, ℕ, ◌+◌, ◌-◌, true, false, List, [], ◌∷◌, length, All, Option, None, Some, Ok, Err}
 use Rattle.std.proofs.lemmas.List.Elements.{All-head, All-tail}
 use Rattle.tptp_base.specs.declared.item.Annotated.{Annotated}
 use Rattle.tptp_base.specs.declared.item.Include.{Include as Inclusion}

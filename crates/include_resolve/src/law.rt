@@ -2,13 +2,15 @@
 ghost use Rattle.std.specs.Prelude.{◌≡◌, ℕ, List, All, Option, Some, Ok, length};
 ghost use Rattle.tptp_base.specs.Store.{Files};
 ghost use Rattle.include_resolve.specs.declared.problem.Problem.{Problem};
-ghost use Rattle.include_resolve.specs.Laws.{IsResolvedItem};
+ghost use Rattle.include_resolve.specs.Laws.{HasAnswer, IsResolvedItem};
 ghost use Rattle.include_resolve.specs.Parts.{Answer};
 ghost use Rattle.include_resolve.specs.Resolved.{Resolves};
 
-/// What a file gives with all that it includes, or the first fault on the walk through the files, is one.
+/// A file gives a problem with all that it includes, or there is a first fault on the walk through the files, and never two
+/// of them.
 pub fn one_answer()
-    ensures { (files : Files) (root : Option (List ℕ)) (name : List ℕ) (answer other : Answer) →
+    ensures some { (files : Files) (root : Option (List ℕ)) (name : List ℕ) → HasAnswer files root name }
+    ensures one { (files : Files) (root : Option (List ℕ)) (name : List ℕ) (answer other : Answer) →
         Resolves (Some files) root name answer → Resolves (Some files) root name other → answer ≡ other }
 {}
 

@@ -1,16 +1,16 @@
 -- How far tokens can be gone on from within a limit: the token at which they can no longer is one, and a token that is
 -- nested too deep is such a token.
-use Rattle.std.proofs.Common.{◌≡◌, Bool, true, false, if◌then◌else◌, ℕ, zero, suc, ◌+◌, ◌≤◌, ◌<◌, List, [], ◌∷◌, ◌++◌, length, Ok, Err, ◌⊎◌, inl, inr, refl, sym, ◌∙◌, ap, subst, append_assoc, append-nil, length-append, arith}
+use Rattle.std.proofs.Common.{◌≡◌, Bool, true, false, if◌then◌else◌, ℕ, suc, ◌+◌, ◌≤◌, ◌<◌, List, [], ◌∷◌, ◌++◌, length, Ok, Err, ◌⊎◌, inl, inr, refl, sym, ◌∙◌, ap, subst, append_assoc, append-nil, length-append, arith}
 use Rattle.std.proofs.lemmas.List.{append_cancel_left}
 use Rattle.first_fault.specs.Nesting.{Nested, plain, Within, FirstOver, here, behind}
-use Rattle.first_fault.specs.Reading.{Cause, Unexpected, TooDeep, next}
+use Rattle.first_fault.specs.Reading.{TooDeep, next}
 use Rattle.first_fault.proofs.Exact.{plain-append}
 use Rattle.first_fault.proofs.Separated.{length-plain}
 use Rattle.tptp_lexer.specs.declared.token.Token.{Token}
 use Rattle.tptp_base.specs.declared.item.Item.{Item}
 use Rattle.tptp_grammar.specs.Tokens.{Tokens}
 use Rattle.tptp_grammar.specs.Solid.{Placed, is_comment, is_remark, solid, BeginsSolid}
-use Rattle.tptp_grammar.specs.Files.{IsFile, Spells, SpellsWithin, IsPossible, IsPossibleWithin}
+use Rattle.tptp_grammar.specs.Files.{IsFile, SpellsWithin, IsPossible, IsPossibleWithin}
 use Rattle.tptp_grammar.specs.ReadFile.{FileOutcome, file}
 use Rattle.tptp_grammar.proofs.ExactFile.{solid_kept, solid_file, found_file}
 use Rattle.tptp_grammar.proofs.FirstFaults.{FileFault, FileSays, file_says}
@@ -202,12 +202,12 @@ module _ (limit : ℕ) (front more : List Placed) (entry : Placed) (items : List
       elim (found_file limit p.spells) [
         | inl h ↦ (let wrong : ◌≡◌ {A = FileOutcome} (Ok p.items) (Err (TooDeep, solid (entry ∷ p.more))) = sym h.1 ∙ at in cc)
         | inr h ↦ (
-          let wrong : ◌≡◌ {A = FileOutcome} (Err (TooDeep, plain h.0)) (Err (TooDeep, solid (entry ∷ p.more))) = sym h.2 ∙ at in
-          let left : plain h.0 ≡ solid (entry ∷ p.more) = ap left_of wrong in
-          let short = over_shorter (over_later limit p.before p.later h.0 p.within h.1) in
-          let both = sym (solid_append (front ++ (entry ∷ [])) p.more) ∙ solid_file p.spells ∙ plain-append p.before p.later in
-          let sizes = length-append (solid (front ++ (entry ∷ []))) (solid p.more) in
-          let split = length-append (plain p.before) (plain p.later) in
-          absurd (omega (arith, short, ap length left, length-plain h.0, length-plain p.later, solid_more entry p.more kept, ap length both, sizes, split, ap length p.same))
-        )
+            let wrong : ◌≡◌ {A = FileOutcome} (Err (TooDeep, plain h.0)) (Err (TooDeep, solid (entry ∷ p.more))) = sym h.2 ∙ at in
+            let left : plain h.0 ≡ solid (entry ∷ p.more) = ap left_of wrong in
+            let short = over_shorter (over_later limit p.before p.later h.0 p.within h.1) in
+            let both = sym (solid_append (front ++ (entry ∷ [])) p.more) ∙ solid_file p.spells ∙ plain-append p.before p.later in
+            let sizes = length-append (solid (front ++ (entry ∷ []))) (solid p.more) in
+            let split = length-append (plain p.before) (plain p.later) in
+            absurd (omega (arith, short, ap length left, length-plain h.0, length-plain p.later, solid_more entry p.more kept, ap length both, sizes, split, ap length p.same))
+            )
       ]

@@ -5,6 +5,9 @@ pub mod Exact
 pub mod Formats
 pub mod GoodEnds
 pub mod Headline
+pub mod OneEnding
+pub mod OneFormat
+pub mod OneProblem
 pub mod Parses
 pub mod Requests
 pub mod Sourced
