@@ -2,7 +2,7 @@
 use Rattle.std.specs.Prelude.{ℕ, ◌≡◌, false, List, [], ◌∷◌, ◌++◌, length, map, Some, slice_get}
 use Rattle.std.specs.List.{All as Each}
 use Rattle.std.proofs.Common.{refl}
-use Rattle.std.proofs.lemmas.List.Elements.{All-weaker}
+use Rattle.std.proofs.lemmas.List.Elements.{All-weaker, All-from_recursion}
 use Rattle.fof_terms.specs.Occurs.{occurs_in}
 use Rattle.fof_terms.specs.declared.form.Form.{Form}
 use Rattle.clause_form.specs.declared.path.Parent.{Parent}
@@ -71,6 +71,6 @@ derived_by_lemma t cites p line shows = record {
   before = [];
   adds = λ u h. record {
     legal = ((line, shows u h), (with_formula u line, (line, shows u h, refl), refl));
-    speak = λ k fresh absent. All-weaker (λ a. Unit {0}) (λ a. occurs_in k a ≡ false) (λ a h. absurd h) [] _;
+    speak = λ k fresh absent. All-from_recursion (λ a. occurs_in k a ≡ false) [] tt;
   };
 }

@@ -1,5 +1,6 @@
 mod checking;
 mod parsing;
+mod rewriting;
 mod verifying;
 
 use super::run::{USAGE, run_tptp};

@@ -21,7 +21,7 @@ fn store(alloc: Global, files: &[(&str, &str)]) -> Result<List<(Text, Text)>, Al
 }
 
 // Whether a run on these words and files ends with the status and prints the text.
-fn prints(
+pub fn prints(
     alloc: Global,
     line: &str,
     files: &[(&str, &str)],
