@@ -3,7 +3,8 @@ use super::verifying::prints;
 use std::test::Fail;
 
 // Over two sorts, the second of which has no constant.
-const TWO_SORTS: &str = "tff(s,type,s: $tType).\ntff(t,type,t: $tType).\ntff(c,type,c: s).\ntff(f,type,f: t > s).\ntff(g,type,g: s > s).\ntff(p,type,p: s > $o).\n\
+const TWO_SORTS: &str =
+    "tff(s,type,s: $tType).\ntff(t,type,t: $tType).\ntff(c,type,c: s).\ntff(f,type,f: t > s).\ntff(g,type,g: s > s).\ntff(p,type,p: s > $o).\n\
     tff(a1,axiom,! [X: t] : f(X) = c).\ntff(a2,axiom,! [X: t,Y: t] : (p(g(f(X))) | p(f(Y)))).\n";
 
 #[test]
