@@ -183,7 +183,7 @@ few_here lent sorts e few = omega (arith, ap length (scope_sorts-Outside lent), 
 pub same_reached : (path : Path) (a b : Form) (x c : Clause) → reached path (norm_of true a) ≡ Some x → a ≡ b → reached path (norm_of true b) ≡ Some c → x ≡ c
 same_reached path a b x c e same f = let both : Some x ≡ Some c = sym e ∙ ap (λ (y : Form). reached path (norm_of true y)) same ∙ f in cc
 
-image_there : (s : ℕ → Term) (lits : List Lit) (i : ℕ) (k : Lit) (o : Option Lit) → slice_get lits i ≡ o → option_map (lit_image s) o ≡ Some k → (l : Lit) × (slice_get lits i ≡ Some l) × (lit_image s l ≡ k)
+pub image_there : (s : ℕ → Term) (lits : List Lit) (i : ℕ) (k : Lit) (o : Option Lit) → slice_get lits i ≡ o → option_map (lit_image s) o ≡ Some k → (l : Lit) × (slice_get lits i ≡ Some l) × (lit_image s l ≡ k)
 image_there s lits i k None e f = cc
 image_there s lits i k (Some l) e f = (l, e, cc)
 

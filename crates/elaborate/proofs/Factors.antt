@@ -40,7 +40,7 @@ use Rattle.elaborate.proofs.LineGoals.{Exist, both_exist, own_exist}
 use Rattle.elaborate.proofs.Joints.{source_of, instances_are, instances_sorted, reach_is}
 
 -- the terms of the equations, as they are written
-sides_at : (flipped : Bool) (k : Lit) (side first l r : Term) → k ≡ equation flipped side first → k.atom ≡ Equation l r → (pick flipped l r ≡ side) × (pick flipped r l ≡ first)
+pub sides_at : (flipped : Bool) (k : Lit) (side first l r : Term) → k ≡ equation flipped side first → k.atom ≡ Equation l r → (pick flipped l r ≡ side) × (pick flipped r l ≡ first)
 sides_at true k side first l r e f = let both : Equation l r ≡ Equation first side = sym f ∙ ap (λ (x : Lit). x.atom) e in (cc, cc)
 sides_at false k side first l r e f = let both : Equation l r ≡ Equation side first = sym f ∙ ap (λ (x : Lit). x.atom) e in (cc, cc)
 

@@ -1,5 +1,5 @@
 -- The instances of two clauses, or of one, under a joint substitution.
-use Rattle.std.specs.Prelude.{ℕ, ◌≡◌, ◌+◌, ◌<◌, ◌≤◌, List, [], ◌∷◌, ◌++◌, length, map, take, drop, reverse, slice_get, Option, Some, refl}
+use Rattle.std.specs.Prelude.{ℕ, ◌≡◌, ◌+◌, ◌<◌, ◌≤◌, Bool, List, [], ◌∷◌, ◌++◌, length, map, take, drop, reverse, slice_get, Option, Some, refl}
 use Rattle.std.proofs.Common.{zero, suc, get_or, ap, sym, subst, ◌∙◌, arith, append-nil, append_assoc, length-append}
 use Rattle.std.proofs.lemmas.List.{length-reverse}
 use Rattle.fof_terms.specs.declared.term.Term.{Term}
@@ -16,15 +16,17 @@ use Rattle.clause_rules.specs.Steps.{AreReady, IsReady, IsClauseAt, IsJoint, ima
 use Rattle.clause_rules.specs.Justified.{Shows}
 use Rattle.clause_rules.specs.Answers.{Rule as Word, IsAnswer}
 use Rattle.clause_rules.specs.declared.just.Just.{Just}
-use Rattle.clause_rules.specs.declared.just.Just.TheVariants.{Resolution}
+use Rattle.clause_rules.specs.declared.just.Just.TheVariants.{Resolution, Paramodulation}
 use Rattle.clause_form.specs.declared.path.Parent.{Parent}
 use Rattle.clause_form.specs.ClauseView.{clause_of}
 use Rattle.clause_rules.specs.ResolutionRule.{IsResolvent, Resolves, IsResolutionStep}
+use Rattle.clause_rules.specs.ParamodulationRule.{IsParamodulant, Paramodulates, IsParamodulationStep}
 use Rattle.elaborate.specs.declared.opening.Opened.{Opened}
 use Rattle.elaborate.specs.declared.premises.Premise.{Premise}
 use Rattle.elaborate.specs.Bodies.{IsOpening, IsReadyClause}
 use Rattle.elaborate.specs.Premises.{IsSource, IsPremiseOf}
 use Rattle.elaborate.specs.Refuting.{ShowsBody}
+use Rattle.elaborate.specs.Rewriting.{AreInstances}
 use Rattle.elaborate.proofs.NormLines.{full, parent_at, parent_ready}
 use Rattle.elaborate.proofs.LineGoals.{Exist, both_exist, own_exist, own_lits, opened_clause}
 use Rattle.elaborate.proofs.Resolvents.{apart_instances, part_length, part_within, part_images, part_lits, part_sorted}
@@ -120,7 +122,24 @@ module _ (w : Vocabulary) (e : Clause) (images : List Term) (fl fr : Form) (ol o
         subst (λ (xs : List Lit). IsResolvent e.lits xs rp.lits i j) (left_instances ∙ sym left_lits)
         (subst (λ (xs : List Lit). IsResolvent e.lits (instances (images_of_parents e images) ol.clause.lits) xs i j) (right_instances ∙ sym right_lits) r.resolvent)
 
+    pub paramodulant_of : (i : ℕ) (place : List ℕ) (j : ℕ) (flipped : Bool) → Paramodulates w ol.clause or_.clause e i place j flipped (scope_of_both ol.clause or_.clause) (images_of_parents e images) → IsParamodulant e.lits lp.lits rp.lits i place j flipped
+    paramodulant_of i place j flipped r =
+        subst (λ (xs : List Lit). IsParamodulant e.lits xs rp.lits i place j flipped) (left_instances ∙ sym left_lits)
+        (subst (λ (xs : List Lit). IsParamodulant e.lits (instances (images_of_parents e images) ol.clause.lits) xs i place j flipped) (right_instances ∙ sym right_lits) r.paramodulant)
+
     module _ (v : List ℕ) (here : v ≡ joint_scope) where
+      pub left_are : (images_too : List Term) (lits : List Lit) → images_too ≡ left_part → lits ≡ ol.clause.lits → AreInstances w v images_too lits lp.lits
+      left_are images_too lits eq is =
+          let own : AreInstances w joint_scope left_part ol.clause.lits lp.lits = record {
+            sorts = scope_of ol.clause;
+            size = part_length images ne nl (part_within w joint_scope ne images joint (scope_of e) (scope_of ol.clause) (scope_of or_.clause) ne nl refl left_front (sym (length-reverse ol.clause.sorts))) ∙ sym (length-reverse ol.clause.sorts);
+            images_sorted = part_images w joint_scope ne images joint (scope_of e) (scope_of ol.clause) (scope_of or_.clause) ne nl refl left_front (sym (length-reverse ol.clause.sorts));
+            sorted = own_lits w fl ol.clause ol.is_or left.ready left.opening.1;
+            are = left_lits;
+          } in
+          subst (λ (ss : List ℕ). AreInstances w ss images_too lits lp.lits) (sym here)
+          (subst (λ (xs : List Term). AreInstances w joint_scope xs lits lp.lits) (sym eq) (subst (λ (ls : List Lit). AreInstances w joint_scope left_part ls lp.lits) (sym is) own))
+
       pub left_premise_sorted : AreSorted w v lp.lits
       left_premise_sorted = subst (λ (ss : List ℕ). AreSorted w ss lp.lits) (sym here) (subst (AreSorted w joint_scope) (sym left_lits) left_sorted)
 
@@ -183,3 +202,12 @@ resolution_holds w parents line a b i j images (c, d, e, joint, at) = (a, b, i, 
 
 pub answer_shows : (w : Vocabulary) (parents : List Parent) (line : Form) (rule : Word) (answer : Option Just) (just : Just) → answer ≡ Some just → IsAnswer w parents line rule answer → Shows w parents line just
 answer_shows w parents line rule answer just is a = (subst (IsAnswer w parents line rule) is a).1
+
+pub paramodulates_here : (w : Vocabulary) (images : List Term) (c d e x y z : Clause) (i : ℕ) (place : List ℕ) (j : ℕ) (flipped : Bool) → x ≡ c → y ≡ d → z ≡ e → Paramodulates w c d e i place j flipped (scope_of_both c d) (images_of_parents e images)
+    → Paramodulates w x y z i place j flipped (scope_of_both x y) (images_of_parents z images)
+paramodulates_here w images c d e x y z i place j flipped f g h r =
+    subst (λ (k : Clause). Paramodulates w x y k i place j flipped (scope_of_both x y) (images_of_parents k images)) (sym h)
+    (subst (λ (k : Clause). Paramodulates w k y e i place j flipped (scope_of_both k y) (images_of_parents e images)) (sym f) (subst (λ (k : Clause). Paramodulates w c k e i place j flipped (scope_of_both c k) (images_of_parents e images)) (sym g) r))
+
+pub paramodulation_holds : (w : Vocabulary) (parents : List Parent) (line : Form) (a b i : ℕ) (place : List ℕ) (j : ℕ) (flipped : Bool) (images : List Term) → Shows w parents line (Paramodulation a b i place j flipped images) → IsParamodulationStep w parents line
+paramodulation_holds w parents line a b i place j flipped images (c, d, e, joint, at) = (a, b, i, place, j, flipped, c, d, e, scope_of_both c d, images_of_parents e images, at)

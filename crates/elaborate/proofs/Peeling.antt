@@ -28,23 +28,23 @@ use Rattle.derive_kit.specs.Instances.{IsInstance}
 use Rattle.elaborate.specs.Bodies.{body_of}
 
 -- places in lists
-get_front : {X : Type 0} (xs ys : List X) (k : ℕ) (d : X) → k < length xs → get_or (xs ++ ys) k d ≡ get_or xs k d
+pub get_front : {X : Type 0} (xs ys : List X) (k : ℕ) (d : X) → k < length xs → get_or (xs ++ ys) k d ≡ get_or xs k d
 get_front [] ys k d h = absurd (omega arith)
 get_front (x ∷ xs) ys zero d h = refl
 get_front (x ∷ xs) ys (suc k) d h = get_front xs ys k d (omega arith)
 
-get_last : {X : Type 0} (xs : List X) (y d : X) (k : ℕ) → k ≡ length xs → get_or (xs ++ y ∷ []) k d ≡ y
+pub get_last : {X : Type 0} (xs : List X) (y d : X) (k : ℕ) → k ≡ length xs → get_or (xs ++ y ∷ []) k d ≡ y
 get_last [] y d zero e = refl
 get_last [] y d (suc k) e = absurd (omega arith)
 get_last (x ∷ xs) y d zero e = absurd (omega arith)
 get_last (x ∷ xs) y d (suc k) e = get_last xs y d k (omega arith)
 
-slice_front : (xs ys : List ℕ) (k r : ℕ) → slice_get xs k ≡ Some r → slice_get (xs ++ ys) k ≡ Some r
+pub slice_front : (xs ys : List ℕ) (k r : ℕ) → slice_get xs k ≡ Some r → slice_get (xs ++ ys) k ≡ Some r
 slice_front [] ys k r e = cc
 slice_front (x ∷ xs) ys zero r e = e
 slice_front (x ∷ xs) ys (suc k) r e = slice_front xs ys k r e
 
-slice_last : (xs : List ℕ) (y k : ℕ) → k ≡ length xs → slice_get (xs ++ y ∷ []) k ≡ Some y
+pub slice_last : (xs : List ℕ) (y k : ℕ) → k ≡ length xs → slice_get (xs ++ y ∷ []) k ≡ Some y
 slice_last [] y zero e = refl
 slice_last [] y (suc k) e = absurd (omega arith)
 slice_last (x ∷ xs) y zero e = absurd (omega arith)
@@ -134,7 +134,7 @@ module _ (x : Term) (d : ℕ) where
   instance_lits [] = refl
   instance_lits (l ∷ lits) = rw (instance_signed l.positive l.atom, instance_lits lits) refl
 
-  instance_body : (b : Bool) (lits : List Lit) → instance_at x d (body_of b lits) ≡ body_of b (map (in_lit (instance_term x d)) lits)
+  pub instance_body : (b : Bool) (lits : List Lit) → instance_at x d (body_of b lits) ≡ body_of b (map (in_lit (instance_term x d)) lits)
   instance_body true lits = instance_at-Or x d (map form_of_lit lits) ∙ ap Or (instance_lits lits)
   instance_body false [] = instance_at-Or x d []
   instance_body false (l ∷ lits) = instance_signed l.positive l.atom

@@ -17,7 +17,7 @@ use Rattle.kernel.specs.declared.proof.Proof.{Proof, Hyp, NotI, NotE, Raa}
 use Rattle.elaborate.specs.declared.opening.Opened.{Opened}
 use Rattle.elaborate.proofs.TurnedSides.{same_back}
 use Rattle.elaborate.specs.Bodies.{body_of}
-use Rattle.elaborate.specs.Refuting.{theory_of, ShowsFrom, Refutes, RefutesUnder, RefutesIn, ShowsBody, AllRefute, IsDenial, IsSettled}
+use Rattle.elaborate.specs.Refuting.{theory_of, ShowsFrom, Refutes, RefutesUnder, ShowsUnder, AllRefute, IsDenial, IsSettled}
 
 positive_form : (l : Lit) → l.positive ≡ true → form_of_lit l ≡ form_of_atom l.atom
 positive_form l e = ap (λ (g : Bool). signed_form g (form_of_atom l.atom)) e
@@ -100,19 +100,19 @@ module _ (w : Vocabulary) (v : List ℕ) where
   -- by the cases of a disjunction, and by one literal
   pub cases_refute : (g b none : Form) (is_or : Bool) (lits : List Lit) (arms : List Proof) (part q p : Proof) → q ≡ part → none ≡ Or [] → is_or ≡ true → IsScope w v → AllRefute w v g b lits arms
       → ((t : Statements) (v : List ℕ) (h as_ : List Form) → Sorted t.vocabulary v none → Proves t v h q (Or as_) → ProveEach t v h arms as_ none → Proves t v h p none)
-      → (formulas : List Form) → ShowsBody w v formulas is_or lits part → RefutesIn w v formulas g b p
-  cases_refute g b none is_or lits arms part q p own is e sc all build formulas shows h =
+      → (formulas h : List Form) → ShowsUnder w v formulas (b ∷ Not g ∷ h) (body_of is_or lits) part → ShowsUnder w v formulas (b ∷ Not g ∷ h) (Or []) p
+  cases_refute g b none is_or lits arms part q p own is e sc all build formulas h shows =
       let t = theory_of w formulas in
       let hs = b ∷ Not g ∷ h in
-      let choice : Proves t v hs q (Or (map form_of_lit lits)) = subst (λ (x : Proof). Proves t v hs x (Or (map form_of_lit lits))) (sym own) (subst (λ (x : Bool). Proves t v hs part (body_of x lits)) e (shows hs)) in
+      let choice : Proves t v hs q (Or (map form_of_lit lits)) = subst (λ (x : Proof). Proves t v hs x (Or (map form_of_lit lits))) (sym own) (subst (λ (x : Bool). Proves t v hs part (body_of x lits)) e shows) in
       let sorted : Sorted w v none = subst (Sorted w v) (sym is) (or_sorted w v 2147483647 sc [] tt) in
       subst (λ (x : Form). Proves t v hs p x) is (build t v hs (map form_of_lit lits) sorted choice (subst (λ (x : Form). ProveEach t v hs arms (map form_of_lit lits) x) (sym is) (each_under g b formulas h lits arms all)))
 
   pub one_refutes : (g b fact : Form) (is_or : Bool) (lits : List Lit) (l : Lit) (part q arm p : Proof) → q ≡ part → slice_get lits 0 ≡ Some l → is_or ≡ false → fact ≡ form_of_lit l → RefutesUnder w v g b (form_of_lit l) arm
       → ((t : Statements) (v : List ℕ) (h : List Form) (a : Form) → Proves t v h q fact → Proves t v (fact ∷ h) arm a → Proves t v h p a)
-      → (formulas : List Form) → ShowsBody w v formulas is_or lits part → RefutesIn w v formulas g b p
-  one_refutes g b fact is_or lits l part q arm p own at e is under build formulas shows h =
+      → (formulas h : List Form) → ShowsUnder w v formulas (b ∷ Not g ∷ h) (body_of is_or lits) part → ShowsUnder w v formulas (b ∷ Not g ∷ h) (Or []) p
+  one_refutes g b fact is_or lits l part q arm p own at e is under build formulas h shows =
       let t = theory_of w formulas in
       let hs = b ∷ Not g ∷ h in
-      let shown : Proves t v hs part (form_of_lit l) = subst (λ (x : Form). Proves t v hs part x) (body_first lits l at) (subst (λ (x : Bool). Proves t v hs part (body_of x lits)) e (shows hs)) in
+      let shown : Proves t v hs part (form_of_lit l) = subst (λ (x : Form). Proves t v hs part x) (body_first lits l at) (subst (λ (x : Bool). Proves t v hs part (body_of x lits)) e shows) in
       build t v hs (Or []) (subst (λ (x : Proof). Proves t v hs x fact) (sym own) (subst (λ (x : Form). Proves t v hs part x) (sym is) shown)) (subst (λ (x : Form). Proves t v (x ∷ hs) arm (Or [])) (sym is) (under formulas h))

@@ -94,7 +94,7 @@ any_default [] k d e h = absurd (omega arith)
 any_default (x ∷ xs) zero d e h = refl
 any_default (x ∷ xs) (suc k) d e h = any_default xs k d e (omega arith)
 
-part_at : (images : List Term) (m n k : ℕ) → k < n → m + n ≤ length images → image_at (take n (drop m images)) k ≡ image_at images (k + m)
+pub part_at : (images : List Term) (m n k : ℕ) → k < n → m + n ≤ length images → image_at (take n (drop m images)) k ≡ image_at images (k + m)
 part_at images m n k h within = take_at (drop m images) n k (Var k) h ∙ drop_at images m k (Var k) ∙ any_default images (k + m) (Var k) (Var (k + m)) (omega arith)
 
 pub part_length : (images : List Term) (m n : ℕ) → m + n ≤ length images → length (take n (drop m images)) ≡ n

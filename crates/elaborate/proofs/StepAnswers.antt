@@ -12,6 +12,7 @@ use Rattle.kernel.specs.Statements.{Statements}
 use Rattle.kernel.specs.Proves.{Proves}
 use Rattle.kernel.specs.declared.proof.Proof.{Proof}
 use Rattle.kernel.specs.declared.entry.Entry.TheVariants.{Lemma}
+use Rattle.clause_rules.specs.Answers.{Rule as Word, cover, Holds as Gives}
 use Rattle.elaborate.specs.declared.answer.Rule.{Rule}
 use Rattle.elaborate.specs.declared.answer.Rule.TheVariants.{Norm, Cover}
 use Rattle.elaborate.specs.declared.answer.Reason.{Reason}
@@ -20,10 +21,10 @@ use Rattle.elaborate.specs.declared.answer.StepAnswer.TheVariants.{Accepted, Unv
 use Rattle.clause_rules.specs.Steps.{AreReady, IsReady}
 use Rattle.elaborate.specs.declared.leaves.FromOne.{FromOne}
 use Rattle.elaborate.specs.declared.steps.Found.{Found}
-use Rattle.elaborate.specs.ByRule.{Holds, ByRule, GivesAlone, GivesFirst, GivesNowhere, LeafRule, ByNoLeafRule}
+use Rattle.elaborate.specs.ByRule.{IsFirst, GivesFirst, GivesNowhere, LeafRule, ByNoLeafRule, shape_rules}
 use Rattle.derive_kit.specs.Derived.{AreOfTheory, IsDerivedFrom, HasCited, derived_by_lemma, numbers_of}
 use Rattle.elaborate.specs.Answers.{IsStepAnswer, IsLeafAnswer}
-use Rattle.elaborate.specs.Proofs.{ShowsLine, IsByRule, IsFound, IsCoverAlone, IsFromFirst, IsFirstCover}
+use Rattle.elaborate.specs.Proofs.{ShowsLine, IsByRule, IsFound, CoversAlone, CoversNowhere, IsCoverAlone, IsFromFirst, IsFirstCover}
 use Rattle.elaborate.specs.Refuting.{theory_of}
 use Rattle.elaborate.proofs.NormLines.{norm_there, of_theory, parent_at, parent_ready}
 
@@ -45,21 +46,18 @@ module _ (t u : Statements) where
   all_here parents own kept = All-from_recursion Here parents (each_here parents (recursion_from_All Own parents own) (recursion_from_All Kept (numbers_of parents) kept))
 
 pub derived : (t : Statements) (parents : List Parent) (line : Form) (p : Proof) → AreOfTheory t parents → ShowsLine t.vocabulary parents line p → IsDerivedFrom t (numbers_of parents) (Lemma p ∷ []) line
-derived t parents line p all shows = record {
-  proof = p;
-  is = refl;
-  shows = λ u cited.
-      subst (λ (w : Vocabulary). Proves (theory_of w u.formulas) [] [] p line) (sym cited.vocabulary) (shows u.formulas (all_here t u parents all cited.formulas));
-}
+derived t parents line p all shows =
+    derived_by_lemma t (numbers_of parents) p line
+    (λ u cited. subst (λ (w : Vocabulary). Proves (theory_of w u.formulas) [] [] p line) (sym cited.vocabulary) (shows u.formulas (all_here t u parents all cited.formulas)))
 
-pub step_accepted : (t : Statements) (w : Vocabulary) (parents : List Parent) (line : Form) (o : Option Found) (found : Found) → w ≡ t.vocabulary → AreOfTheory t parents → o ≡ Some found → IsFound w parents line o
+pub step_accepted : (t : Statements) (parents : List Parent) (line : Form) (o : Option Found) (found : Found) → AreOfTheory t parents → o ≡ Some found → IsFound t parents line o
     → IsStepAnswer t parents line (Accepted found.rule (numbers_of parents) (Lemma found.proof ∷ []))
-step_accepted t w parents line o found e all is f =
-    let here : IsFound t.vocabulary parents line (Some found) = subst (λ (x : Vocabulary). IsFound x parents line (Some found)) e (subst (IsFound w parents line) is f) in
+step_accepted t parents line o found all is f =
+    let here : IsFound t parents line (Some found) = subst (IsFound t parents line) is f in
     (here.0, refl, derived t parents line found.proof all here.1)
 
-pub step_unverified : (t : Statements) (w : Vocabulary) (parents : List Parent) (line : Form) (o : Option Found) → w ≡ t.vocabulary → o ≡ None → IsFound w parents line o → IsStepAnswer t parents line (Unverified NotYet)
-step_unverified t w parents line o e is f = subst (λ (x : Vocabulary). IsFound x parents line None) e (subst (IsFound w parents line) is f)
+pub step_unverified : (t : Statements) (parents : List Parent) (line : Form) (o : Option Found) → o ≡ None → IsFound t parents line o → IsStepAnswer t parents line (Unverified NotYet)
+step_unverified t parents line o is f = subst (IsFound t parents line) is f
 
 -- of one candidate alone
 alone_is : (c p : Parent) → Some c ≡ Some p → c ≡ p
@@ -82,7 +80,7 @@ has_alone c candidates line i at h =
     let same : c ≡ h.of_parent.parent = alone_is c h.of_parent.parent (sym at ∙ h.of_parent.there) in
     (0, record { made = h.made; of_line = h.of_line; of_parent = record { parent = h.of_parent.parent; there = ap Some same; alike = h.of_parent.alike } })
 
-module _ (v : Vocabulary) (candidates : List Parent) (line : Form) where
+module _ (v : Statements) (candidates : List Parent) (line : Form) where
   pub leaf_rule : (i : ℕ) (c : Parent) → slice_get candidates i ≡ Some c → IsFirstNorm candidates line i → LeafRule v candidates line Norm i
   leaf_rule i c at first =
       inl (refl, ((c, at, has_alone c candidates line i at first.0), λ j lt g. first.1 j lt (alone_has g.0 candidates line j g.1 g.2)))
@@ -103,20 +101,20 @@ leaf_accepted t candidates cited line i c p all is first shows at known = (
   i,
   c,
   at,
-  leaf_rule t.vocabulary candidates line i c at first,
+  leaf_rule t candidates line i c at first,
   refl,
   derived t (c ∷ []) line p (All-from_recursion (λ (q : Parent). slice_get t.formulas q.number ≡ Some q.form) (c ∷ []) (known, tt)) (λ formulas one. shows formulas (recursion_from_All (λ (q : Parent). slice_get formulas q.number ≡ Some q.form) (c ∷ []) one).0),
 )
 
-module _ (w : Vocabulary) (parents : List Parent) (line : Form) where
-  pub none_of : (rule : Rule) (o : Option Proof) → o ≡ None → IsByRule w parents line rule o → Holds w parents line rule → ⊥
-  none_of rule o is h = subst (IsByRule w parents line rule) is h
+module _ (t : Statements) (w : Vocabulary) (e : w ≡ t.vocabulary) (parents : List Parent) (line : Form) where
+  pub none_of : (rule : Word) (o : Option Proof) → o ≡ None → IsByRule w parents line rule o → Gives t.vocabulary parents line rule → ⊥
+  none_of rule o is h = subst (λ (x : Vocabulary). Gives x parents line rule → ⊥) e (subst (IsByRule w parents line rule) is h)
 
-  pub some_of : (rule : Rule) (o : Option Proof) (p : Proof) → o ≡ Some p → IsByRule w parents line rule o → Holds w parents line rule × ShowsLine w parents line p
-  some_of rule o p is h = subst (IsByRule w parents line rule) is h
+  pub some_of : (rule : Word) (o : Option Proof) (p : Proof) → o ≡ Some p → IsByRule w parents line rule o → Gives t.vocabulary parents line rule × ShowsLine t.vocabulary parents line p
+  some_of rule o p is h = subst (λ (x : Vocabulary). Gives x parents line rule × ShowsLine x parents line p) e (subst (IsByRule w parents line rule) is h)
 
-  pub found_is : (r : Option Found) (rule : Rule) (p : Proof) → r ≡ Some (record { rule = rule; proof = p }) → ByRule w parents line rule → ShowsLine w parents line p → IsFound w parents line r
-  found_is r rule p is by shows = subst (IsFound w parents line) (sym is) (by, shows)
+  pub found_is : (r : Option Found) (rule : Rule) (p : Proof) → r ≡ Some (record { rule = rule; proof = p }) → IsFirst shape_rules t parents line rule → ShowsLine t.vocabulary parents line p → IsFound t parents line r
+  found_is r rule p is by shows = subst (IsFound t parents line) (sym is) (by, shows)
 
 pub leaf_found : (t : Statements) (w : Vocabulary) (candidates : List Parent) (cited : Bool) (line : Form) (o : Option ℕ) (i : ℕ) (c : Parent) (p : Proof) → AreOfTheory t candidates → w ≡ t.vocabulary → c ≡ get_or candidates i c → o ≡ Some i
     → MatchOption o (IsNormStep candidates line → ⊥) (IsFirstNorm candidates line)
@@ -126,26 +124,26 @@ leaf_found t w candidates cited line o i c p all e is so m shows =
     let at = norm_there candidates line i c first.0 is in
     leaf_accepted t candidates cited line i c p all is first (λ formulas there. subst (λ (x : Vocabulary). Proves (theory_of x formulas) [] [] p line) e (shows formulas there)) at (of_theory t candidates i c all at)
 
-leaf_reason : (t : Statements) (candidates : List Parent) (cited : Bool) (line : Form) → ByNoLeafRule t.vocabulary candidates line → IsLeafAnswer t candidates cited line (Unverified (if cited then NotYet else Leaf))
+leaf_reason : (t : Statements) (candidates : List Parent) (cited : Bool) (line : Form) → ByNoLeafRule t candidates line → IsLeafAnswer t candidates cited line (Unverified (if cited then NotYet else Leaf))
 leaf_reason t candidates true line none = (none, refl)
 leaf_reason t candidates false line none = (none, refl)
 
 pub leaf_unverified : (t : Statements) (w : Vocabulary) (candidates : List Parent) (cited : Bool) (line : Form) (o : Option FromOne) (r : Reason) → w ≡ t.vocabulary → o ≡ None → r ≡ (if cited then NotYet else Leaf) → (IsNormStep candidates line → ⊥)
     → IsFirstCover w candidates line o → IsLeafAnswer t candidates cited line (Unverified r)
 leaf_unverified t w candidates cited line o r e so is none m =
-    let nowhere : GivesNowhere t.vocabulary candidates line Cover = subst (λ (x : Vocabulary). GivesNowhere x candidates line Cover) e (subst (IsFirstCover w candidates line) so m) in
-    subst (λ (x : Reason). IsLeafAnswer t candidates cited line (Unverified x)) (sym is) (leaf_reason t candidates cited line (no_leaf_rule t.vocabulary candidates line none nowhere))
+    let nowhere : CoversNowhere t.vocabulary candidates line = subst (λ (x : Vocabulary). CoversNowhere x candidates line) e (subst (IsFirstCover w candidates line) so m) in
+    subst (λ (x : Reason). IsLeafAnswer t candidates cited line (Unverified x)) (sym is) (leaf_reason t candidates cited line (no_leaf_rule t candidates line none nowhere))
 
 pub leaf_covered : (t : Statements) (w : Vocabulary) (candidates : List Parent) (cited : Bool) (line : Form) (o : Option FromOne) (from : FromOne) → w ≡ t.vocabulary → AreOfTheory t candidates → o ≡ Some from → (IsNormStep candidates line → ⊥)
     → IsFirstCover w candidates line o → IsLeafAnswer t candidates cited line (Accepted Cover (from.number ∷ []) (Lemma from.proof ∷ []))
 leaf_covered t w candidates cited line o from e all so none m =
-    let f : IsFromFirst t.vocabulary candidates line Cover from = subst (λ (x : Vocabulary). IsFromFirst x candidates line Cover from) e (subst (IsFirstCover w candidates line) so m) in
+    let f : IsFromFirst t.vocabulary candidates line from = subst (λ (x : Vocabulary). IsFromFirst x candidates line from) e (subst (IsFirstCover w candidates line) so m) in
     let known = of_theory t candidates f.place f.candidate all f.there in
     let own = derived t (f.candidate ∷ []) line from.proof (All-from_recursion (λ (q : Parent). slice_get t.formulas q.number ≡ Some q.form) (f.candidate ∷ []) (known, tt)) f.shows in (
       f.place,
       f.candidate,
       f.there,
-      cover_rule t.vocabulary candidates line f.place none f.first,
+      cover_rule t candidates line f.place none f.first,
       ap (λ (n : ℕ). n ∷ []) f.number,
       subst (λ (n : ℕ). IsDerivedFrom t (n ∷ []) (Lemma from.proof ∷ []) line) (sym f.number) own,
     )
@@ -169,23 +167,23 @@ module _ (w : Vocabulary) (candidates : List Parent) (line : Form) (i : ℕ) whe
       let k = one_taken candidates i lt in
       subst (AreReady w) (sym k.2) (All-from_recursion (λ (q : Parent). IsReady w q.form) (k.0 ∷ []) (parent_ready w candidates i k.0 ready k.1, tt))
 
-  alone_of : (k : Parent) → slice_get candidates i ≡ Some k → (o : Option Proof) → IsByRule w (k ∷ []) line Cover o → IsCoverAlone w candidates line i o
-  alone_of k at None h = λ g. let same : g.0 ≡ k = alone_is g.0 k (sym g.1 ∙ at) in h (subst (λ (q : Parent). Holds w (q ∷ []) line Cover) same g.2)
+  alone_of : (k : Parent) → slice_get candidates i ≡ Some k → (o : Option Proof) → IsByRule w (k ∷ []) line cover o → IsCoverAlone w candidates line i o
+  alone_of k at None h = λ g. let same : g.0 ≡ k = alone_is g.0 k (sym g.1 ∙ at) in h (subst (λ (q : Parent). Gives w (q ∷ []) line cover) same g.2)
   alone_of k at (Some p) h = (k, at, h.0, h.1)
 
-  pub cover_alone_is : i < length candidates → (one : List Parent) (o : Option Proof) → one ≡ take 1 (drop i candidates) → IsByRule w one line Cover o → IsCoverAlone w candidates line i o
+  pub cover_alone_is : i < length candidates → (one : List Parent) (o : Option Proof) → one ≡ take 1 (drop i candidates) → IsByRule w one line cover o → IsCoverAlone w candidates line i o
   cover_alone_is lt one o is h =
       let k = one_taken candidates i lt in
-      alone_of k.0 k.1 o (subst (λ (ps : List Parent). IsByRule w ps line Cover o) (is ∙ k.2) h)
+      alone_of k.0 k.1 o (subst (λ (ps : List Parent). IsByRule w ps line cover o) (is ∙ k.2) h)
 
-  pub not_alone : (o : Option Proof) → o ≡ None → IsCoverAlone w candidates line i o → GivesAlone w candidates line Cover i → ⊥
+  pub not_alone : (o : Option Proof) → o ≡ None → IsCoverAlone w candidates line i o → CoversAlone w candidates line i → ⊥
   not_alone o is h = subst (IsCoverAlone w candidates line i) is h
 
-  pub from_first : (o : Option Proof) (p : Proof) (r : Parent) → o ≡ Some p → r ≡ get_or candidates i r → ((j : ℕ) → j < i → GivesAlone w candidates line Cover j → ⊥) → IsCoverAlone w candidates line i o
-      → IsFromFirst w candidates line Cover (record { number = (get_or candidates i r).number; proof = p })
+  pub from_first : (o : Option Proof) (p : Proof) (r : Parent) → o ≡ Some p → r ≡ get_or candidates i r → ((j : ℕ) → j < i → CoversAlone w candidates line j → ⊥) → IsCoverAlone w candidates line i o
+      → IsFromFirst w candidates line (record { number = (get_or candidates i r).number; proof = p })
   from_first o p r is ri before h =
       let a : IsCoverAlone w candidates line i (Some p) = subst (IsCoverAlone w candidates line i) is h in
       record { place = i; candidate = a.0; there = a.1; number = ap (λ (q : Parent). q.number) (sym ri ∙ parent_at candidates i a.0 r a.1 ri); first = ((a.0, a.1, a.2), before); shows = a.3 }
 
-  pub not_anywhere : length candidates ≤ i → ((j : ℕ) → j < i → GivesAlone w candidates line Cover j → ⊥) → GivesNowhere w candidates line Cover
+  pub not_anywhere : length candidates ≤ i → ((j : ℕ) → j < i → CoversAlone w candidates line j → ⊥) → CoversNowhere w candidates line
   not_anywhere n none j g = let lt = slice_get_within candidates j g.0 g.1 in none j (omega arith) g

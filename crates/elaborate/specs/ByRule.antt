@@ -22,9 +22,13 @@ by_shape Rewrite = rewrite
 abbrev pub Holds : Statements → List Parent → Form → Rule → Type 0
 Holds t parents line rule = Gives t.vocabulary parents line (by_shape rule)
 
+-- the rules that are recognised by shape, in the order in which they are tried
+abbrev pub shape_rules : List Rule
+shape_rules = Norm ∷ Cover ∷ Tautology ∷ Resolution ∷ Paramodulation ∷ EqFactor ∷ Rewrite ∷ []
+
 -- the rules of steps that are built, in the order in which they are tried
 abbrev pub rules : List Rule
-rules = Norm ∷ Cover ∷ Tautology ∷ Resolution ∷ Paramodulation ∷ EqFactor ∷ Rewrite ∷ []
+rules = shape_rules
 
 -- the rule is the first of the list that gives the line
 abbrev pub IsFirst : List Rule → Statements → List Parent → Form → Rule → Type 0

@@ -6,3 +6,4 @@ pub mod Factoring
 pub mod Premises
 pub mod Proofs
 pub mod Refuting
+pub mod Rewriting

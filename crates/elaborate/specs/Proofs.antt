@@ -1,14 +1,14 @@
 -- What the proof of a line by a rule says.
-use Rattle.std.specs.Prelude.{ℕ, ◌≡◌, List, [], ◌∷◌, Option, Some, None, slice_get}
+use Rattle.std.specs.Prelude.{ℕ, ◌≡◌, ◌<◌, List, [], ◌∷◌, Option, Some, None, slice_get}
 use Rattle.fof_terms.specs.declared.form.Form.{Form}
 use Rattle.fof_terms.specs.Vocabulary.{Vocabulary}
 use Rattle.clause_form.specs.declared.path.Parent.{Parent}
+use Rattle.clause_rules.specs.Answers.{Rule as Word, cover, Holds as Gives}
+use Rattle.kernel.specs.Statements.{Statements}
 use Rattle.kernel.specs.Proves.{Proves}
 use Rattle.kernel.specs.declared.proof.Proof.{Proof}
-use Rattle.elaborate.specs.declared.answer.Rule.{Rule}
-use Rattle.elaborate.specs.ByRule.{Holds, ByRule, ByNone, GivesAlone, GivesFirst, GivesNowhere}
+use Rattle.elaborate.specs.ByRule.{IsFirst, IsNone, shape_rules}
 use Rattle.clause_rules.specs.NormRule.{HasNorm}
-use Rattle.elaborate.specs.declared.answer.Rule.TheVariants.{Cover}
 use Rattle.elaborate.specs.declared.leaves.FromOne.{FromOne}
 use Rattle.elaborate.specs.declared.steps.Found.{Found}
 use Rattle.derive_kit.specs.Derived.{AreOfTheory}
@@ -19,9 +19,9 @@ abbrev pub ShowsLine : Vocabulary → List Parent → Form → Proof → Type 0
 ShowsLine w parents line p = (formulas : List Form) → AreOfTheory (theory_of w formulas) parents → Proves (theory_of w formulas) [] [] p line
 
 -- the rule gives the line, and the proof shows it, or the rule does not give it
-abbrev pub IsByRule : Vocabulary → List Parent → Form → Rule → Option Proof → Type 0
-IsByRule w parents line rule None = Holds w parents line rule → ⊥
-IsByRule w parents line rule (Some p) = Holds w parents line rule × ShowsLine w parents line p
+abbrev pub IsByRule : Vocabulary → List Parent → Form → Word → Option Proof → Type 0
+IsByRule w parents line rule None = Gives w parents line rule → ⊥
+IsByRule w parents line rule (Some p) = Gives w parents line rule × ShowsLine w parents line p
 
 -- with these symbols, the proof shows the line, whatever formulas hold
 abbrev pub ShowsAlone : Vocabulary → Form → Proof → Type 0
@@ -33,26 +33,38 @@ pub record AreAlike (a b : Form) : Type 0 where
   pub of_first : HasNorm a made
   pub of_second : HasNorm b made
 
--- the first rule that gives the line, with a proof of it, or that there is none
-abbrev pub IsFound : Vocabulary → List Parent → Form → Option Found → Type 0
-IsFound w parents line None = ByNone w parents line
-IsFound w parents line (Some found) = ByRule w parents line found.rule × ShowsLine w parents line found.proof
+-- the first of the rules by shape that gives the line, with a proof of it, or that there is none
+abbrev pub IsFound : Statements → List Parent → Form → Option Found → Type 0
+IsFound t parents line None = IsNone shape_rules t parents line
+IsFound t parents line (Some found) = IsFirst shape_rules t parents line found.rule × ShowsLine t.vocabulary parents line found.proof
+
+-- `cover` gives the line from the candidate at this place alone
+abbrev pub CoversAlone : Vocabulary → List Parent → Form → ℕ → Type 0
+CoversAlone w candidates line i = (c : Parent) × (slice_get candidates i ≡ Some c) × Gives w (c ∷ []) line cover
+
+-- and from no candidate before it
+abbrev pub CoversFirst : Vocabulary → List Parent → Form → ℕ → Type 0
+CoversFirst w candidates line i = CoversAlone w candidates line i × ((j : ℕ) → j < i → CoversAlone w candidates line j → ⊥)
+
+-- it does from no candidate alone
+abbrev pub CoversNowhere : Vocabulary → List Parent → Form → Type 0
+CoversNowhere w candidates line = (j : ℕ) → CoversAlone w candidates line j → ⊥
 
 -- `cover` gives the line from the candidate at this place alone, and the part shows it from that, or it does not
 abbrev pub IsCoverAlone : Vocabulary → List Parent → Form → ℕ → Option Proof → Type 0
-IsCoverAlone w candidates line i None = GivesAlone w candidates line Cover i → ⊥
-IsCoverAlone w candidates line i (Some p) = (c : Parent) × (slice_get candidates i ≡ Some c) × Holds w (c ∷ []) line Cover × ShowsLine w (c ∷ []) line p
+IsCoverAlone w candidates line i None = CoversAlone w candidates line i → ⊥
+IsCoverAlone w candidates line i (Some p) = (c : Parent) × (slice_get candidates i ≡ Some c) × Gives w (c ∷ []) line cover × ShowsLine w (c ∷ []) line p
 
--- the rule gives the line from the candidate of this number alone and from none before it, and the part shows it from that
-pub record IsFromFirst (w : Vocabulary) (candidates : List Parent) (line : Form) (rule : Rule) (from : FromOne) : Type 0 where
+-- `cover` gives the line from the candidate of this number alone and from none before it, and the part shows it from that
+pub record IsFromFirst (w : Vocabulary) (candidates : List Parent) (line : Form) (from : FromOne) : Type 0 where
   pub place : ℕ
   pub candidate : Parent
   pub there : slice_get candidates place ≡ Some candidate
   pub number : from.number ≡ candidate.number
-  pub first : GivesFirst w candidates line rule place
+  pub first : CoversFirst w candidates line place
   pub shows : ShowsLine w (candidate ∷ []) line from.proof
 
 -- the first candidate from which alone `cover` gives the line, or that there is none
 abbrev pub IsFirstCover : Vocabulary → List Parent → Form → Option FromOne → Type 0
-IsFirstCover w candidates line None = GivesNowhere w candidates line Cover
-IsFirstCover w candidates line (Some from) = IsFromFirst w candidates line Cover from
+IsFirstCover w candidates line None = CoversNowhere w candidates line
+IsFirstCover w candidates line (Some from) = IsFromFirst w candidates line from

@@ -67,6 +67,10 @@ AllSettled line other lits = (i : ℕ) (k : Lit) → slice_get lits i ≡ Some k
 abbrev pub ShowsBody : Vocabulary → List ℕ → List Form → Bool → List Lit → Proof → Type 0
 ShowsBody w v formulas is_or lits p = (h : List Form) → Proves (theory_of w formulas) v h p (body_of is_or lits)
 
+-- in this theory, under these hypotheses, the part shows the formula
+abbrev pub ShowsUnder : Vocabulary → List ℕ → List Form → List Form → Form → Proof → Type 0
+ShowsUnder w v formulas h a p = Proves (theory_of w formulas) v h p a
+
 -- in this theory, under b and the negation of g, the part shows falsehood
 abbrev pub RefutesIn : Vocabulary → List ℕ → List Form → Form → Form → Proof → Type 0
 RefutesIn w v formulas g b p = (h : List Form) → Proves (theory_of w formulas) v (b ∷ Not g ∷ h) p (Or [])

@@ -14,7 +14,7 @@ ghost use Rattle.clause_rules.specs.Justified.{Shows};
 ghost use Rattle.clause_rules.specs.Steps.{AreCovered, AreReady, IsJoint, IsReady, images_of_parents, instances};
 ghost use Rattle.clause_rules.specs.declared.just.Just.TheVariants.{Cover as ByCover};
 ghost use Rattle.kernel.specs.Proves.{Proves};
-ghost use Rattle.elaborate.specs.declared.answer.Rule.TheVariants.{Cover};
+ghost use Rattle.clause_rules.specs.Answers.{cover as cover_rule};
 ghost use Rattle.elaborate.specs.Bodies.{HasClause, IsReadyClause};
 ghost use Rattle.elaborate.specs.Premises.{IsClosed, IsFact, ShowsAnywhere};
 ghost use Rattle.elaborate.specs.Proofs.{IsByRule, ShowsLine};
@@ -49,7 +49,7 @@ pub fn by_cover(
 ) -> Result<Option<Part>, Memory>
     requires ready { AreReady signature.now parents.now }
     requires line { IsReady signature.now line.now }
-    ensures { IfOk result (IsByRule signature.now parents.now line.now Cover) }
+    ensures { IfOk result (IsByRule signature.now parents.now line.now cover_rule) }
 {
     match cover_step(alloc, signature, parents, line)? {
         Some(

@@ -11,7 +11,7 @@ ghost use Rattle.clause_rules.specs.Justified.{Shows};
 ghost use Rattle.clause_rules.specs.Steps.{AreReady, IsJoint, IsReady, equation, images_of_parents, unequal};
 ghost use Rattle.clause_rules.specs.declared.just.Just.TheVariants.{EqFactor as ByEqFactor};
 ghost use Rattle.kernel.specs.Proves.{Proves};
-ghost use Rattle.elaborate.specs.declared.answer.Rule.TheVariants.{EqFactor};
+ghost use Rattle.clause_rules.specs.Answers.{eqfactor as eqfactor_rule};
 ghost use Rattle.elaborate.specs.Bodies.{IsReadyClause};
 ghost use Rattle.elaborate.specs.Factoring.{IsChained, IsFactoring, IsWritten, pick};
 ghost use Rattle.elaborate.specs.Proofs.{IsByRule, ShowsLine};
@@ -22,6 +22,7 @@ use crate::opening::{Opened, known_clause};
 use crate::premises::{Premise, instance_by, some_images};
 use crate::reach::{closed, variables_of};
 use crate::refuting::{by_pivot, denial};
+use crate::rewriting::{picked, read};
 use crate::turning::{known_sort, turned};
 use clause_form::{AtomOf, Lit, Parent, form_of_lit};
 use clause_rules::{Just, eqfactor_step};
@@ -49,7 +50,7 @@ pub fn by_eqfactor(
 ) -> Result<Option<Part>, Memory>
     requires ready { AreReady signature.now parents.now }
     requires line { IsReady signature.now line.now }
-    ensures { IfOk result (IsByRule signature.now parents.now line.now EqFactor) }
+    ensures { IfOk result (IsByRule signature.now parents.now line.now eqfactor_rule) }
 {
     match eqfactor_step(alloc, signature, parents, line)? {
         Some(
@@ -175,13 +176,6 @@ fn two_equations(
     }
 }
 
-// The left one of the terms, or the right one where flipped.
-fn picked<'a>(left: &'a Term, right: &'a Term, flipped: bool) -> &'a Term
-    ensures { result.now ≡ pick flipped left.now right.now }
-{
-    if flipped { right } else { left }
-}
-
 // Falsehood by the equation of `side` and `first` and the negation of the line's body, which covers that of `side` and
 // `second` and the denial of that of the other two.
 fn linked(
@@ -231,27 +225,6 @@ fn unequal_lit(alloc: Global, left: &Term, right: &Term) -> Result<Lit, Memory>
         positive: false,
         atom,
     })
-}
-
-// The equation of the terms, by hypothesis 0, which has it, written from right to left where flipped.
-fn read(
-    alloc: Global,
-    signature: &Signature,
-    scope: &Scope<'_>,
-    left: &Term,
-    right: &Term,
-    flipped: bool,
-) -> Result<Part, Memory>
-    requires sorted { Sorted signature.now (scope_sorts scope.now) (Equation left.now right.now) }
-    requires room { length (scope_sorts scope.now) < 2147483647 }
-    ensures { IfOk result (ShowsFrom signature.now (scope_sorts scope.now) 0 (lit_form (equation flipped left.now right.now)) (Equation left.now right.now)) }
-{
-    let own = hyp(alloc, 0)?;
-    if flipped {
-        turned(alloc, signature, scope, right, left, own)
-    } else {
-        Ok(own)
-    }
 }
 
 // The equation of the terms, written from right to left where flipped, by a part that shows it from left to right.

@@ -3,7 +3,7 @@ ghost use Rattle.std.specs.Prelude.{◌≡◌, [], Some, slice_get, List as List
 ghost use Rattle.fof_terms.specs.declared.form.Form.{Form as Formula};
 ghost use Rattle.kernel.specs.Proves.{Proves};
 ghost use Rattle.clause_rules.specs.Steps.{AreReady, IsReady};
-ghost use Rattle.elaborate.specs.declared.answer.Rule.TheVariants.{Norm};
+ghost use Rattle.clause_rules.specs.Answers.{norm as norm_rule};
 ghost use Rattle.elaborate.specs.Proofs.{AreAlike, IsByRule};
 ghost use Rattle.elaborate.specs.Refuting.{theory_of};
 
@@ -24,7 +24,7 @@ pub fn by_norm(
 ) -> Result<Option<Part>, Memory>
     requires ready { AreReady signature.now parents.now }
     requires line { IsReady signature.now line.now }
-    ensures { IfOk result (IsByRule signature.now parents.now line.now Norm) }
+    ensures { IfOk result (IsByRule signature.now parents.now line.now norm_rule) }
 {
     match norm_step(alloc, signature, parents, line)? {
         Some(Just::Norm { parent }) => {

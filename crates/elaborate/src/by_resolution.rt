@@ -7,7 +7,7 @@ ghost use Rattle.clause_rules.specs.Justified.{Shows};
 ghost use Rattle.clause_rules.specs.ResolutionRule.{IsResolvent, Resolves};
 ghost use Rattle.clause_rules.specs.Steps.{AreReady, IsJoint, IsReady, images_of_parents, scope_of_both};
 ghost use Rattle.clause_rules.specs.declared.just.Just.TheVariants.{Resolution as ByResolution};
-ghost use Rattle.elaborate.specs.declared.answer.Rule.TheVariants.{Resolution};
+ghost use Rattle.clause_rules.specs.Answers.{resolution as resolution_rule};
 ghost use Rattle.elaborate.specs.Proofs.{IsByRule, ShowsLine};
 ghost use Rattle.elaborate.specs.Bodies.{IsReadyClause};
 ghost use Rattle.elaborate.specs.Refuting.{IsGoal, RefutesBody, ShowsBody, body, theory_of};
@@ -34,7 +34,7 @@ pub fn by_resolution(
 ) -> Result<Option<Part>, Memory>
     requires ready { AreReady signature.now parents.now }
     requires line { IsReady signature.now line.now }
-    ensures { IfOk result (IsByRule signature.now parents.now line.now Resolution) }
+    ensures { IfOk result (IsByRule signature.now parents.now line.now resolution_rule) }
 {
     match resolution_step(alloc, signature, parents, line)? {
         Some(

@@ -8,7 +8,7 @@ ghost use Rattle.clause_form.specs.ClauseView.{form_of_lit as lit_form};
 ghost use Rattle.clause_form.specs.Covers.{AreComplementary, HasOne, IsCovered, IsTrivial, negated as opposite_of};
 ghost use Rattle.clause_rules.specs.Steps.{IsReady};
 ghost use Rattle.clause_rules.specs.TautologyRule.{IsTautologyStep};
-ghost use Rattle.elaborate.specs.declared.answer.Rule.TheVariants.{Tautology};
+ghost use Rattle.clause_rules.specs.Answers.{tautology as tautology_rule};
 ghost use Rattle.elaborate.specs.Proofs.{IsByRule, ShowsAlone};
 ghost use Rattle.elaborate.specs.Refuting.{IsGoal, RefutesBody, body};
 
@@ -31,7 +31,7 @@ pub fn by_tautology(
     line: &Form,
 ) -> Result<Option<Part>, Memory>
     requires { IsReady signature.now line.now }
-    ensures { IfOk result (IsByRule signature.now parents.now line.now Tautology) }
+    ensures { IfOk result (IsByRule signature.now parents.now line.now tautology_rule) }
 {
     match tautology_step(alloc, signature, parents, line)? {
         Some(_) => Ok(Some(trivial(alloc, signature, line)?)),

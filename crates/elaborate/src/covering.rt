@@ -6,6 +6,7 @@ ghost use Rattle.fof_terms.specs.Sorts.{Sorted};
 ghost use Rattle.clause_form.specs.declared.clause.Lit.{Lit as Literal};
 ghost use Rattle.clause_form.specs.ClauseView.{form_of_lit as lit_form};
 ghost use Rattle.clause_form.specs.Covers.{IsAbsurd, IsCovered, IsSame};
+ghost use Rattle.elaborate.specs.Bodies.{body_of};
 ghost use Rattle.elaborate.specs.Refuting.{IsAbsurdity, IsGoal, Refutes, body, injected_tree};
 
 use crate::nodes::{number, refl, truth};
@@ -52,8 +53,14 @@ pub fn forms_of_lits(alloc: Global, lits: &[Lit]) -> Result<List<Form>, Memory>
 pub fn body_form(alloc: Global, line: &Opened) -> Result<Form, Memory>
     ensures { IfOk result (λ form. form ≡ body line.now) }
 {
-    let lits = line.clause.lits.as_slice();
-    if line.is_or {
+    form_of_body(alloc, line.is_or, line.clause.lits.as_slice())
+}
+
+/// The Or of the literals, or the first of them alone.
+pub fn form_of_body(alloc: Global, is_or: bool, lits: &[Lit]) -> Result<Form, Memory>
+    ensures { IfOk result (λ form. form ≡ body_of is_or lits.now) }
+{
+    if is_or {
         return Ok(Form::Or(forms_of_lits(alloc, lits)?));
     }
     match lits.first() {

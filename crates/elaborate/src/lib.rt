@@ -6,7 +6,9 @@ mod answer;
 mod by_cover;
 mod by_eqfactor;
 mod by_norm;
+mod by_paramodulation;
 mod by_resolution;
+mod by_rewrite;
 mod by_tautology;
 mod closing;
 mod covering;
@@ -16,6 +18,7 @@ mod opening;
 mod premises;
 mod reach;
 mod refuting;
+mod rewriting;
 mod steps;
 mod turning;
 

@@ -32,8 +32,8 @@ pub fn some_images(alloc: Global, subst: &Subst, from: usize, count: usize) -> R
     Ok(Subst { images })
 }
 
-// The images of the terms.
-fn images_of(alloc: Global, subst: &Subst, terms: &[Term]) -> Result<List<Term>, Memory>
+/// The images of the terms.
+pub fn images_of(alloc: Global, subst: &Subst, terms: &[Term]) -> Result<List<Term>, Memory>
     ensures { IfOk result (λ images. images ≡ map (image (image_at subst.now)) terms.now) }
 {
     let mut images = List::new(alloc);
@@ -68,8 +68,8 @@ fn image_of_atom(alloc: Global, subst: &Subst, atom: &AtomOf) -> Result<AtomOf, 
     }
 }
 
-// The images of the literals.
-fn images_of_lits(alloc: Global, subst: &Subst, lits: &[Lit]) -> Result<List<Lit>, Memory>
+/// The images of the literals.
+pub fn images_of_lits(alloc: Global, subst: &Subst, lits: &[Lit]) -> Result<List<Lit>, Memory>
     ensures { IfOk result (λ made. made ≡ map (lit_image (image_at subst.now)) lits.now) }
 {
     let mut made = List::new(alloc);

@@ -1,11 +1,12 @@
 //! Falsehood, by an instance of a clause each of whose literals the line covers or another literal contradicts.
-ghost use Rattle.std.specs.Prelude.{◌≡◌, ◌<◌, length, IfOk, List as ListOf};
-ghost use Rattle.fof_terms.specs.declared.form.Form.{Form as Formula};
+ghost use Rattle.std.specs.Prelude.{◌≡◌, ◌<◌, [], ◌∷◌, length, IfOk, List as ListOf};
+ghost use Rattle.fof_terms.specs.declared.form.Form.{Form as Formula, Not as Denied, Or};
 ghost use Rattle.fof_terms.specs.Scope.{scope_sorts};
 ghost use Rattle.fof_terms.specs.Sorts.{Sorted};
 ghost use Rattle.clause_form.specs.ClauseView.{form_of_lit as lit_form};
 ghost use Rattle.clause_form.specs.Covers.{AreComplementary, AreSorted, negated as opposite_of};
-ghost use Rattle.elaborate.specs.Refuting.{AllRefute, AllSettled, IsDenial, IsGoal, IsSettled, RefutesBody, RefutesIn, RefutesUnder, ShowsBody, body};
+ghost use Rattle.elaborate.specs.Bodies.{body_of};
+ghost use Rattle.elaborate.specs.Refuting.{AllRefute, AllSettled, IsDenial, IsGoal, IsSettled, RefutesBody, RefutesIn, RefutesUnder, ShowsBody, ShowsUnder, body};
 
 use crate::covering::contrary;
 use crate::opening::Opened;
@@ -122,8 +123,8 @@ pub fn refuted(
     requires goal { IsGoal signature.now (scope_sorts scope.now) line.now }
     requires sorted { AreSorted signature.now (scope_sorts scope.now) premise.lits }
     requires other { Sorted signature.now (scope_sorts scope.now) (lit_form other.now) }
-    ensures { IfOk result (λ part. (formulas : ListOf Formula) → ShowsBody signature.now (scope_sorts scope.now) formulas premise.is_or premise.lits premise.part
-        → RefutesIn signature.now (scope_sorts scope.now) formulas (body line.now) (lit_form other.now) part) }
+    ensures { IfOk result (λ part. (formulas h : ListOf Formula) → ShowsUnder signature.now (scope_sorts scope.now) formulas (lit_form other.now ∷ Denied (body line.now) ∷ h) (body_of premise.is_or premise.lits) premise.part
+        → ShowsUnder signature.now (scope_sorts scope.now) formulas (lit_form other.now ∷ Denied (body line.now) ∷ h) (Or []) part) }
 {
     let Premise { is_or, lits, part } = premise;
     if is_or {

@@ -10,11 +10,13 @@ use crate::answer::{Reason, Rule, StepAnswer};
 use crate::by_cover::by_cover;
 use crate::by_eqfactor::by_eqfactor;
 use crate::by_norm::by_norm;
+use crate::by_paramodulation::by_paramodulation;
 use crate::by_resolution::by_resolution;
+use crate::by_rewrite::by_rewrite;
 use crate::by_tautology::by_tautology;
 use clause_form::Parent;
 use derive_kit::Part;
-use fof_terms::{Form, Signature};
+use fof_terms::Form;
 use kernel::{Entry, Theory};
 use std::alloc::Global;
 use tptp_base::{List, Memory};
@@ -33,7 +35,7 @@ pub fn step(
     requires line { IsReady theory.now.vocabulary line.now }
     ensures { IfOk result (IsStepAnswer theory.now parents.now line.now) }
 {
-    match first_proof(alloc, theory.signature(), parents, line)? {
+    match first_proof(alloc, theory, parents, line)? {
         Some(found) => accepted(alloc, parents, found),
         None => Ok(StepAnswer::Unverified(Reason::NotYet)),
     }
@@ -46,17 +48,18 @@ pub struct Found {
     pub proof: Part,
 }
 
-// The first rule that gives the line, with a proof; None exactly where there is none.
+// The first of the rules by shape that gives the line, with a proof; None exactly where there is none.
 fn first_proof(
     alloc: Global,
-    signature: &Signature,
+    theory: &Theory,
     parents: &[Parent],
     line: &Form,
 ) -> Result<Option<Found>, Memory>
-    requires ready { AreReady signature.now parents.now }
-    requires line { IsReady signature.now line.now }
-    ensures { IfOk result (IsFound signature.now parents.now line.now) }
+    requires ready { AreReady theory.now.vocabulary parents.now }
+    requires line { IsReady theory.now.vocabulary line.now }
+    ensures { IfOk result (IsFound theory.now parents.now line.now) }
 {
+    let signature = theory.signature();
     if let Some(proof) = by_norm(alloc, signature, parents, line)? {
         return Ok(by_rule(Rule::Norm, proof));
     }
@@ -69,8 +72,14 @@ fn first_proof(
     if let Some(proof) = by_resolution(alloc, signature, parents, line)? {
         return Ok(by_rule(Rule::Resolution, proof));
     }
+    if let Some(proof) = by_paramodulation(alloc, signature, parents, line)? {
+        return Ok(by_rule(Rule::Paramodulation, proof));
+    }
     if let Some(proof) = by_eqfactor(alloc, signature, parents, line)? {
         return Ok(by_rule(Rule::EqFactor, proof));
+    }
+    if let Some(proof) = by_rewrite(alloc, signature, parents, line)? {
+        return Ok(by_rule(Rule::Rewrite, proof));
     }
     Ok(None)
 }

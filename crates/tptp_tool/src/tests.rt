@@ -1,5 +1,6 @@
 mod checking;
 mod parsing;
+mod rewriting;
 mod rules;
 mod verifying;
 

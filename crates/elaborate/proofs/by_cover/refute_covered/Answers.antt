@@ -10,5 +10,5 @@ refuted-requires-clause-other c = truth_sorted c.args.signature.now (scope_sorts
 pub returns : goal.returns
 returns c =
     ok_map c.cut_under.result
-    (λ made build formulas shows. truth_refutes c.args.signature.now (scope_sorts c.args.scope.now) (body c.args.line.now) c.true_lit-other.result c.in_ok-form_of_lit.field-0 c.in_ok-fact.fact c.in_ok-rest.rest made c.requires.goal.sorted.scope_fits c.true_lit-other.ensures c.in_ok-form_of_lit.ensures c.in_ok-fact.ensures build formulas (c.in_ok-rest.ensures formulas shows))
+    (λ made build formulas shows. truth_refutes c.args.signature.now (scope_sorts c.args.scope.now) (body c.args.line.now) c.true_lit-other.result c.in_ok-form_of_lit.field-0 c.in_ok-fact.fact c.in_ok-rest.rest made c.requires.goal.sorted.scope_fits c.true_lit-other.ensures c.in_ok-form_of_lit.ensures c.in_ok-fact.ensures build formulas (λ h. c.in_ok-rest.ensures formulas h (shows _)))
     c.cut_under.ensures

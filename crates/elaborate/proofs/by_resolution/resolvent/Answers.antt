@@ -36,4 +36,4 @@ by_pivot-requires-clause-pivot c =
     subst (λ (p : Lit). Sorted c.args.signature.now (scope_sorts c.args.scope.now) (form_of_lit p)) (sym same) (place_sorted c.args.signature.now (scope_sorts c.args.scope.now) c.args.left.lits c.args.left_lit r.pivot c.requires.goal.sorted.scope_fits c.requires.left r.in_left)
 
 pub returns : goal.returns
-returns c = ok_map c.by_pivot.result (λ made f formulas left right. f formulas left (c.in_ok-under.ensures formulas right)) c.by_pivot.ensures
+returns c = ok_map c.by_pivot.result (λ made f formulas left right. f formulas left (λ h. c.in_ok-under.ensures formulas h (right _))) c.by_pivot.ensures

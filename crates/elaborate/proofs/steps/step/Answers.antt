@@ -5,8 +5,8 @@ use Rattle.elaborate.proofs.steps.step.Goals as goal
 pub returns-in-Some : goal.returns-in-Some
 returns-in-Some c =
     ok_map c.accepted.result
-    (λ answer e. rw e (step_accepted c.args.theory.now c.signature.result.now c.args.parents.now c.args.line.now c.in_ok-found.field-0 c.in-Some.found c.signature.ensures c.requires.parents c.in-Some.is c.in_ok-found.ensures))
+    (λ answer e. rw e (step_accepted c.args.theory.now c.args.parents.now c.args.line.now c.in_ok-found.field-0 c.in-Some.found c.requires.parents c.in-Some.is c.in_ok-found.ensures))
     c.accepted.ensures
 
 pub returns-in-None : goal.returns-in-None
-returns-in-None c = step_unverified c.args.theory.now c.signature.result.now c.args.parents.now c.args.line.now c.in_ok-found.field-0 c.signature.ensures c.in-None.is c.in_ok-found.ensures
+returns-in-None c = step_unverified c.args.theory.now c.args.parents.now c.args.line.now c.in_ok-found.field-0 c.in-None.is c.in_ok-found.ensures

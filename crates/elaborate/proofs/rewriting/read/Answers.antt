@@ -1,7 +1,7 @@
 use Rattle.fof_terms.specs.Scope.{scope_sorts}
 use Rattle.derive_kit.specs.Built.{ok_map}
 use Rattle.elaborate.proofs.Factors.{read_turned, read_straight, turned_back}
-use Rattle.elaborate.proofs.by_eqfactor.read.Goals as goal
+use Rattle.elaborate.proofs.rewriting.read.Goals as goal
 
 pub returns-then-flipped : goal.returns-then-flipped
 returns-then-flipped c = ok_map c.turned.result (λ made t. read_turned c.args.signature.now (scope_sorts c.args.scope.now) c.args.left.now c.args.right.now c.args.flipped c.in_ok-own.own made c.if-flipped.true c.in_ok-own.ensures c.requires.room c.requires.sorted t) c.turned.ensures
