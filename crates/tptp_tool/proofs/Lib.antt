@@ -1,5 +1,6 @@
 pub mod Causes
 pub mod Checks
+pub mod Completes
 pub mod Derivations
 pub mod Formats
 pub mod GoodEnds
@@ -8,6 +9,7 @@ pub mod OneEnding
 pub mod OneFormat
 pub mod OneProblem
 pub mod Parses
+pub mod Refuting
 pub mod Requests
 pub mod Sourced
 pub mod Stages
