@@ -23,7 +23,7 @@ text_good problem file lines v text ending good (inr (d, w, (items, spells, are)
     ends.status
     ∙ ap status_of (good_verified (asked_by problem text (conjecture_marks lines) (has_conjecture lines)) (given_theory lines v) d w ends.verified ending.out ending.log are.graph.is_graph.order.in_turn are.graph.is_graph.all (good.good d w (items, spells, are)) ends.checks)
 
-verify_good : (files : Files) (root : Option (List ℕ)) (problem file : List ℕ) (ending : Ending) → AreGood files root problem file → EndsVerify files root problem file ending → ending.status ≡ 0
+pub verify_good : (files : Files) (root : Option (List ℕ)) (problem file : List ℕ) (ending : Ending) → AreGood files root problem file → EndsVerify files root problem file ending → ending.status ≡ 0
 verify_good files root problem file ending good (inl refused) = absurd (good.no_fault ending (inl refused))
 verify_good files root problem file ending good (inr (whole, resolves, inl refused)) = absurd (good.no_fault ending (inr (whole, resolves, refused)))
 verify_good files root problem file ending good (inr (whole, resolves, inr (lines, v, denotes, after))) =

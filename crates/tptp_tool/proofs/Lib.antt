@@ -1,5 +1,6 @@
 pub mod Causes
 pub mod Checks
+pub mod Completes
 pub mod Derivations
 pub mod Exact
 pub mod Formats
@@ -9,6 +10,7 @@ pub mod OneEnding
 pub mod OneFormat
 pub mod OneProblem
 pub mod Parses
+pub mod Refuting
 pub mod Requests
 pub mod Sourced
 pub mod Stages

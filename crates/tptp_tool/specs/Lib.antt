@@ -1,5 +1,6 @@
 pub mod Answer
 pub mod CheckedLog
+pub mod Complete
 pub mod Denoted
 pub mod Derived
 pub mod Ending

@@ -3,6 +3,7 @@ ghost use Rattle.std.specs.Prelude.{⊤, ◌≡◌, ◌⊎◌, ◌≤◌, ℕ, L
 ghost use Rattle.std.specs.declared.option.Option.{Option};
 ghost use Rattle.tptp_base.specs.Count.{Rose};
 ghost use Rattle.tptp_tool.specs.Answer.{ending_of, IsAnswerWithLog};
+ghost use Rattle.tptp_tool.specs.Complete.{MeetsNoFault};
 ghost use Rattle.tptp_tool.specs.Ending;
 ghost use Rattle.tptp_tool.specs.Ends.{Ends};
 ghost use Rattle.tptp_tool.specs.GoodRuns.{AreGood};
@@ -50,6 +51,10 @@ pub fn run_tptp<S: Store, O: Sink, L: Sink>(
     ensures good { IsAnswer result → IfSome (S.files store.old) (λ files. (request : Request) → IsForm (texts words.now) request
         → (problem derivation : List ℕ) (named : Option (List ℕ)) → request.task ≡ Verify problem derivation named
         → AreGood files request.root problem derivation → result ≡ 0) }
+
+    // An answer to a task that meets no fault in the files is that it succeeded.
+    ensures complete { IsAnswer result → IfSome (S.files store.old) (λ files. (request : Request) → IsForm (texts words.now) request
+        → MeetsNoFault files request.root request.task → result ≡ 0) }
 
     // Over any store: an answer, or a fault of the outside in this call, or want of memory.
     ensures status { IsAnswer result ⊎ ((4 ≤ result) × (result ≤ 6)) }

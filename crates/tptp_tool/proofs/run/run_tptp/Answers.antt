@@ -1,4 +1,5 @@
 use Rattle.tptp_tool.specs.Words.{texts}
+use Rattle.tptp_tool.proofs.Completes.{answered_complete}
 use Rattle.tptp_tool.proofs.GoodEnds.{answered_good}
 use Rattle.tptp_tool.proofs.Headline.{success_refutes}
 use Rattle.tptp_tool.proofs.run.run_tptp.Goals as goal
@@ -10,3 +11,7 @@ returns-in-Ok-put_all-clause-sound g c =
 pub returns-in-Ok-put_all-clause-good : goal.returns-in-Ok-put_all-clause-good
 returns-in-Ok-put_all-clause-good g c =
     answered_good (g.S.Store.files c.args.store.now) (texts c.args.words.now) c.in-Ok.answer (g.L.Sink.taken c.args.log.now) (g.L.Sink.taken c.answer_words.new.log) c.in-Ok.ensures.ends
+
+pub returns-in-Ok-put_all-clause-complete : goal.returns-in-Ok-put_all-clause-complete
+returns-in-Ok-put_all-clause-complete g c =
+    answered_complete (g.S.Store.files c.args.store.now) (texts c.args.words.now) c.in-Ok.answer (g.L.Sink.taken c.args.log.now) (g.L.Sink.taken c.answer_words.new.log) c.in-Ok.ensures.ends
