@@ -14,7 +14,7 @@ use Rattle.kernel.specs.declared.entry.Entry.TheVariants.{Declare}
 use Rattle.kernel.specs.declared.entry.Decl.TheVariants as decl
 use Rattle.sort_check.specs.Sorting.{AreDeclared, Extends}
 use Rattle.verifier.specs.Declarations.{declarations}
-use Rattle.verifier.proofs.OneConclusion.{one_admitted}
+use Rattle.proof_log.proofs.OneTheory.{one_admitted}
 use Rattle.derivation_check.specs.Cases.{widened}
 
 abbrev with_sorts : List (List ℕ) → List Symbol → List Form → Statements

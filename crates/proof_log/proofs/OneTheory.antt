@@ -64,15 +64,17 @@ module _ (t : Statements) where
 
 -- ---- one theory
 
-one_after : (t u w : Statements) (e : Entry) → After t e u → After t e w → u ≡ w
-one_after t u w (Declare decl) x y = x ∙ sym y
-one_after t u w (Lemma p) x y = x.2 ∙ ap (with_formula t) (one_shown t [] [] p x.0 y.0 x.1 y.1) ∙ sym y.2
-one_after t u w (Name k a) x y = x.2 ∙ ap (λ (s : Symbol). with_formula t (naming k s a)) (some_same (sym x.1 ∙ y.1)) ∙ sym y.2
-one_after t u w (Choice k a) x y = x.2 ∙ ap (λ (s : Symbol). with_formula t (choice k s a)) (some_same (sym x.1 ∙ y.1)) ∙ sym y.2
+-- an entry makes one theory of another
+pub one_after : (t : Statements) (e : Entry) (u w : Statements) → After t e u → After t e w → u ≡ w
+one_after t (Declare decl) u w x y = x ∙ sym y
+one_after t (Lemma p) u w x y = x.2 ∙ ap (with_formula t) (one_shown t [] [] p x.0 y.0 x.1 y.1) ∙ sym y.2
+one_after t (Name k a) u w x y = x.2 ∙ ap (λ (s : Symbol). with_formula t (naming k s a)) (some_same (sym x.1 ∙ y.1)) ∙ sym y.2
+one_after t (Choice k a) u w x y = x.2 ∙ ap (λ (s : Symbol). with_formula t (choice k s a)) (some_same (sym x.1 ∙ y.1)) ∙ sym y.2
 
-pub one_admitted : (t u w : Statements) (entries : List Entry) → Admits t entries u → Admits t entries w → u ≡ w
-one_admitted t u w [] x y = x ∙ sym y
-one_admitted t u w (e ∷ es) x y = one_admitted y.1.0 u w es (subst (λ next. Admits next es u) (one_after t x.1.0 y.1.0 e x.1.1 y.1.1) x.1.2) y.1.2
+-- entries make one theory of another
+pub one_admitted : (t : Statements) (entries : List Entry) (u w : Statements) → Admits t entries u → Admits t entries w → u ≡ w
+one_admitted t [] u w x y = x ∙ sym y
+one_admitted t (e ∷ es) u w x y = one_admitted y.1.0 es u w (subst (λ next. Admits next es u) (one_after t e x.1.0 y.1.0 x.1.1 y.1.1) x.1.2) y.1.2
 
 -- ---- one answer
 
@@ -93,7 +95,7 @@ tail_illegal t u e es n after first =
       entry = first.entry;
       there = first.there;
       reached = first.reached;
-      before = subst (λ (next : Statements). Admits next (take n es) first.reached) (one_after t before.1.0 u e before.1.1 after) before.1.2;
+      before = subst (λ (next : Statements). Admits next (take n es) first.reached) (one_after t e before.1.0 u before.1.1 after) before.1.2;
       illegal = first.illegal;
     }
 
@@ -113,7 +115,7 @@ unrefuted_not_illegal : (t : Statements) (es : List Entry) (number : ℕ) → Is
 unrefuted_not_illegal t es number unrefuted first = none_illegal t unrefuted.reached es number unrefuted.all first
 
 refuted_not_unrefuted : (t : Statements) (es : List Entry) → Refutes t es → IsNotRefuted t es → ⊥
-refuted_not_unrefuted t es refutes unrefuted = unrefuted.kept_open (subst IsRefuted (one_admitted t refutes.0 unrefuted.reached es refutes.1 unrefuted.all) refutes.2)
+refuted_not_unrefuted t es refutes unrefuted = unrefuted.kept_open (subst IsRefuted (one_admitted t es refutes.0 unrefuted.reached refutes.1 unrefuted.all) refutes.2)
 
 -- one entry alone is the first that is not legal
 one_illegal : (t : Statements) (es : List Entry) (k n : ℕ) → IsFirstIllegal t es k → IsFirstIllegal t es n → k ≡ n

@@ -18,5 +18,5 @@ pub fn a_log_begins_a_log()
 
 /// Entries that are legal in turn make one theory of another.
 pub fn entries_make_one_theory()
-    ensures { (start first second : Statements) (entries : List Entry) → Admits start entries first → Admits start entries second → first ≡ second }
+    ensures { (start : Statements) (entries : List Entry) (first second : Statements) → Admits start entries first → Admits start entries second → first ≡ second }
 {}

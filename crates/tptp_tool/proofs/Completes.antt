@@ -17,14 +17,15 @@ use Rattle.tptp_tool.specs.Ends.{EndsTask, Ends}
 use Rattle.tptp_tool.specs.Formatted.{EndsFormat}
 use Rattle.tptp_tool.specs.Outcome.{IsAnswer}
 use Rattle.tptp_tool.specs.Parsed.{EndsParse}
+use Rattle.tptp_tool.specs.Refuted.{HasRefutation}
 use Rattle.tptp_tool.specs.Words.{Task, Verify, Format, Parse, Check, Request, IsForm}
 use Rattle.tptp_tool.specs.declared.run.TheConstants.{TOTAL_SIZE}
 use Rattle.tptp_tool.specs.declared.stop.Answer.{Answer}
+use Rattle.tptp_tool.proofs.Exact.{log_exact}
 use Rattle.tptp_tool.proofs.GoodEnds.{verify_good}
 use Rattle.tptp_tool.proofs.OneEnding.{parse_counts}
 use Rattle.tptp_tool.proofs.OneFormat.{format_writes}
 use Rattle.tptp_tool.proofs.OneProblem.{one_given, no_include_fault, one_problem, no_sort_fault}
-use Rattle.tptp_tool.proofs.Refuting.{log_refutes}
 use Rattle.tptp_tool.proofs.Requests.{one_root, one_task}
 use Rattle.tptp_tool.proofs.Stages.{if_map}
 
@@ -38,15 +39,15 @@ parse_complete : (files : Files) (root : Option (List ℕ)) (file : List ℕ) (e
 parse_complete files root file ending h ends = parse_given files root file ending h.theory h.read h.is ends
 
 format_complete : (files : Files) (file : List ℕ) (ending : Ending) → IsWellSpelled files file → EndsFormat files file ending → ending.status ≡ 0
-format_complete files file ending h ends = ap status (format_writes files file h.text h.items ending h.has.there h.has.fits h.spells ends)
+format_complete files file ending h ends = ap status (format_writes files file h.text h.items ending h.there h.fits h.spells ends)
 
 module _ (files : Files) (root : Option (List ℕ)) (problem log : List ℕ) (ending : Ending) (h : IsRefutedByLog files root problem log) where
   log_complete : (theory : Statements) (read : ℕ) → IsGiven (Some files) root problem theory read → AfterFile files log (TOTAL_SIZE - read) (SaysLog theory) ending → ending.status ≡ 0
   log_complete theory read is after =
-      let same = one_given files root problem theory h.theory read h.read is h.is in
-      let here : AfterFile files log (TOTAL_SIZE - h.read) (SaysLog h.theory) ending =
-      subst (λ (n : ℕ). AfterFile files log (TOTAL_SIZE - n) (SaysLog h.theory) ending) same.1 (subst (λ (t : Statements). AfterFile files log (TOTAL_SIZE - read) (SaysLog t) ending) same.0 after) in
-      ap status (log_refutes h.text h.entries h.logged h.theory ending h.refutes (here.read h.text h.has.there h.has.fits))
+      let same = one_given files root problem h.theory theory h.read read h.is is in
+      let has : HasRefutation files log theory read =
+      subst (λ (n : ℕ). HasRefutation files log theory n) same.1 (subst (λ (t : Statements). HasRefutation files log t h.read) same.0 h.log) in
+      (log_exact files root problem log ending theory read is after).always has
 
   -- no fault of the problem is met
   no_include : {R : Type 0} (theory : Statements) (read : ℕ) → IsGiven (Some files) root problem theory read → (fault : IncludeFault) → Resolves (Some files) root problem (Err fault) → R

@@ -73,7 +73,7 @@ text_refuted t text entries ending is refutes (inr (found, are, says)) =
 -- ---- how a check ends
 
 module _ (files : Files) (root : Option (List ℕ)) (problem log : List ℕ) (ending : Ending) where
-  log_exact : (t : Statements) (read : ℕ) → IsGiven (Some files) root problem t read → AfterFile files log (TOTAL_SIZE - read) (SaysLog t) ending → IsExact files root problem log ending
+  pub log_exact : (t : Statements) (read : ℕ) → IsGiven (Some files) root problem t read → AfterFile files log (TOTAL_SIZE - read) (SaysLog t) ending → IsExact files root problem log ending
   log_exact t read given after = record { theory = t; read = read; given = given; only = λ zero. found zero (file_at files log) refl; always = says_so }
     where
       found : ending.status ≡ 0 → (found : Option (List ℕ)) → file_at files log ≡ found → HasRefutation files log t read

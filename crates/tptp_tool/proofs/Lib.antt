@@ -10,7 +10,6 @@ pub mod OneEnding
 pub mod OneFormat
 pub mod OneProblem
 pub mod Parses
-pub mod Refuting
 pub mod Requests
 pub mod Sourced
 pub mod Stages

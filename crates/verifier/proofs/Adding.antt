@@ -11,7 +11,7 @@ use Rattle.kernel.specs.EntryLaws.{admits_more}
 use Rattle.kernel.specs.declared.entry.Entry.{Entry}
 use Rattle.proof_log.specs.Entries.{entry_text}
 use Rattle.verifier.specs.Logged.{CanAdmit, LogsSome, entries_text}
-use Rattle.verifier.proofs.OneConclusion.{one_after}
+use Rattle.proof_log.proofs.OneTheory.{one_after}
 
 -- Some entries are added and logged, and the rest is legal in turn after them.
 pub record IsAdding (t0 : Statements) (all : List Entry) (t : Statements) (done rest : List Entry) (log_old log_now : Option (List ℕ)) : Type 0 where

@@ -13,7 +13,7 @@ use Rattle.elaborate.specs.declared.answer.StepAnswer.{StepAnswer}
 use Rattle.elaborate.specs.declared.answer.StepAnswer.TheVariants as step
 use Rattle.verifier.specs.Run.{AnswersKind}
 use Rattle.verifier.specs.Taking.{Adds}
-use Rattle.verifier.proofs.OneConclusion.{one_admitted}
+use Rattle.proof_log.proofs.OneTheory.{one_admitted}
 use Rattle.verifier.proofs.Slots.{stays_behind}
 use Rattle.verifier.proofs.Symbols.{Gains}
 

@@ -7,7 +7,6 @@ pub mod Goodness
 pub mod Knowing
 pub mod LineAnswers
 pub mod Logs
-pub mod OneConclusion
 pub mod Refuting
 pub mod Renumbering
 pub mod Running

@@ -24,7 +24,7 @@ use Rattle.verifier.specs.declared.answer.LineAnswer.{LineAnswer}
 use Rattle.verifier.specs.declared.answer.LineAnswer.TheVariants.{Accepted, Unverified, Skipped}
 use Rattle.verifier.proofs.Derived.{some_formula, accepted_theory}
 use Rattle.verifier.proofs.Knowing.{knows_more}
-use Rattle.verifier.proofs.OneConclusion.{one_admitted}
+use Rattle.proof_log.proofs.OneTheory.{one_admitted}
 
 module _ {E : Type 0} (result : Result StepAnswer E) (t : Statements) (given : List Form) (parents : List Parent) (form : Form) where
   -- a leaf that names what it is taken from
