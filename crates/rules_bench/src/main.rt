@@ -37,7 +37,10 @@ fn main(rt: HostRuntime) -> Result<()> {
     for _ in 0..words.times {
         rule = recognised(alloc, &sig, &step)?;
     }
-    println!(rt; "{} with {} pairs of parents: {rule}", words.kind, words.pairs)?;
+    println!(rt;
+        "{} with {} pairs of parents: {rule}",
+        words.kind, words.pairs
+    )?;
     Ok(())
 }
 
