@@ -37,7 +37,7 @@ fn main(rt: HostRuntime) -> Result<()> {
     for _ in 0..words.times {
         rule = recognised(alloc, &sig, &step)?;
     }
-    println!(rt; "{} with {} pairs of parents: {rule}", words.kind, words.pairs)?;
+    println!(rt; "{} of {} parents: {rule}", words.kind, step.parents.len())?;
     Ok(())
 }
 

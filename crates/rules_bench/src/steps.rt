@@ -25,7 +25,12 @@ impl Predicates {
 }
 
 /// The step of that kind, with so many pairs of parents: the rule's name, or a kind of decoy.
-pub fn made(alloc: Global, kind: &str, predicates: &Predicates, pairs: u32) -> Result<Step, Memory> {
+pub fn made(
+    alloc: Global,
+    kind: &str,
+    predicates: &Predicates,
+    pairs: u32,
+) -> Result<Step, Memory> {
     match kind {
         "norm" => norm(alloc, predicates),
         "cover" => cover(alloc, predicates),
@@ -59,7 +64,12 @@ fn add_literals(
     Ok(())
 }
 
-fn literal(alloc: Global, predicates: &Predicates, number: u32, leaf: Term) -> Result<Form, Memory> {
+fn literal(
+    alloc: Global,
+    predicates: &Predicates,
+    number: u32,
+    leaf: Term,
+) -> Result<Form, Memory> {
     let tree = tree(alloc, DEPTH, leaf)?;
     let predicate = predicates.at(number);
     if predicate >= 20 {
@@ -95,7 +105,12 @@ fn odd_right(alloc: Global, predicates: &Predicates) -> Result<Form, Memory> {
 }
 
 // The literals of these numbers, of the constant a.
-fn ground(alloc: Global, predicates: &Predicates, first: u32, end: u32) -> Result<Boxed<Form>, Memory> {
+fn ground(
+    alloc: Global,
+    predicates: &Predicates,
+    first: u32,
+    end: u32,
+) -> Result<Boxed<Form>, Memory> {
     let mut literals = List::new(alloc);
     add_literals(alloc, &mut literals, predicates, first, end, true)?;
     Ok(Boxed::new(alloc, clause(alloc, 0, literals)?)?)
@@ -136,7 +151,12 @@ fn tautology(alloc: Global, predicates: &Predicates) -> Result<Step, Memory> {
 }
 
 // The line has literals 1 to 18 of the constant a.
-fn resolution(alloc: Global, predicates: &Predicates, pairs: u32, end: u32) -> Result<Step, Memory> {
+fn resolution(
+    alloc: Global,
+    predicates: &Predicates,
+    pairs: u32,
+    end: u32,
+) -> Result<Step, Memory> {
     let mut parents = List::new(alloc);
     for at in 0..pairs {
         if at + 1 < pairs {
