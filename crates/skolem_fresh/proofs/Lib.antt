@@ -1,0 +1,4 @@
+pub mod Finding
+pub mod Freely
+pub mod LeafLaws
+pub mod Walking

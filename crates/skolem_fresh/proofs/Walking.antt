@@ -1,0 +1,2 @@
+-- Symbols under changes of variables.
+use Rattle.std.specs.Prelude.{ℕ, ◌≡◌}
