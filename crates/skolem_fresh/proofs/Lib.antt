@@ -1,4 +1,14 @@
+pub mod Admitting
+pub mod Below
+pub mod Chosen
+pub mod Distinct
+pub mod Entering
 pub mod Finding
 pub mod Freely
 pub mod LeafLaws
-pub mod Walking
+pub mod Occurring
+pub mod OnlyLaws
+pub mod Openable
+pub mod Opened
+pub mod Renaming
+pub mod Telling

@@ -89,7 +89,8 @@ pub(crate) fn may_choose(
         return Ok(true);
     }
     let variables = uses[0].variables.as_slice();
-    Ok(are_free(theory, form, variables, uses)
-        && are_distinct(variables)
-        && only_has(variables, form, 0))
+    if !are_free(theory, form, variables, uses) {
+        return Ok(false);
+    }
+    Ok(are_distinct(variables) && only_has(variables, form, 0))
 }

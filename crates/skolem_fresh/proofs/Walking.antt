@@ -1,2 +1,0 @@
--- Symbols under changes of variables.
-use Rattle.std.specs.Prelude.{ℕ, ◌≡◌}
