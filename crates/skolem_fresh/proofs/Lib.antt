@@ -10,5 +10,6 @@ pub mod Occurring
 pub mod OnlyLaws
 pub mod Openable
 pub mod Opened
+pub mod Readiness
 pub mod Renaming
 pub mod Telling

@@ -17,3 +17,6 @@ mod telling;
 pub use choice::choice_step;
 pub use entries::choice_entries;
 pub use just::{SkolemJust, Use};
+
+#[cfg(test)]
+mod tests;
