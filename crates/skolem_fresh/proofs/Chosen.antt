@@ -190,3 +190,19 @@ start_none t line scope answer e f h = none_at_all t line (subst (λ sc. IsChose
 pub start_some : (t : Statements) (line : Form) (scope : List ℕ) (answer : Option (List Use)) (uses : List Use) → scope ≡ [] → answer ≡ Some uses → IsChosenUnder t scope line answer
     → (sorts : List ℕ) × (left right : Form) × (k : ℕ) × Chooses t line sorts left right k uses
 start_some t line scope answer uses e f h = some_at_all t line uses (subst (λ sc. IsChosenUnder t sc line (Some uses)) e (subst (IsChosenUnder t scope line) f h))
+
+-- As code meets them.
+pub code_within : (v : Vocabulary) (scope sc : List ℕ) (line body b0 : Form) (s : ℕ) → sc ≡ s ∷ scope → line ≡ All s b0 → body ≡ b0 → IsWithin v scope line → IsWithin v sc body
+code_within v scope sc line body b0 s es is eb w = rw (es, eb) (within_all v scope s b0 (subst (IsWithin v scope) is w))
+
+pub code_all : (t : Statements) (scope sc : List ℕ) (line body b0 : Form) (s : ℕ) (answer : Option (List Use)) → sc ≡ s ∷ scope → line ≡ All s b0 → body ≡ b0 → IsChosenUnder t sc body answer → IsChosenUnder t scope line answer
+code_all t scope sc line body b0 s answer es is eb h =
+    under_all t scope line s body answer (is ∙ ap (All s) (sym eb)) (subst (λ x. IsChosenUnder t x body answer) es h)
+
+pub code_imp : (t : Statements) (scope : List ℕ) (line l0 r0 l r : Form) (answer : Option (List Use)) → line ≡ Imp l0 r0 → l ≡ l0 → r ≡ r0 → IsChosen t scope l r answer → IsChosenUnder t scope line answer
+code_imp t scope line l0 r0 l r answer is el er h =
+    let at : line ≡ Imp l r = is ∙ (rw (el, er) refl) in
+    at_imp t scope line l r answer at h
+
+pub vocabulary_within : (v w : Vocabulary) (scope : List ℕ) (a : Form) → w ≡ v → IsWithin v scope a → IsWithin w scope a
+vocabulary_within v w scope a e h = subst (λ x. IsWithin x scope a) (sym e) h

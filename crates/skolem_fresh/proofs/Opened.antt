@@ -44,13 +44,13 @@ module _ (v : Vocabulary) (scope : List ℕ) (s : ℕ) (body : Form) (w : IsWith
 
   pub within_value : (x : Term) → sort_of_term v scope x ≡ Some s → IsWithin v scope (instance_of body x)
   within_value x e = record {
-    room = let room = body_room in let same = same_depth _ _ (placing x (λ d. d) (λ d. refl)) body 0 in omega (arith, same);
+    room = let room = body_room in let same : binder_depth (instance_at x 0 body) ≡ binder_depth body = same_depth (instance_term x) (instance_at x) (placing x (λ d. d) (λ d. refl)) body 0 in omega arith;
     sorted = let r = body_sorted in body_instance_sorted v scope 2147483647 s body x e w.sorted.scope_fits r.few_binders r.fits;
   }
 
   pub within_unused : has_variable 0 body ≡ false → IsWithin v scope (instance_of body (Var 0))
   within_unused no = record {
-    room = let room = body_room in let same = same_depth _ _ (placing (Var 0) (λ d. d) (λ d. refl)) body 0 in omega (arith, same);
+    room = let room = body_room in let same : binder_depth (instance_at (Var 0) 0 body) ≡ binder_depth body = same_depth (instance_term (Var 0)) (instance_at (Var 0)) (placing (Var 0) (λ d. d) (λ d. refl)) body 0 in omega arith;
     sorted = of_lifted_over v scope 2147483647 s (instance_at (Var 0) 0 body) (subst (SortedTo 2147483647 v (s ∷ scope)) (sym (unused_back (Var 0) body 0 no)) body_sorted);
   }
 

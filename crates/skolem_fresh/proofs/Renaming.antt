@@ -47,7 +47,7 @@ either : (b : Bool) → (b ≡ true) ⊎ (b ≡ false)
 either true = inl refl
 either false = inr refl
 
-sort_is : (r : Option ℕ) (s : ℕ) → is_sort r s ≡ true → r ≡ Some s
+pub sort_is : (r : Option ℕ) (s : ℕ) → is_sort r s ≡ true → r ≡ Some s
 sort_is None s e = cc
 sort_is (Some x) s e = let same : x ≡ s = grind (arith, nat_tests) in ap Some same
 
@@ -68,14 +68,14 @@ behind (y ∷ ys) back s (suc n) e = behind ys back s n (omega arith)
 at_turn : (xs back : List ℕ) (s : ℕ) → slice_get (reverse xs ++ s ∷ back) (length xs) ≡ Some s
 at_turn xs back s = behind (reverse xs) back s (length xs) (length-reverse xs)
 
-turn_more : (s : ℕ) (xs back : List ℕ) → reverse (s ∷ xs) ++ back ≡ reverse xs ++ s ∷ back
+pub turn_more : (s : ℕ) (xs back : List ℕ) → reverse (s ∷ xs) ++ back ≡ reverse xs ++ s ∷ back
 turn_more s xs back = ap (λ (ss : List ℕ). ss ++ back) (reverse-append (s ∷ []) xs) ∙ append_assoc (reverse xs) (s ∷ []) back
 
 module _ (v : Vocabulary) (old : List ℕ) where
-  abbrev sorts_at : List ℕ → List (Option ℕ)
+  abbrev pub sorts_at : List ℕ → List (Option ℕ)
   sorts_at xs = map (sort_of_term v old) (map Var xs)
 
-  args_length : (xs args : List ℕ) → are_sorts (sorts_at xs) args ≡ true → length args ≡ length xs
+  pub args_length : (xs args : List ℕ) → are_sorts (sorts_at xs) args ≡ true → length args ≡ length xs
   args_length [] [] e = refl
   args_length [] (s ∷ args) e = cc
   args_length (x ∷ xs) [] e = cc
@@ -100,7 +100,7 @@ module _ (v : Vocabulary) (old : List ℕ) where
       ]
 
 -- the arguments' own variables have the arguments' sorts
-own_sorts : (v : Vocabulary) (args back : List ℕ) → are_sorts (map (sort_of_term v (reverse args ++ back)) (variables (length args))) args ≡ true
+pub own_sorts : (v : Vocabulary) (args back : List ℕ) → are_sorts (map (sort_of_term v (reverse args ++ back)) (variables (length args))) args ≡ true
 own_sorts v [] back = refl
 own_sorts v (s ∷ args) back =
     let turned = turn_more s args back in
