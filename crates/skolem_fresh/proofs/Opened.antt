@@ -226,11 +226,14 @@ module _ (v : Vocabulary) (scope : List ℕ) (s : ℕ) (body : Form) (leaves sli
   its_sort = read_sort s (leaves_of 0 body) leaves found is_found
 
   pub misfit : (b : Bool) (value : Term) (old new : List Use) → value ≡ value_of found → b ≡ false → (IsTrue b ↔ (sort_of_term v scope value ≡ Some s)) → IsNext v scope s body leaves old new None
-  misfit b value old new ev no test = (it_occurs, λ u at fits.
-      let same : u ≡ found = one_use u found (read s (leaves_of 0 body) leaves) at is_found in
-      let fits' : sort_of_term v scope (value_of found) ≡ Some found.sort = subst (Fits v scope) same fits in
-      let t : IsTrue b = test.1 (ap (sort_of_term v scope) ev ∙ fits' ∙ ap Some its_sort) in
-      cc) where
+  misfit b value old new ev no test = (
+    it_occurs,
+    λ u at fits.
+        let same : u ≡ found = one_use u found (read s (leaves_of 0 body) leaves) at is_found in
+        let fits' : sort_of_term v scope (value_of found) ≡ Some found.sort = subst (Fits v scope) same fits in
+        let t : IsTrue b = test.1 (ap (sort_of_term v scope) ev ∙ fits' ∙ ap Some its_sort) in
+        cc,
+  ) where
     one_use : (u w : Use) (x : Option Use) → x ≡ Some u → x ≡ Some w → u ≡ w
     one_use u w x e f = cc
 

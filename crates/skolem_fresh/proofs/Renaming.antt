@@ -260,9 +260,9 @@ put_own (x ∷ xs) =
     let first : put_term (x ∷ xs) 0 (Var (length xs)) ≡ Var x =
     rw (here (Var x) (length xs + 0) (length xs) (omega arith), moves (length xs + 0) 0 x (omega arith), moved) (put_far xs 0 x ∙ ap Var whole) in
     rw first (ap (λ (ts : List Term). Var x ∷ ts) (rest (length xs) (omega arith) ∙ put_own xs)) where
-  rest : (n : ℕ) → n ≤ length xs → map (put_term (x ∷ xs) 0) (variables n) ≡ map (put_term xs 0) (variables n)
-  rest zero le = refl
-  rest (suc n) le = rw (smaller (Var x) (length xs + 0) n (omega arith), rest n (omega arith)) refl
+      rest : (n : ℕ) → n ≤ length xs → map (put_term (x ∷ xs) 0) (variables n) ≡ map (put_term xs 0) (variables n)
+      rest zero le = refl
+      rest (suc n) le = rw (smaller (Var x) (length xs + 0) n (omega arith), rest n (omega arith)) refl
 
 pub put_value : (xs : List ℕ) (f : ℕ) → put_term xs 0 (App f (variables (length xs))) ≡ value f xs
 put_value xs f = (putting_term xs 0).app f (variables (length xs)) ∙ ap (App f) (put_own xs)

@@ -34,10 +34,20 @@ module _ (t u : Statements) (same : t.vocabulary ≡ u.vocabulary) (fresh : (k :
       (sorts, left, right, k, uses, record { is = c.is; some = c.some; opened = c.opened; may = still_choose _ left uses c.may })
 
   pub skolem_alike : (parents : List Form) (line : Form) → IsSkolemStep t parents line → IsSkolemStep u parents line
-  skolem_alike parents line (i, (parent, norm, result, uses, at, s)) = (i, (parent, norm, result, uses, at, record {
-    of_parent = s.of_parent;
-    some = s.some;
-    replaced = subst (λ v. IsSkolemized v [] uses norm result) same s.replaced;
-    new = still_new uses s.new;
-    of_line = s.of_line;
-  }))
+  skolem_alike parents line (i, (parent, norm, result, uses, at, s)) = (
+    i,
+    (
+      parent,
+      norm,
+      result,
+      uses,
+      at,
+      record {
+        of_parent = s.of_parent;
+        some = s.some;
+        replaced = subst (λ v. IsSkolemized v [] uses norm result) same s.replaced;
+        new = still_new uses s.new;
+        of_line = s.of_line;
+      },
+    ),
+  )

@@ -66,12 +66,7 @@ fn push_all_leaves(
     Ok(())
 }
 
-fn push_term(
-    alloc: Global,
-    term: &Term,
-    depth: u32,
-    leaves: &mut List<Leaf>,
-) -> Result<(), Memory>
+fn push_term(alloc: Global, term: &Term, depth: u32, leaves: &mut List<Leaf>) -> Result<(), Memory>
     ensures { OnOk result (leaves.new ≡ leaves.old ++ leaf depth term.now ∷ []) }
 {
     let term = term.copy(alloc)?;

@@ -70,7 +70,16 @@ pub(crate) fn read_uses(
         Form::Ex(sort, body) => {
             match next_form(alloc, sig, scope, *sort, body.get(), leaves, uses)? {
                 Some(next) => {
-                    read_uses(alloc, sig, scope, count - 1, next.get(), right, leaves, uses)
+                    read_uses(
+                        alloc,
+                        sig,
+                        scope,
+                        count - 1,
+                        next.get(),
+                        right,
+                        leaves,
+                        uses,
+                    )
                 }
                 None => Ok(false),
             }

@@ -11,12 +11,7 @@ use tptp_base::{List, Memory};
 // The term that stands in the second where the variable stands first in the first.
 #[cycle(term_at)]
 #[tactic(auto, using(crate::specs::Reading::reading_equations))]
-fn term_at(
-    alloc: Global,
-    number: u32,
-    term: &Term,
-    other: &Term,
-) -> Result<Option<Term>, Memory>
+fn term_at(alloc: Global, number: u32, term: &Term, other: &Term) -> Result<Option<Term>, Memory>
     ensures { IfOk result (λ found. found ≡ found_term number term.now other.now) }
 {
     match term {

@@ -24,12 +24,7 @@ pub(crate) fn place_of(variables: &[u32], variable: u32) -> u32
 
 #[cycle(rename_term)]
 #[tactic(auto, using(crate::specs::Renamed::renamed_equations))]
-fn rename_term(
-    alloc: Global,
-    variables: &[u32],
-    term: &Term,
-    depth: u32,
-) -> Result<Term, Memory>
+fn rename_term(alloc: Global, variables: &[u32], term: &Term, depth: u32) -> Result<Term, Memory>
     requires { depth + length variables.now < 2 ^ 32 }
     ensures { IfOk result (λ made. made ≡ renamed_term variables.now depth term.now) }
 {
@@ -90,12 +85,7 @@ pub(crate) fn rename(
             members.as_slice(),
             depth,
         )?)),
-        Form::Or(members) => Ok(Form::Or(rename_all(
-            alloc,
-            variables,
-            members.as_slice(),
-            depth,
-        )?)),
+        Form::Or(members) => Ok(Form::Or(rename_all(alloc, variables, members.as_slice(), depth)?)),
         Form::Imp(left, right) => Ok(Form::Imp(
             rename_box(alloc, variables, left.get(), depth)?,
             rename_box(alloc, variables, right.get(), depth)?,

@@ -40,7 +40,16 @@ pub(crate) fn tell(
         Form::Imp(left, right) => {
             let count = leading(left.get()) - leading(right.get());
             let own = hyp(alloc, 0)?;
-            let part = lead(alloc, left.get(), right.get(), uses, count, first, own, entries)?;
+            let part = lead(
+                alloc,
+                left.get(),
+                right.get(),
+                uses,
+                count,
+                first,
+                own,
+                entries,
+            )?;
             imp_i(alloc, left.get().copy(alloc)?, part)
         }
         _ => Err(Memory),
@@ -72,7 +81,16 @@ fn lead(
                 let next = Boxed::new(alloc, instantiate(alloc, body, &Term::Var(0))?)?;
                 let own = hyp(alloc, 0)?;
                 let part = ex_e(alloc, next.get().copy(alloc)?, part, own)?;
-                return lead(alloc, next.get(), right, uses, count - 1, first, part, entries);
+                return lead(
+                    alloc,
+                    next.get(),
+                    right,
+                    uses,
+                    count - 1,
+                    first,
+                    part,
+                    entries,
+                );
             }
             if uses.is_empty() {
                 return Err(Memory);
@@ -85,7 +103,16 @@ fn lead(
             let told = rename(alloc, chosen.variables.as_slice(), body, 1)?;
             entries.push(Entry::Choice(chosen.function, told))?;
             let next = next_of(alloc, body, chosen)?;
-            lead(alloc, next.get(), right, &uses[1..], count - 1, after, part, entries)
+            lead(
+                alloc,
+                next.get(),
+                right,
+                &uses[1..],
+                count - 1,
+                after,
+                part,
+                entries,
+            )
         }
         _ => Err(Memory),
     }

@@ -10,8 +10,11 @@ use tptp_base::{Boxed, List, Memory};
 
 // The predicate q of two arguments, and functions: s of one argument, t of none, d of two.
 const Q: SymId = 0;
+
 const S: SymId = 1;
+
 const T: SymId = 2;
+
 const D: SymId = 3;
 
 fn declare(
