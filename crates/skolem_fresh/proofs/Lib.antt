@@ -6,6 +6,7 @@ pub mod Entering
 pub mod Finding
 pub mod Freely
 pub mod LeafLaws
+pub mod Leading
 pub mod Occurring
 pub mod OnlyLaws
 pub mod Openable

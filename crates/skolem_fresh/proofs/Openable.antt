@@ -61,7 +61,7 @@ all_still_only (w ∷ uses) xs a b f same only =
 
 module _ (v : Vocabulary) (scope : List ℕ) (k s : ℕ) (form body right : Form) (is : form ≡ Ex s body) where
   -- the formula is opened in one of two ways
-  opened_ways : (uses : List Use) → IsOpened (suc k) uses form right
+  pub opened_ways : (uses : List Use) → IsOpened (suc k) uses form right
       → ((has_variable 0 body ≡ true) × ((u : Use) × (rest : List Use) × (uses ≡ u ∷ rest) × (u.sort ≡ s) × IsOpened k rest (instance_of body (value_of u)) right))
       ⊎ ((has_variable 0 body ≡ false) × IsOpened k uses (instance_of body (Var 0)) right)
   opened_ways uses o =

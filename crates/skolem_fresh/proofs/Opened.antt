@@ -251,7 +251,7 @@ module _ (v : Vocabulary) (scope : List ℕ) (s : ℕ) (body : Form) (leaves sli
 pub own_leaves : (body : Form) (slice own start : List Leaf) → slice ≡ own → own ≡ start ++ leaves_of 0 body → start ≡ [] → slice ≡ leaves_of 0 body
 own_leaves body slice own start e f g = e ∙ f ∙ ap (λ (ls : List Leaf). ls ++ leaves_of 0 body) g
 
-more_than_none : (count : ℕ) → (count ≡ 0 → ⊥) → suc (count - 1) ≡ count
+pub more_than_none : (count : ℕ) → (count ≡ 0 → ⊥) → suc (count - 1) ≡ count
 more_than_none count n = omega arith
 
 module _ (v : Vocabulary) (scope : List ℕ) (count s : ℕ) (form body b0 : Form) (leaves : List Leaf) (old mid : List Use) (field : Option Form) (some : count ≡ 0 → ⊥) (is : form ≡ Ex s b0) (eb : body ≡ b0) (n : IsNext v scope s body leaves old mid field) where
