@@ -80,29 +80,29 @@ module _ (count s : ℕ) (form body b0 right : Form) (uses : List Use) (some : c
         → IsLed count uses form right n part old new made
     led_unused goal own no en eg eo es p =
         let step_is : step ≡ ExE (instance_of body (Var 0)) part (Hyp 0) = es ∙ (rw (eg, en, eo) refl) in
-        let leads : Leads (count - 1) uses (instance_of body (Var 0)) right p.told n step made = subst (λ a. Leads (count - 1) uses a right p.told n step made) en p.leads in
-        let are : AreTold (count - 1) uses (instance_of body (Var 0)) p.told = subst (λ a. AreTold (count - 1) uses a p.told) en p.are in
+        let rest_leads : Leads (count - 1) uses (instance_of body (Var 0)) right p.told n step made = subst (λ a. Leads (count - 1) uses a right p.told n step made) en p.leads in
+        let rest_are : AreTold (count - 1) uses (instance_of body (Var 0)) p.told = subst (λ a. AreTold (count - 1) uses a p.told) en p.are in
         subst (λ k. IsLed k uses form right n part old new made) counted (record {
           told = p.told;
           gained = p.gained;
-          are = (s, body, form_is, inr (no, are));
-          leads = unused_leads (count - 1) s form body right form_is uses p.told n part step made no step_is leads;
+          are = (s, body, form_is, inr (no, rest_are));
+          leads = unused_leads (count - 1) s form body right form_is uses p.told n part step made no step_is rest_leads;
         })
 
     pub led_used : (u : Use) (tail : List Use) (told : Form) (mid : List Entry) (after : ℕ) → has_variable 0 body ≡ true → uses ≡ u ∷ tail → told ≡ renamed u.variables 1 body → mid ≡ old ++ Choice u.function told ∷ [] → after ≡ n + 1
         → next ≡ instance_at (value_of u) 0 body → PartShows u.variables n part step → IsLed (count - 1) tail next right after step mid new made → IsLed count uses form right n part old new made
     led_used u tail told mid after yes parts et em ea en shows p =
-        let leads : Leads (count - 1) tail (instance_of body (value_of u)) right p.told (n + 1) step made =
+        let rest_leads : Leads (count - 1) tail (instance_of body (value_of u)) right p.told (n + 1) step made =
         subst (λ m. Leads (count - 1) tail (instance_of body (value_of u)) right p.told m step made) ea (subst (λ a. Leads (count - 1) tail a right p.told after step made) en p.leads) in
-        let are : AreTold (count - 1) tail (instance_of body (value_of u)) p.told = subst (λ a. AreTold (count - 1) tail a p.told) en p.are in
+        let rest_are : AreTold (count - 1) tail (instance_of body (value_of u)) p.told = subst (λ a. AreTold (count - 1) tail a p.told) en p.are in
         let first : Choice u.function told ≡ Choice u.function (renamed u.variables 1 body) = ap (Choice u.function) et in
         let all : new ≡ old ++ (Choice u.function (renamed u.variables 1 body) ∷ p.told) =
         p.gained ∙ ap (λ (es : List Entry). es ++ p.told) em ∙ append_assoc old (Choice u.function told ∷ []) p.told ∙ ap (λ e. old ++ (e ∷ p.told)) first in
         subst (λ k. IsLed k uses form right n part old new made) counted (record {
           told = Choice u.function (renamed u.variables 1 body) ∷ p.told;
           gained = all;
-          are = (s, body, form_is, inl (yes, (u, tail, parts, (p.told, refl, are))));
-          leads = used_leads (count - 1) s form body right form_is uses tail u p.told n part step made parts yes shows leads;
+          are = (s, body, form_is, inl (yes, (u, tail, parts, (p.told, refl, rest_are))));
+          leads = used_leads (count - 1) s form body right form_is uses tail u p.told n part step made parts yes shows rest_leads;
         })
 
 -- the part that a function's formula shows
