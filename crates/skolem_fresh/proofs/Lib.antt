@@ -12,5 +12,6 @@ pub mod OnlyLaws
 pub mod Openable
 pub mod Opened
 pub mod Readiness
+pub mod Reads
 pub mod Renaming
 pub mod Telling

@@ -43,9 +43,13 @@ fn are_same(left: &[u32], right: &[u32]) -> bool
 fn is_free(theory: &Theory, form: &Form, variables: &[u32], function: &Use) -> bool
     ensures { IsTrue result ↔ IsFree theory.now form.now variables.now function.now }
 {
-    are_same(function.variables.as_slice(), variables)
-        && !theory.uses(function.function)
-        && !occurs(function.function, form)
+    if !are_same(function.variables.as_slice(), variables) {
+        return false;
+    }
+    if theory.uses(function.function) {
+        return false;
+    }
+    !occurs(function.function, form)
 }
 
 // The same of each of the functions.
