@@ -1,5 +1,5 @@
 -- How far the loops that read have come.
-use Rattle.std.specs.Prelude.{ℕ, ◌≡◌, ◌+◌, ◌<◌, ◌≤◌, ◌||◌, Bool, true, false, IsTrue, ◌↔◌, List, [], ◌∷◌, ◌++◌, length, map, take, drop, get_or, slice_get, Option, Some, None, refl}
+use Rattle.std.specs.Prelude.{ℕ, ◌≡◌, ◌+◌, ◌<◌, ◌≤◌, ◌||◌, Bool, true, false, not, IsTrue, ◌↔◌, List, [], ◌∷◌, ◌++◌, length, map, take, drop, get_or, slice_get, Option, Some, None, refl}
 use Rattle.std.specs.List.{All as Every, list_any}
 use Rattle.std.specs.Option.{option_map}
 use Rattle.std.proofs.Common.{ap, sym, ◌∙◌, arith, zero, suc, add-one}
@@ -110,3 +110,19 @@ module _ (t : Statements) (left : Form) (xs : List ℕ) (u : Use) where
   is_free_by b c e yes same no used stands absent =
       let same' : IsTrue true ↔ (u.variables ≡ xs) = rw yes at same in
       record { same = same'.0 tt; fresh = none_has (occurs_in u.function) t.formulas (sym used ∙ no); absent = sym stands ∙ absent }
+
+-- the last test decides
+not_of : (e : Bool) → IsTrue (not e) → e ≡ false
+not_of true h = absurd h
+not_of false h = refl
+
+not_false : (e : Bool) → e ≡ false → IsTrue (not e)
+not_false true h = cc
+not_false false h = tt
+
+pub free_at_end : (t : Statements) (left : Form) (xs : List ℕ) (u : Use) (b c e : Bool) → b ≡ true → (IsTrue b ↔ (u.variables ≡ xs)) → c ≡ false → c ≡ list_any (occurs_in u.function) t.formulas → e ≡ occurs_in u.function left
+    → (IsTrue (not e) → IsFree t left xs u) × (IsFree t left xs u → IsTrue (not e))
+free_at_end t left xs u b c e yes same no used stands = (
+  λ h. is_free_by t left xs u b c e yes same no used stands (not_of e h),
+  λ h. not_false e (stands ∙ h.absent),
+)
