@@ -96,5 +96,8 @@ pub(crate) fn may_choose(
     if !are_free(theory, form, variables, uses) {
         return Ok(false);
     }
-    Ok(are_distinct(variables) && only_has(variables, form, 0))
+    if !are_distinct(variables) {
+        return Ok(false);
+    }
+    Ok(only_has(variables, form, 0))
 }
