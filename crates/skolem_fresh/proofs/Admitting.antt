@@ -32,7 +32,7 @@ use Rattle.skolem_fresh.specs.Choosing.{IsWithin}
 use Rattle.skolem_fresh.proofs.Opened.{body_room, body_sorted}
 use Rattle.skolem_fresh.proofs.Openable.{use_symbol}
 use Rattle.skolem_fresh.proofs.Occurring.{walk_occurs, walk_term_occurs, instance_occurs}
-use Rattle.skolem_fresh.proofs.Renaming.{renaming, renaming_term, sorts_at, args_length, place_sort, own_sorts, renamed_sorted, sort_is, turn_more}
+use Rattle.skolem_fresh.proofs.Argued.{renaming, renaming_term, sorts_at, args_length, place_sort, own_sorts, renamed_sorted, sort_is, turn_more}
 
 -- sorts that are there
 all_turned : (P : ℕ → Type 0) (xs ys : List ℕ) → Each P xs → Each P ys → Each P (reverse xs ++ ys)

@@ -1,4 +1,5 @@
 pub mod Admitting
+pub mod Argued
 pub mod Below
 pub mod Chosen
 pub mod Distinct
@@ -7,11 +8,10 @@ pub mod Finding
 pub mod Freely
 pub mod LeafLaws
 pub mod Leading
+pub mod LoopsRead
 pub mod Occurring
 pub mod OnlyLaws
 pub mod Openable
 pub mod Opened
 pub mod Readiness
-pub mod Reads
-pub mod Renaming
-pub mod Telling
+pub mod WholeLines

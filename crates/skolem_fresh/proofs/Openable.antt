@@ -32,7 +32,7 @@ use Rattle.skolem_fresh.specs.Choosing.{IsWithin}
 use Rattle.skolem_fresh.specs.Told.{AreTold, AddedFrom, IsOpenable, Leads, IsLed}
 use Rattle.skolem_fresh.proofs.Opened.{body_room, body_sorted, within_value, within_unused, value_reaches, unused_reaches}
 use Rattle.skolem_fresh.proofs.OnlyLaws.{only_unused, only_value, value_only}
-use Rattle.skolem_fresh.proofs.Renaming.{sorts_at, args_length, put, put_term, putting, put_back, put_instance, put_value, all_instances}
+use Rattle.skolem_fresh.proofs.Argued.{sorts_at, args_length, put, put_term, putting, put_back, put_instance, put_value, all_instances}
 
 -- what a term of a function says of the function
 made_parts : (k : Kind) (b : Bool) (r s : ℕ) → made_by k b r ≡ Some s → (k ≡ Function) × (b ≡ true) × (r ≡ s)

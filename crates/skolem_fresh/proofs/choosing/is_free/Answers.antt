@@ -1,4 +1,4 @@
-use Rattle.skolem_fresh.proofs.Reads.{not_same, not_fresh, is_free_by, free_at_end}
+use Rattle.skolem_fresh.proofs.LoopsRead.{not_same, not_fresh, is_free_by, free_at_end}
 use Rattle.skolem_fresh.proofs.choosing.is_free.Goals as goal
 
 pub returns-then-not-are_same : goal.returns-then-not-are_same

@@ -1,4 +1,4 @@
-use Rattle.skolem_fresh.proofs.Reads.{nothing_in_variable, no_term_left}
+use Rattle.skolem_fresh.proofs.LoopsRead.{nothing_in_variable, no_term_left}
 use Rattle.skolem_fresh.proofs.reading.+term_at.Goals as goal
 
 pub term_at-returns-in-Var-other : goal.term_at-returns-in-Var-other

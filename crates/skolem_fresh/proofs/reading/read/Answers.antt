@@ -1,4 +1,4 @@
-use Rattle.skolem_fresh.proofs.Reads.{no_leaf_left}
+use Rattle.skolem_fresh.proofs.LoopsRead.{no_leaf_left}
 use Rattle.skolem_fresh.proofs.reading.read.Goals as goal
 
 pub returns-then-i-others : goal.returns-then-i-others

@@ -34,7 +34,7 @@ use Rattle.skolem_fresh.specs.Told.{AreTold, AddedFrom, IsOpenable, Leads, IsLed
 use Rattle.skolem_fresh.proofs.Chosen.{scope_under, never_both, imp_room, within_all, within_left, within_start, arguments_only}
 use Rattle.skolem_fresh.proofs.Distinct.{same_among}
 use Rattle.skolem_fresh.proofs.Opened.{leading_opened}
-use Rattle.skolem_fresh.proofs.Renaming.{sorts_at, sort_is}
+use Rattle.skolem_fresh.proofs.Argued.{sorts_at, sort_is}
 use Rattle.skolem_fresh.proofs.Openable.{use_symbol}
 use Rattle.skolem_fresh.proofs.Entering.{formulas_told, enter, told_lacks, neither}
 use Rattle.skolem_fresh.proofs.Admitting.{for_all_occurs}
