@@ -1,5 +1,5 @@
 -- Lines that say of functions that they choose.
-use Rattle.std.specs.Prelude.{ℕ, ◌≡◌, ◌+◌, ◌-◌, ◌<◌, ◌≤◌, Bool, true, false, IsTrue, ◌↔◌, nat_eq, List, [], ◌∷◌, ◌++◌, length, reverse, Option, Some, None, get_or, slice_get, refl}
+use Rattle.std.specs.Prelude.{ℕ, ◌≡◌, ◌+◌, ◌-◌, ◌<◌, ◌≤◌, ◌==◌, Bool, true, false, IsTrue, ◌↔◌, nat_eq, List, [], ◌∷◌, ◌++◌, length, reverse, Option, Some, None, get_or, slice_get, refl}
 use Rattle.std.specs.List.{AllByRecursion as Each, IsDistinct}
 use Rattle.std.proofs.Common.{ap, sym, subst, ◌∙◌, arith, append_assoc, zero, suc}
 use Rattle.std.proofs.lemmas.List.{reverse-append, append-nil}
@@ -46,7 +46,7 @@ pub not_true : (b : Bool) (P : Type 0) → b ≡ false → (IsTrue b ↔ P) → 
 not_true b P e h p = let t : IsTrue b = h.1 p in cc
 
 pub is_true : (b : Bool) (P : Type 0) → b ≡ true → (IsTrue b ↔ P) → P
-is_true b P e h = let h' : IsTrue true ↔ P = rw e at h in h'.0 tt
+is_true b P e h = h.0 e
 
 -- functions that may choose
 all_free : (t : Statements) (left : Form) (xs : List ℕ) (uses : List Use) → Each (IsFree t left xs) uses → AreArguments xs left
@@ -72,7 +72,7 @@ arguments_only xs left a = form_only xs left 0 (λ k h. let same : k + 0 ≡ k =
 
 module _ (t : Statements) (left : Form) where
   pub no_functions : (functions : List ℕ) (uses : List Use) → functions ≡ functions_of uses → (IsDistinct nat_eq functions → ⊥) → MayChooseIfFit t left uses → ⊥
-  no_functions functions uses e no m = no (rw e m.new.distinct)
+  no_functions functions uses e off m = off (rw e m.new.distinct)
 
   pub none_choose : (uses : List Use) → uses ≡ [] → MayChooseIfFit t left uses
   unfolding IsDistinct
@@ -80,7 +80,7 @@ module _ (t : Statements) (left : Form) where
 
   module _ (functions : List ℕ) (uses : List Use) (u : Use) (e : functions ≡ functions_of uses) (first : slice_get uses 0 ≡ Some u) where
     pub not_free : (Each (IsFree t left u.variables) uses → ⊥) → MayChooseIfFit t left uses → ⊥
-    not_free no m = no (all_are t left u.variables m.variables uses (sym (same_first uses first m.same)) m.same m.new.fresh m.absent) where
+    not_free off m = off (all_are t left u.variables m.variables uses (sym (same_first uses first m.same)) m.same m.new.fresh m.absent) where
       same_first : (us : List Use) → slice_get us 0 ≡ Some u → Each (λ (w : Use). w.variables ≡ m.variables) us → u.variables ≡ m.variables
       same_first [] f h = cc
       same_first (w ∷ us) f h = let is : w ≡ u = cc in ap (λ (x : Use). x.variables) (sym is) ∙ h.0
@@ -90,7 +90,7 @@ module _ (t : Statements) (left : Form) where
     first_arguments (w ∷ us) f h = let is : w ≡ u = cc in subst (λ (x : Use). AreArguments x.variables left) is h.0
 
     pub not_arguments : (IsDistinct nat_eq u.variables → only_has u.variables 0 left ≡ true → ⊥) → MayChooseIfFit t left uses → ⊥
-    not_arguments no m = let a = first_arguments uses first m.arguments in no a.distinct (arguments_only u.variables left a)
+    not_arguments off m = let a = first_arguments uses first m.arguments in off a.distinct (arguments_only u.variables left a)
 
     pub all_choose : IsDistinct nat_eq functions → Each (IsFree t left u.variables) uses → IsDistinct nat_eq u.variables → only_has u.variables 0 left ≡ true → MayChooseIfFit t left uses
     all_choose d free xs only =
@@ -113,21 +113,21 @@ module _ (t : Statements) (scope : List ℕ) (left right : Form) where
     that_many k uses o = let total = leading_opened k uses left right o in omega arith
 
     pub none_chosen : (v : Vocabulary) (old new : List Use) (answer : Bool) → v ≡ t.vocabulary → answer ≡ false → IsRead v scope (before - after) left right old new answer → IsChosen t scope left right None
-    none_chosen v old new answer ev no r k uses some o m =
+    none_chosen v old new answer ev off r k uses some o m =
         let o' : IsOpened (before - after) uses left right = subst (λ n. IsOpened n uses left right) (that_many k uses o) o in
-        let yes : answer ≡ true = (r.complete uses o' (rw ev m.fits)).0 in
+        let on_ : answer ≡ true = (r.complete uses o' (rw ev m.fits)).0 in
         cc
 
     pub not_chosen : (v : Vocabulary) (old new : List Use) (answer : Bool) → v ≡ t.vocabulary → old ≡ [] → (MayChooseIfFit t left new → ⊥) → IsRead v scope (before - after) left right old new answer → IsChosen t scope left right None
-    not_chosen v old new answer ev eo no r k uses some o m =
+    not_chosen v old new answer ev eo off r k uses some o m =
         let o' : IsOpened (before - after) uses left right = subst (λ n. IsOpened n uses left right) (that_many k uses o) o in
         let same : new ≡ uses = (r.complete uses o' (rw ev m.fits)).1 ∙ ap (λ (us : List Use). us ++ uses) eo in
-        no (rw same (without_fits uses m))
+        off (rw same (without_fits uses m))
 
     pub is_chosen : (v : Vocabulary) (old new : List Use) (answer : Bool) → v ≡ t.vocabulary → old ≡ [] → after < before → answer ≡ true → MayChooseIfFit t left new → IsRead v scope (before - after) left right old new answer
         → IsChosen t scope left right (Some new)
-    is_chosen v old new answer ev eo lt yes m r =
-        let all = r.sound yes in
+    is_chosen v old new answer ev eo lt on_ m r =
+        let all = r.sound on_ in
         let same : new ≡ all.0 = all.1 ∙ ap (λ (us : List Use). us ++ all.0) eo in
         let fits : Each (Fits t.vocabulary scope) new = rw (sym ev, same) all.3 in
         let opened : IsOpened (before - after) new left right = rw same all.2 in
@@ -146,27 +146,29 @@ head_of (s ∷ sorts) l r = is_head-All s (for_all sorts (Imp l r))
 
 module _ (t : Statements) (scope : List ℕ) (line : Form) where
   pub no_head : (b : Bool) → b ≡ false → b ≡ is_head line → IsChosenUnder t scope line None
-  no_head b e f sorts left right k uses c = let yes : is_head line ≡ true = ap is_head c.is ∙ head_of sorts left right in let no : is_head line ≡ false = sym f ∙ e in cc
+  no_head b e f sorts left right k uses c = let on_ : is_head line ≡ true = ap is_head c.is ∙ head_of sorts left right in let off : is_head line ≡ false = sym f ∙ e in cc
+
+  not_under : (s : ℕ) (body : Form) → line ≡ All s body → IsChosenUnder t (s ∷ scope) body None → (left right : Form) (k : ℕ) (uses : List Use) (sorts : List ℕ) → ChoosesUnder t scope line sorts left right k uses → ⊥
+  not_under s body is h left right k uses [] c = never_both s body left right (sym is ∙ c.is)
+  not_under s body is h left right k uses (r ∷ ss) c =
+      let same = All-injective s r body (for_all ss (Imp left right)) (sym is ∙ c.is) in
+      let scopes : reverse (r ∷ ss) ++ scope ≡ reverse ss ++ s ∷ scope = scope_under r ss scope ∙ ap (λ x. reverse ss ++ x ∷ scope) (sym same.0) in
+      h ss left right k uses (record { is = same.1; some = c.some; opened = c.opened; may = subst (λ sc. MayChooseFor t sc left uses) scopes c.may })
 
   pub under_all : (s : ℕ) (body : Form) (answer : Option (List Use)) → line ≡ All s body → IsChosenUnder t (s ∷ scope) body answer → IsChosenUnder t scope line answer
-  under_all s body None is h sorts left right k uses c = shape sorts c where
-    shape : (ss : List ℕ) → ChoosesUnder t scope line ss left right k uses → ⊥
-    shape [] c = never_both s body left right (sym is ∙ c.is)
-    shape (r ∷ ss) c =
-        let same = All-injective s r body (for_all ss (Imp left right)) (sym is ∙ c.is) in
-        let scopes : reverse (r ∷ ss) ++ scope ≡ reverse ss ++ s ∷ scope = scope_under r ss scope ∙ ap (λ x. reverse ss ++ x ∷ scope) (sym same.0) in
-        h ss left right k uses (record { is = same.1; some = c.some; opened = c.opened; may = subst (λ sc. MayChooseFor t sc left uses) scopes c.may })
+  under_all s body None is h = λ sorts left right k uses c. not_under s body is h left right k uses sorts c
   under_all s body (Some uses) is h =
       let c = h.4 in
       (s ∷ h.0, h.1, h.2, h.3, record { is = is ∙ ap (All s) c.is; some = c.some; opened = c.opened; may = subst (λ sc. MayChooseFor t sc h.1 uses) (sym (scope_under s h.0 scope)) c.may })
 
+  not_at : (l r : Form) → line ≡ Imp l r → IsChosen t scope l r None → (left right : Form) (k : ℕ) (uses : List Use) (sorts : List ℕ) → ChoosesUnder t scope line sorts left right k uses → ⊥
+  not_at l r is h left right k uses [] c =
+      let same = Imp-injective l r left right (sym is ∙ c.is) in
+      h k uses c.some (rw (same.0, same.1) c.opened) (rw same.0 c.may)
+  not_at l r is h left right k uses (s ∷ ss) c = never_both s (for_all ss (Imp left right)) l r (sym c.is ∙ is)
+
   pub at_imp : (l r : Form) (answer : Option (List Use)) → line ≡ Imp l r → IsChosen t scope l r answer → IsChosenUnder t scope line answer
-  at_imp l r None is h sorts left right k uses c = shape sorts c where
-    shape : (ss : List ℕ) → ChoosesUnder t scope line ss left right k uses → ⊥
-    shape [] c =
-        let same = Imp-injective l r left right (sym is ∙ c.is) in
-        h k uses c.some (rw (same.0, same.1) c.opened) (rw same.0 c.may)
-    shape (s ∷ ss) c = never_both s (for_all ss (Imp left right)) l r (sym c.is ∙ is)
+  at_imp l r None is h = λ sorts left right k uses c. not_at l r is h left right k uses sorts c
   at_imp l r (Some uses) is h = ([], l, r, h.0, record { is = is; some = h.1; opened = h.2; may = h.3 })
 
 -- a line that stands under no quantifiers
@@ -206,3 +208,22 @@ code_imp t scope line l0 r0 l r answer is el er h =
 
 pub vocabulary_within : (v w : Vocabulary) (scope : List ℕ) (a : Form) → w ≡ v → IsWithin v scope a → IsWithin w scope a
 vocabulary_within v w scope a e h = subst (λ x. IsWithin x scope a) (sym e) h
+
+-- the tests of functions that fit, together
+pub may_choose_by : (t : Statements) (left : Form) (functions : List ℕ) (uses : List Use) (u : Use) (xs : List ℕ) (only : Bool) → functions ≡ functions_of uses → slice_get uses 0 ≡ Some u → xs ≡ u.variables
+    → (b : Bool) → b ≡ true → (IsTrue b ↔ IsDistinct nat_eq functions) → (d : Bool) → d ≡ true → (IsTrue d ↔ Each (IsFree t left xs) uses) → (e : Bool) → e ≡ true → (IsTrue e ↔ IsDistinct nat_eq xs) → only ≡ only_has xs 0 left
+    → (IsTrue only → MayChooseIfFit t left uses) × (MayChooseIfFit t left uses → IsTrue only)
+may_choose_by t left functions uses u xs only ef first ex b eb hb d ed hd e ee he is = (
+  λ h.
+      let xs_distinct : IsDistinct nat_eq u.variables = subst (IsDistinct nat_eq) ex (he.0 ee) in
+      let free : Each (IsFree t left u.variables) uses = subst (λ ys. Each (IsFree t left ys) uses) ex (hd.0 ed) in
+      let only' : only_has u.variables 0 left ≡ true = ap (λ ys. only_has ys 0 left) (sym ex) ∙ sym is ∙ h in
+      all_choose t left functions uses u ef first (hb.0 eb) free xs_distinct only',
+  λ m.
+      let a = first_arguments t left functions uses u ef first uses first m.arguments in
+      is ∙ ap (λ ys. only_has ys 0 left) ex ∙ arguments_only u.variables left a,
+)
+
+pub first_of_some : (uses : List Use) (u : Use) (b : Bool) → b ≡ false → b ≡ (length uses == 0) → u ≡ get_or uses 0 u → slice_get uses 0 ≡ Some u
+first_of_some [] u b e h is = let never : false ≡ true = sym e ∙ h in cc
+first_of_some (w ∷ uses) u b e h is = ap Some (sym is)

@@ -21,8 +21,8 @@ distinct_none = tt
 
 -- one more that is not among those before it
 pub distinct_more : (xs : List ℕ) (i y : ℕ) → i < length xs → y ≡ get_or xs i y → is_among (take i xs) y ≡ false → IsDistinct nat_eq (take i xs) → IsDistinct nat_eq (take (i + 1) xs)
-distinct_more xs i y lt is no h =
-    rw (take_more xs i y lt, sym is) (IsDistinct-push nat_eq_equiv (take i xs) y h (same_among (take i xs) y ∙ no))
+distinct_more xs i y lt is off h =
+    rw (take_more xs i y lt, sym is) (IsDistinct-push nat_eq_equiv (take i xs) y h (same_among (take i xs) y ∙ off))
 
 one_way : (a b : Bool) → (a || b) ≡ true → (a ≡ true) ⊎ (b ≡ true)
 one_way true b e = inl refl
@@ -63,3 +63,15 @@ pub contains_among : (xs : List ℕ) (k : ℕ) → Contains xs k → is_among xs
 contains_among [] k c = absurd (omega (arith, c.1))
 contains_among (x ∷ xs) k (zero, lt, e) = let same : x ≡ k = e in let here : (x == k) ≡ true = grind (arith, nat_tests) in rw here refl
 contains_among (x ∷ xs) k (suc i, lt, e) = or_true (x == k) (is_among xs k) (contains_among xs k (i, omega arith, e))
+
+-- as code meets them
+same_default : (xs : List ℕ) (i d e : ℕ) → i < length xs → get_or xs i d ≡ get_or xs i e
+same_default [] i d e lt = absurd (omega arith)
+same_default (x ∷ xs) zero d e lt = refl
+same_default (x ∷ xs) (suc i) d e lt = same_default xs i d e (omega arith)
+
+pub next_distinct : (xs : List ℕ) (i : ℕ) (b : Bool) → i < length xs → b ≡ is_among (take i xs) (get_or xs i 0) → b ≡ false → IsDistinct nat_eq (take i xs) → IsDistinct nat_eq (take (i + 1) xs)
+next_distinct xs i b lt is off h = distinct_more xs i (get_or xs i 0) lt (same_default xs i 0 (get_or xs i 0) lt) (sym is ∙ off) h
+
+pub not_all_distinct : (xs : List ℕ) (i : ℕ) (b : Bool) → i < length xs → b ≡ is_among (take i xs) (get_or xs i 0) → b ≡ true → IsDistinct nat_eq xs → ⊥
+not_all_distinct xs i b lt is on_ h = not_distinct xs i (get_or xs i 0) lt (same_default xs i 0 (get_or xs i 0) lt) (sym is ∙ on_) h

@@ -98,31 +98,30 @@ has_none f (x ∷ xs) h = both_false (f x) (list_any f xs) (h 0 x (omega arith))
 
 module _ (t : Statements) (left : Form) (xs : List ℕ) (u : Use) where
   pub not_same : (b : Bool) → b ≡ false → (IsTrue b ↔ (u.variables ≡ xs)) → IsFree t left xs u → ⊥
-  not_same b no e h = let yes : IsTrue b = e.1 h.same in cc
+  not_same b off e h = let on_ : IsTrue b = e.1 h.same in cc
 
   pub not_fresh : (b : Bool) → b ≡ true → b ≡ list_any (occurs_in u.function) t.formulas → IsFree t left xs u → ⊥
-  not_fresh b yes e h = let no : list_any (occurs_in u.function) t.formulas ≡ false = has_none (occurs_in u.function) t.formulas h.fresh in cc
+  not_fresh b on_ e h = let off : list_any (occurs_in u.function) t.formulas ≡ false = has_none (occurs_in u.function) t.formulas h.fresh in cc
 
   pub not_absent : (b : Bool) → b ≡ true → b ≡ occurs_in u.function left → IsFree t left xs u → ⊥
-  not_absent b yes e h = let no = h.absent in cc
+  not_absent b on_ e h = let off = h.absent in cc
 
   pub is_free_by : (b c e : Bool) → b ≡ true → (IsTrue b ↔ (u.variables ≡ xs)) → c ≡ false → c ≡ list_any (occurs_in u.function) t.formulas → e ≡ occurs_in u.function left → e ≡ false → IsFree t left xs u
-  is_free_by b c e yes same no used stands absent =
-      let same' : IsTrue true ↔ (u.variables ≡ xs) = rw yes at same in
-      record { same = same'.0 tt; fresh = none_has (occurs_in u.function) t.formulas (sym used ∙ no); absent = sym stands ∙ absent }
+  is_free_by b c e on_ same off used stands absent =
+      record { same = same.0 on_; fresh = none_has (occurs_in u.function) t.formulas (sym used ∙ off); absent = sym stands ∙ absent }
 
 -- the last test decides
 not_of : (e : Bool) → IsTrue (not e) → e ≡ false
-not_of true h = absurd h
+not_of true h = let never : false ≡ true = h in cc
 not_of false h = refl
 
 not_false : (e : Bool) → e ≡ false → IsTrue (not e)
 not_false true h = cc
-not_false false h = tt
+not_false false h = refl
 
 pub free_at_end : (t : Statements) (left : Form) (xs : List ℕ) (u : Use) (b c e : Bool) → b ≡ true → (IsTrue b ↔ (u.variables ≡ xs)) → c ≡ false → c ≡ list_any (occurs_in u.function) t.formulas → e ≡ occurs_in u.function left
     → (IsTrue (not e) → IsFree t left xs u) × (IsFree t left xs u → IsTrue (not e))
-free_at_end t left xs u b c e yes same no used stands = (
-  λ h. is_free_by t left xs u b c e yes same no used stands (not_of e h),
+free_at_end t left xs u b c e on_ same off used stands = (
+  λ h. is_free_by t left xs u b c e on_ same off used stands (not_of e h),
   λ h. not_false e (stands ∙ h.absent),
 )

@@ -49,9 +49,9 @@ module _ (v : Vocabulary) (scope : List ℕ) (s : ℕ) (body : Form) (w : IsWith
   }
 
   pub within_unused : has_variable 0 body ≡ false → IsWithin v scope (instance_of body (Var 0))
-  within_unused no = record {
+  within_unused off = record {
     room = let room = body_room in let same : binder_depth (instance_at (Var 0) 0 body) ≡ binder_depth body = same_depth (instance_term (Var 0)) (instance_at (Var 0)) (placing (Var 0) (λ d. d) (λ d. refl)) body 0 in omega arith;
-    sorted = of_lifted_over v scope 2147483647 s (instance_at (Var 0) 0 body) (subst (SortedTo 2147483647 v (s ∷ scope)) (sym (unused_back (Var 0) body 0 no)) body_sorted);
+    sorted = of_lifted_over v scope 2147483647 s (instance_at (Var 0) 0 body) (subst (SortedTo 2147483647 v (s ∷ scope)) (sym (unused_back (Var 0) body 0 off)) body_sorted);
   }
 
   pub value_reaches : (x : Term) → sort_of_term v scope x ≡ Some s → instance_reach x 0 body < 2 ^ 32
@@ -214,10 +214,10 @@ next_within v scope s body leaves old new next w n =
     ]
 
 -- As code meets these steps.
-module _ (v : Vocabulary) (scope : List ℕ) (s : ℕ) (body : Form) (leaves slice : List Leaf) (h : Bool) (yes : h ≡ true) (has : h ≡ has_variable 0 body) (own : slice ≡ leaves_of 0 body) (r : Option Use) (found : Use)
+module _ (v : Vocabulary) (scope : List ℕ) (s : ℕ) (body : Form) (leaves slice : List Leaf) (h : Bool) (on_ : h ≡ true) (has : h ≡ has_variable 0 body) (own : slice ≡ leaves_of 0 body) (r : Option Use) (found : Use)
     (is_read : r ≡ read s slice leaves) (there : r ≡ Some found) where
   it_occurs : has_variable 0 body ≡ true
-  it_occurs = sym has ∙ yes
+  it_occurs = sym has ∙ on_
 
   is_found : read s (leaves_of 0 body) leaves ≡ Some found
   is_found = ap (λ ls. read s ls leaves) (sym own) ∙ sym is_read ∙ there
@@ -226,7 +226,7 @@ module _ (v : Vocabulary) (scope : List ℕ) (s : ℕ) (body : Form) (leaves sli
   its_sort = read_sort s (leaves_of 0 body) leaves found is_found
 
   pub misfit : (b : Bool) (value : Term) (old new : List Use) → value ≡ value_of found → b ≡ false → (IsTrue b ↔ (sort_of_term v scope value ≡ Some s)) → IsNext v scope s body leaves old new None
-  misfit b value old new ev no test = (
+  misfit b value old new ev unfit test = (
     it_occurs,
     λ u at fits.
         let same : u ≡ found = one_use u found (read s (leaves_of 0 body) leaves) at is_found in
@@ -238,15 +238,15 @@ module _ (v : Vocabulary) (scope : List ℕ) (s : ℕ) (body : Form) (leaves sli
     one_use u w x e f = cc
 
   value_fits : (b : Bool) (value : Term) → value ≡ value_of found → b ≡ true → (IsTrue b ↔ (sort_of_term v scope value ≡ Some s)) → sort_of_term v scope (value_of found) ≡ Some s
-  value_fits b value ev yes test = let test' : IsTrue true ↔ (sort_of_term v scope value ≡ Some s) = rw yes at test in ap (sort_of_term v scope) (sym ev) ∙ test'.0 tt
+  value_fits b value ev fitting test = ap (sort_of_term v scope) (sym ev) ∙ test.0 fitting
 
   pub fit_reaches : (b : Bool) (value : Term) → IsWithin v scope (Ex s body) → value ≡ value_of found → b ≡ true → (IsTrue b ↔ (sort_of_term v scope value ≡ Some s)) → instance_reach value 0 body < 2 ^ 32
-  fit_reaches b value w ev yes test = rw ev (value_reaches v scope s body w (value_of found) (value_fits b value ev yes test))
+  fit_reaches b value w ev fitting test = rw ev (value_reaches v scope s body w (value_of found) (value_fits b value ev fitting test))
 
   pub fit : (b : Bool) (value : Term) (old new : List Use) (made next : Form) → value ≡ value_of found → b ≡ true → (IsTrue b ↔ (sort_of_term v scope value ≡ Some s)) → new ≡ old ++ found ∷ [] → made ≡ instance_of body value → next ≡ made
       → IsNext v scope s body leaves old new (Some next)
-  fit b value old new made next ev yes test en em ex =
-      inr (it_occurs, (found, is_found, value_fits b value ev yes test ∙ ap Some (sym its_sort), en, ex ∙ em ∙ ap (instance_of body) ev))
+  fit b value old new made next ev fitting test en em ex =
+      inr (it_occurs, (found, is_found, value_fits b value ev fitting test ∙ ap Some (sym its_sort), en, ex ∙ em ∙ ap (instance_of body) ev))
 
 pub own_leaves : (body : Form) (slice own start : List Leaf) → slice ≡ own → own ≡ start ++ leaves_of 0 body → start ≡ [] → slice ≡ leaves_of 0 body
 own_leaves body slice own start e f g = e ∙ f ∙ ap (λ (ls : List Leaf). ls ++ leaves_of 0 body) g

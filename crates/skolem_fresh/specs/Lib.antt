@@ -9,5 +9,4 @@ pub mod Only
 pub mod Reading
 pub mod Renamed
 pub mod SkolemRule
-pub mod Told
 pub mod Uses

@@ -38,7 +38,12 @@ pub(crate) fn push_leaves(
         Form::And(members) | Form::Or(members) => {
             push_all_leaves(alloc, members.as_slice(), depth, leaves)
         }
-        Form::Imp(left, right) | Form::Iff(left, right) => {
+        Form::Imp(left, right) => {
+            push_leaves(alloc, left.get(), depth, leaves)?;
+            push_leaves(alloc, right.get(), depth, leaves)?;
+            Ok(())
+        }
+        Form::Iff(left, right) => {
             push_leaves(alloc, left.get(), depth, leaves)?;
             push_leaves(alloc, right.get(), depth, leaves)?;
             Ok(())

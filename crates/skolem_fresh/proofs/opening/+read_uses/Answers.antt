@@ -10,9 +10,11 @@ read_uses-requires t c = (
   (
     step_within c.args.sig.now (scope_sorts c.args.scope.now) c.args.count c.in-Ex.sort c.args.form.now c.get.result.now c.in-Ex.body c.args.leaves.now c.args.uses.now c.next_form.new.uses c.in_ok-next-in-Ex.field-0 c.if-count-eq0.false c.in-Ex.is c.get.ensures c.in_ok-next-in-Ex.ensures
         c.in-Some.next c.get-in-Some.result.now c.in-Some.is c.get-in-Some.ensures c.requires.within,
-    step_enough c.args.sig.now (scope_sorts c.args.scope.now) c.args.count c.in-Ex.sort c.args.form.now c.get.result.now c.in-Ex.body c.args.leaves.now c.args.uses.now c.next_form.new.uses c.in_ok-next-in-Ex.field-0 c.if-count-eq0.false c.in-Ex.is c.get.ensures c.in_ok-next-in-Ex.ensures
-        c.in-Some.next c.get-in-Some.result.now c.in-Some.is c.get-in-Some.ensures c.requires.enough,
-    c.requires.leaves,
+    (
+      step_enough c.args.sig.now (scope_sorts c.args.scope.now) c.args.count c.in-Ex.sort c.args.form.now c.get.result.now c.in-Ex.body c.args.leaves.now c.args.uses.now c.next_form.new.uses c.in_ok-next-in-Ex.field-0 c.if-count-eq0.false c.in-Ex.is c.get.ensures c.in_ok-next-in-Ex.ensures
+          c.in-Some.next c.get-in-Some.result.now c.in-Some.is c.get-in-Some.ensures c.requires.enough,
+      c.requires.leaves,
+    ),
   ),
 )
 

@@ -17,7 +17,7 @@ returns-then-not-is_of_sort c =
     misfit c.args.sig.now (scope_sorts c.args.scope.now) c.args.sort c.args.body.now c.args.leaves.now c.as_slice.result.now c.has_variable.result c.if-not-has_variable.false c.has_variable.ensures
     (own_leaves c.args.body.now c.as_slice.result.now c.push_leaves.new.leaves c.new-own.result c.as_slice.ensures c.in_ok-push_leaves.ensures c.new-own.ensures)
     c.in_ok-found.field-0 c.in-Some.found c.in_ok-found.ensures c.in-Some.is
-    c.is_of_sort.result c.in_ok-value.value c.args.uses.now _ c.in_ok-value.ensures c.if-not-is_of_sort.true c.is_of_sort.ensures
+    c.is_of_sort.result c.in_ok-value.value c.args.uses.now c.args.uses.now c.in_ok-value.ensures c.if-not-is_of_sort.true c.is_of_sort.ensures
 
 pub instantiate-requires-2 : goal.instantiate-requires-2
 instantiate-requires-2 c =
