@@ -9,4 +9,5 @@ pub mod Only
 pub mod Reading
 pub mod Renamed
 pub mod SkolemRule
+pub mod Told
 pub mod Uses

@@ -5,12 +5,15 @@
 
 mod choice;
 mod choosing;
+mod entries;
 mod just;
 mod leaves;
 mod only;
 mod opening;
 mod reading;
 mod renaming;
+mod telling;
 
 pub use choice::choice_step;
+pub use entries::choice_entries;
 pub use just::{SkolemJust, Use};
