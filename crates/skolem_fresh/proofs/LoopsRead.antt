@@ -1,0 +1,127 @@
+-- How far the loops that read have come.
+use Rattle.std.specs.Prelude.{ℕ, ◌≡◌, ◌+◌, ◌<◌, ◌≤◌, ◌||◌, Bool, true, false, not, IsTrue, ◌↔◌, List, [], ◌∷◌, ◌++◌, length, map, take, drop, get_or, slice_get, Option, Some, None, refl}
+use Rattle.std.specs.List.{All as Every, list_any}
+use Rattle.std.specs.Option.{option_map}
+use Rattle.std.proofs.Common.{ap, sym, ◌∙◌, arith, zero, suc, add-one}
+use Rattle.std.proofs.lemmas.Option.{slice_get-map, slice_get-get_or}
+use Rattle.fof_terms.specs.declared.term.Term.{Term, Var, App}
+use Rattle.fof_terms.specs.declared.form.Form.{Form}
+use Rattle.fof_terms.specs.Occurs.{occurs_in}
+use Rattle.kernel.specs.Statements.{Statements}
+use Rattle.kernel.specs.Entries.{IsFresh}
+use Rattle.skolem_fresh.specs.declared.just.Use.{Use}
+use Rattle.skolem_fresh.specs.declared.leaves.Leaf.{Leaf}
+use Rattle.skolem_fresh.specs.Reading.{found_in, found_term, found_term-App-Var, read, all_there}
+use Rattle.skolem_fresh.specs.Choosing.{IsFree}
+
+none_in : (fs : List (Term → Option Term)) → found_in fs [] ≡ None
+none_in [] = refl
+none_in (f ∷ fs) = refl
+
+none_read : (s : ℕ) (ls : List Leaf) → read s ls [] ≡ None
+none_read s [] = refl
+none_read s (l ∷ ls) = refl
+
+past_end : {X : Type 0} (xs : List X) (i : ℕ) → length xs ≤ i → drop i xs ≡ []
+past_end [] zero h = refl
+past_end [] (suc i) h = refl
+past_end (x ∷ xs) zero h = absurd (omega arith)
+past_end (x ∷ xs) (suc i) h = past_end xs i (omega arith)
+
+-- a term against a variable
+pub nothing_in_variable : (n f k : ℕ) (ts : List Term) (term other : Term) → term ≡ App f ts → other ≡ Var k → None ≡ found_term n term other
+nothing_in_variable n f k ts term other is at = sym (rw (is, at) (found_term-App-Var n f ts k ∙ none_in (map (found_term n) ts)))
+
+pub no_term_left : (n i : ℕ) (terms others : List Term) → length others ≤ i → found_in (map (found_term n) (drop i terms)) (drop i others) ≡ found_in (map (found_term n) terms) others → None ≡ found_in (map (found_term n) terms) others
+no_term_left n i terms others le same = sym (none_in (map (found_term n) (drop i terms))) ∙ ap (λ (us : List Term). found_in (map (found_term n) (drop i terms)) us) (sym (past_end others i le)) ∙ same
+
+pub no_leaf_left : (s i : ℕ) (leaves others : List Leaf) → length others ≤ i → read s (drop i leaves) (drop i others) ≡ read s leaves others → None ≡ read s leaves others
+no_leaf_left s i leaves others le same = sym (none_read s (drop i leaves)) ∙ ap (λ (ms : List Leaf). read s (drop i leaves) ms) (sym (past_end others i le)) ∙ same
+
+-- members that are there
+some_of : {X : Type 0} (y : X) (xs : Option (List X)) (ys : List X) → option_map (λ zs. y ∷ zs) xs ≡ Some ys → (zs : List X) × (xs ≡ Some zs) × (ys ≡ y ∷ zs)
+some_of y None ys e = cc
+some_of y (Some zs) ys e = (zs, refl, cc)
+
+all_there_snoc : {X : Type 0} (xs : List (Option X)) (ys : List X) (y : X) → all_there xs ≡ Some ys → all_there (xs ++ Some y ∷ []) ≡ Some (ys ++ y ∷ [])
+all_there_snoc [] ys y e = let same : ys ≡ [] = cc in rw same refl
+all_there_snoc (None ∷ xs) ys y e = cc
+all_there_snoc (Some x ∷ xs) ys y e =
+    let inner = some_of x (all_there xs) ys e in
+    rw (inner.2, all_there_snoc xs inner.0 y inner.1) refl
+
+take_snoc : {X Y : Type 0} (f : X → Y) (xs : List X) (i : ℕ) (d : X) → i < length xs → map f (take (i + 1) xs) ≡ map f (take i xs) ++ f (get_or xs i d) ∷ []
+take_snoc f [] i d h = absurd (omega arith)
+take_snoc f (x ∷ xs) zero d h = refl
+take_snoc f (x ∷ xs) (suc i) d h =
+    let rest : map f (take (i + 1) xs) ≡ map f (take i xs) ++ f (get_or xs i d) ∷ [] = take_snoc f xs i d (omega arith) in
+    let rest' : map f (take (suc i) xs) ≡ map f (take i xs) ++ f (get_or xs i d) ∷ [] = rw add-one at rest in
+    rw add-one (ap (λ ys. f x ∷ ys) rest')
+
+pub more_there : {X Y : Type 0} (f : X → Option Y) (xs : List X) (i : ℕ) (x : X) (y : Y) (ys : List Y) → i < length xs → x ≡ get_or xs i x → f x ≡ Some y → all_there (map f (take i xs)) ≡ Some ys
+    → all_there (map f (take (i + 1) xs)) ≡ Some (ys ++ y ∷ [])
+more_there f xs i x y ys h is e before =
+    let last : f (get_or xs i x) ≡ Some y = ap f (sym is) ∙ e in
+    rw (take_snoc f xs i x h, last) (all_there_snoc (map f (take i xs)) ys y before)
+
+none_there : {X : Type 0} (xs : List (Option X)) (i : ℕ) → slice_get xs i ≡ Some None → all_there xs ≡ None
+none_there [] i e = cc
+none_there (None ∷ xs) i e = refl
+none_there (Some x ∷ xs) zero e = cc
+none_there (Some x ∷ xs) (suc i) e = rw (none_there xs i e) refl
+
+pub not_all_there : {X Y : Type 0} (f : X → Option Y) (xs : List X) (i : ℕ) (x : X) → i < length xs → x ≡ get_or xs i x → f x ≡ None → all_there (map f xs) ≡ None
+not_all_there f xs i x h is e =
+    let last : f (get_or xs i x) ≡ None = ap f (sym is) ∙ e in
+    none_there (map f xs) i (slice_get-map f xs i ∙ ap (option_map f) (slice_get-get_or xs i x h) ∙ ap Some last)
+
+-- a symbol that stands in none of the formulas
+first_false : (a b : Bool) → (a || b) ≡ false → a ≡ false
+first_false true b e = e
+first_false false b e = refl
+
+rest_false : (a b : Bool) → (a || b) ≡ false → b ≡ false
+rest_false true b e = cc
+rest_false false b e = e
+
+none_has : {X : Type 0} (f : X → Bool) (xs : List X) → list_any f xs ≡ false → Every (λ x. f x ≡ false) xs
+none_has f [] e k d lt = absurd (omega arith)
+none_has f (x ∷ xs) e zero d lt = first_false (f x) (list_any f xs) e
+none_has f (x ∷ xs) e (suc k) d lt = none_has f xs (rest_false (f x) (list_any f xs) e) k d (omega arith)
+
+both_false : (a b : Bool) → a ≡ false → b ≡ false → (a || b) ≡ false
+both_false a b e f = rw (e, f) refl
+
+has_none : {X : Type 0} (f : X → Bool) (xs : List X) → Every (λ x. f x ≡ false) xs → list_any f xs ≡ false
+has_none f [] h = refl
+has_none f (x ∷ xs) h = both_false (f x) (list_any f xs) (h 0 x (omega arith)) (has_none f xs (λ k d lt. h (suc k) d (omega arith)))
+
+module _ (t : Statements) (left : Form) (xs : List ℕ) (u : Use) where
+  pub not_same : (b : Bool) → b ≡ false → (IsTrue b ↔ (u.variables ≡ xs)) → IsFree t left xs u → ⊥
+  not_same b off e h = let on_ : IsTrue b = e.1 h.same in cc
+
+  pub not_fresh : (b : Bool) → b ≡ true → b ≡ list_any (occurs_in u.function) t.formulas → IsFree t left xs u → ⊥
+  not_fresh b on_ e h = let off : list_any (occurs_in u.function) t.formulas ≡ false = has_none (occurs_in u.function) t.formulas h.fresh in cc
+
+  pub not_absent : (b : Bool) → b ≡ true → b ≡ occurs_in u.function left → IsFree t left xs u → ⊥
+  not_absent b on_ e h = let off = h.absent in cc
+
+  pub is_free_by : (b c e : Bool) → b ≡ true → (IsTrue b ↔ (u.variables ≡ xs)) → c ≡ false → c ≡ list_any (occurs_in u.function) t.formulas → e ≡ occurs_in u.function left → e ≡ false → IsFree t left xs u
+  is_free_by b c e on_ same off used stands absent =
+      record { same = same.0 on_; fresh = none_has (occurs_in u.function) t.formulas (sym used ∙ off); absent = sym stands ∙ absent }
+
+-- the last test decides
+not_of : (e : Bool) → IsTrue (not e) → e ≡ false
+not_of true h = let never : false ≡ true = h in cc
+not_of false h = refl
+
+not_false : (e : Bool) → e ≡ false → IsTrue (not e)
+not_false true h = cc
+not_false false h = refl
+
+pub free_at_end : (t : Statements) (left : Form) (xs : List ℕ) (u : Use) (b c e : Bool) → b ≡ true → (IsTrue b ↔ (u.variables ≡ xs)) → c ≡ false → c ≡ list_any (occurs_in u.function) t.formulas → e ≡ occurs_in u.function left
+    → (IsTrue (not e) → IsFree t left xs u) × (IsFree t left xs u → IsTrue (not e))
+free_at_end t left xs u b c e on_ same off used stands = (
+  λ h. is_free_by t left xs u b c e on_ same off used stands (not_of e h),
+  λ h. not_false e (stands ∙ h.absent),
+)

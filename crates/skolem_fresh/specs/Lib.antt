@@ -1,0 +1,13 @@
+pub mod Alike
+pub mod ChoiceRule
+pub mod Choosing
+pub mod Heads
+pub mod Justified
+pub mod Leading
+pub mod Leaves
+pub mod Only
+pub mod Reading
+pub mod Renamed
+pub mod SkolemRule
+pub mod Told
+pub mod Uses
