@@ -1,0 +1,4 @@
+pub mod Arguments
+pub mod DefinitionRule
+pub mod SplitRule
+pub mod Renaming
