@@ -1,6 +1,6 @@
 -- The rule `split`: the line is a parent clause in which names stand for parts of it, each by a parent that says what the
 -- name stands for.
-use Rattle.std.specs.Prelude.{ℕ, ◌≡◌, List, [], ◌∷◌, ◌++◌, Some, slice_get, true}
+use Rattle.std.specs.Prelude.{ℕ, ◌≡◌, ◌<◌, List, [], ◌∷◌, ◌++◌, length, Some, slice_get}
 use Rattle.fof_terms.specs.declared.term.Term.{Term}
 use Rattle.fof_terms.specs.declared.form.Form.{Form, Atom, Iff}
 use Rattle.fof_terms.specs.Vocabulary.{Vocabulary}
@@ -36,14 +36,14 @@ unfolded line ds = all_beside (ds ++ line ∷ [])
 -- The parent of that number is a clause, and one or more parents name clauses. One substitution for the variables of the
 -- first covers it: each of its literals becomes one of the line or of what the names stand for, up to the sides of an
 -- equation, or is false by its form. The variables of the line and of what the names stand for are themselves.
-pub record SplitsAt (v : Vocabulary) (parents : List Form) (line : Form) (n : ℕ) (first : ℕ) (more_names : List ℕ) (e c : Clause) (ds : List Clause) (more : List ℕ) (s : ℕ → Term) : Type 0 where
+pub record SplitsAt (v : Vocabulary) (parents : List Form) (line : Form) (n : ℕ) (names : List ℕ) (e c : Clause) (ds : List Clause) (more : List ℕ) (s : ℕ → Term) : Type 0 where
   pub line_clause : clause_of line ≡ Some e
   pub form : Form
   pub at : slice_get parents n ≡ Some form
   pub clause : clause_of form ≡ Some c
-  pub names : AllName parents e (first ∷ more_names) ds
+  pub some_name : 0 < length names
+  pub named : AllName parents e names ds
   pub covers : CoversBy v (scope_of c) c.lits (unfolded e ds) more s
 
 abbrev pub IsSplitStep : Vocabulary → List Form → Form → Type 0
-IsSplitStep v parents line =
-    (n first : ℕ) × (more_names : List ℕ) × (e c : Clause) × (ds : List Clause) × (more : List ℕ) × (s : ℕ → Term) × SplitsAt v parents line n first more_names e c ds more s
+IsSplitStep v parents line = (n : ℕ) × (names : List ℕ) × (e c : Clause) × (ds : List Clause) × (more : List ℕ) × (s : ℕ → Term) × SplitsAt v parents line n names e c ds more s

@@ -3,5 +3,14 @@
 #![tactic(auto)]
 
 mod arguments;
+mod defining;
+mod definition;
+mod entries;
+mod just;
 mod renaming;
 mod speaking;
+mod valuing;
+
+pub use definition::definition_step;
+pub use entries::definition_entries;
+pub use just::SplitJust;
