@@ -47,7 +47,9 @@ pub lifted_off : (x u : Term) → instance_term x 0 (lifted_term 1 0 u) ≡ u
 lifted_off x = same_terms (λ u. instance_term x 0 (lifted_term 1 0 u)) (λ u. u) (both_terms (instance_term x 0) (lifted_term 1 0) (placing_term x 0) (lifting_term 1 0)) staying_term (off_one x)
 
 pub filled_value : (x u : Term) → instance_at x 0 (is_value u) ≡ Eq x u
-filled_value x u = instance_at-Eq x 0 (Var 0) (lifted_term 1 0 u) ∙ rw (here x 0 0 refl, lifted_nothing x, lifted_off x u) refl
+filled_value x u =
+    let both : Eq (instance_term x 0 (Var 0)) (instance_term x 0 (lifted_term 1 0 u)) ≡ Eq x u = rw (here x 0 0 refl, lifted_nothing x, lifted_off x u) refl in
+    instance_at-Eq x 0 (Var 0) (lifted_term 1 0 u) ∙ both
 
 moved_var : (xs : List ℕ) (k : ℕ) → renamed_term xs 1 (lifted_term 1 0 (Var k)) ≡ lifted_term 1 0 (renamed_term xs 0 (Var k))
 moved_var xs k =
@@ -198,25 +200,22 @@ module _ (v : Vocabulary) (k : ℕ) (symbol : Symbol) (xs scope : List ℕ) (n :
         fits = subst (λ (b : Form). is_sorted v (symbol.result ∷ reverse symbol.args) b ≡ true) (renamed_value xs u) (fits ∙ (is_value_sorted u value_sort).fits);
       }
 
-  pub may_choose : (w : Statements) → w.vocabulary ≡ v → IsFresh k w → MayChoose w k symbol (is_value (renamed_term xs 0 u))
-  may_choose w same fresh = subst (λ (x : Vocabulary). MayIn x) (sym same) here_may where
-    abbrev MayIn : Vocabulary → Type 0
-    MayIn x = MayChoose (record { vocabulary = x; formulas = w.formulas }) k symbol (is_value (renamed_term xs 0 u))
+  chosen_in : (formulas : List Form) → IsFresh k (record { vocabulary = v; formulas = formulas }) → MayChoose (record { vocabulary = v; formulas = formulas }) k symbol (is_value (renamed_term xs 0 u))
+  chosen_in formulas fresh = record {
+    found = found;
+    kind = is;
+    sorted = own_sorted;
+    fresh = fresh;
+    absent = rw (occurs_in-Eq, occurs_in_term-Var, lifted_occurs k (renamed_term xs 0 u), term_occurs xs k u 0, m.absent) refl;
+    added = subst (λ (b : Form). Sorted v [] b) (sym choosing_is) choice_fits;
+  }
 
-    here_may : MayIn v
-    here_may = record {
-      found = found;
-      kind = is;
-      sorted = own_sorted;
-      fresh = fresh;
-      absent = rw (occurs_in-Eq, occurs_in_term-Var, lifted_occurs k (renamed_term xs 0 u), term_occurs xs k u 0, m.absent) refl;
-      added = subst (λ (b : Form). Sorted v [] b) (sym choosing_is) choice_fits;
-    }
+  pub may_choose : (w : Statements) → w.vocabulary ≡ v → IsFresh k w → MayChoose w k symbol (is_value (renamed_term xs 0 u))
+  may_choose w same fresh = subst (λ (x : Vocabulary). MayChoose (record { vocabulary = x; formulas = w.formulas }) k symbol (is_value (renamed_term xs 0 u))) (sym same) (chosen_in w.formulas fresh)
 
 -- The equation by the choice.
-pub valued_shows : (t : Statements) (v : List ℕ) (h : List Form) (s : ℕ) (first : Bool) (head u : Term) (body : Form) (fact : Proof) → length v < 2147483647 → Equates first head u body → Sorted t.vocabulary (s ∷ v) (is_value u) → Sorted t.vocabulary (s ∷ v) (is_value head)
-    → Sorted t.vocabulary v (Ex s (is_value u)) → sort_of_term t.vocabulary v u ≡ Some s → sort_of_term t.vocabulary v head ≡ Some s → IsScope t.vocabulary v → Proves t v h fact (chosen s head u) → Proves t v h (valued_tree first s head u fact) body
-valued_shows t v h s first head u body fact small e su sh sx eu eh sc w = sided first e where
+module _ (t : Statements) (v : List ℕ) (h : List Form) (s : ℕ) (head u : Term) (fact : Proof) (small : length v < 2147483647) (sh : Sorted t.vocabulary (s ∷ v) (is_value head)) (sx : Sorted t.vocabulary v (Ex s (is_value u))) (eu : sort_of_term t.vocabulary v u ≡ Some s)
+    (eh : sort_of_term t.vocabulary v head ≡ Some s) (sc : IsScope t.vocabulary v) (w : Proves t v h fact (chosen s head u)) where
   itself : Proves t v h (Refl u) (instance_at u 0 (is_value u))
   itself = subst (λ (b : Form). Proves t v h (Refl u) b) (sym (filled_value u u)) (by_refl t v h u s sc eu)
 
@@ -226,6 +225,6 @@ valued_shows t v h s first head u body fact small e su sh sx eu eh sc w = sided 
   own : Proves t v h (Refl head) (instance_at head 0 (is_value head))
   own = subst (λ (b : Form). Proves t v h (Refl head) b) (sym (filled_value head head)) (by_refl t v h head s sc eh)
 
-  sided : (first : Bool) → Equates first head u body → Proves t v h (valued_tree first s head u fact) body
-  sided true e = subst (λ (b : Form). Proves t v h (value_tree s u fact) b) (sym e) equal
-  sided false e = subst (λ (b : Form). Proves t v h (Subst s (is_value head) (value_tree s u fact) (Refl head)) b) (filled_value u head ∙ sym e) (by_subst t v h s (is_value head) (value_tree s u fact) (Refl head) head u sh equal eh own)
+  pub valued_shows : (first : Bool) (body : Form) → Equates first head u body → Proves t v h (valued_tree first s head u fact) body
+  valued_shows true body e = subst (λ (b : Form). Proves t v h (value_tree s u fact) b) (sym e) equal
+  valued_shows false body e = subst (λ (b : Form). Proves t v h (Subst s (is_value head) (value_tree s u fact) (Refl head)) b) (filled_value u head ∙ sym e) (by_subst t v h s (is_value head) (value_tree s u fact) (Refl head) head u sh equal eh own)

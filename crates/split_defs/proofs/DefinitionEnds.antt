@@ -23,7 +23,7 @@ shape (form.Iff a b) = 3
 shape (form.All s a) = 4
 shape other = 0
 
-shape_of : Form → ℕ
+abbrev shape_of : Form → ℕ
 shape_of a = shape (out-Form a)
 
 of_eq : (l r : Term) → shape_of (Eq l r) ≡ 1
@@ -42,22 +42,22 @@ apart : (a b : Form) (m n : ℕ) → shape_of a ≡ m → shape_of b ≡ n → (
 apart a b m n ea eb other e = other (sym ea ∙ ap shape_of e ∙ eb)
 
 pub eq_not_all : (l r : Term) (s : ℕ) (a : Form) → Eq l r ≡ All s a → ⊥
-eq_not_all l r s a = apart (Eq l r) (All s a) 1 4 (of_eq l r) (of_all s a) (λ e. cc)
+eq_not_all l r s a = apart (Eq l r) (All s a) 1 4 (of_eq l r) (of_all s a) (λ e. omega arith)
 
 pub imp_not_all : (l r : Form) (s : ℕ) (a : Form) → Imp l r ≡ All s a → ⊥
-imp_not_all l r s a = apart (Imp l r) (All s a) 2 4 (of_imp l r) (of_all s a) (λ e. cc)
+imp_not_all l r s a = apart (Imp l r) (All s a) 2 4 (of_imp l r) (of_all s a) (λ e. omega arith)
 
 pub iff_not_all : (l r : Form) (s : ℕ) (a : Form) → Iff l r ≡ All s a → ⊥
-iff_not_all l r s a = apart (Iff l r) (All s a) 3 4 (of_iff l r) (of_all s a) (λ e. cc)
+iff_not_all l r s a = apart (Iff l r) (All s a) 3 4 (of_iff l r) (of_all s a) (λ e. omega arith)
 
 pub imp_not_iff : (a b c d : Form) → Imp a b ≡ Iff c d → ⊥
-imp_not_iff a b c d = apart (Imp a b) (Iff c d) 2 3 (of_imp a b) (of_iff c d) (λ e. cc)
+imp_not_iff a b c d = apart (Imp a b) (Iff c d) 2 3 (of_imp a b) (of_iff c d) (λ e. omega arith)
 
 imp_not_eq : (a b : Form) (l r : Term) → Imp a b ≡ Eq l r → ⊥
-imp_not_eq a b l r = apart (Imp a b) (Eq l r) 2 1 (of_imp a b) (of_eq l r) (λ e. cc)
+imp_not_eq a b l r = apart (Imp a b) (Eq l r) 2 1 (of_imp a b) (of_eq l r) (λ e. omega arith)
 
 iff_not_eq : (a b : Form) (l r : Term) → Iff a b ≡ Eq l r → ⊥
-iff_not_eq a b l r = apart (Iff a b) (Eq l r) 3 1 (of_iff a b) (of_eq l r) (λ e. cc)
+iff_not_eq a b l r = apart (Iff a b) (Eq l r) 3 1 (of_iff a b) (of_eq l r) (λ e. omega arith)
 
 -- What defines a symbol is no quantified formula.
 relates_not_all : (first : Bool) (head a body : Form) → Relates first head a body → (s : ℕ) (c : Form) → body ≡ All s c → ⊥
@@ -150,8 +150,8 @@ module _ (t : Statements) (line body : Form) (is : IsBody line body) where
 
   -- nothing else
   no_other : (k : ℕ) (first : Bool) → DefinesIn k first body → ((a b : Form) → body ≡ Iff a b → ⊥) → ((a b : Form) → body ≡ Imp a b → ⊥) → ((l r : Term) → body ≡ Eq l r → ⊥) → ⊥
-  no_other k true (inl p) iff imp eq = elim p.1.3 [ | inl e ↦ iff (Atom k (map Var p.1.0)) p.1.1 e | inr e ↦ imp (Atom k (map Var p.1.0)) p.1.1 e ]
-  no_other k false (inl p) iff imp eq = elim p.1.3 [ | inl e ↦ iff p.1.1 (Atom k (map Var p.1.0)) e | inr e ↦ imp p.1.1 (Atom k (map Var p.1.0)) e ]
+  no_other k true (inl p) iff imp eq = elim p.1.3 [ inl e ↦ iff (Atom k (map Var p.1.0)) p.1.1 e | inr e ↦ imp (Atom k (map Var p.1.0)) p.1.1 e ]
+  no_other k false (inl p) iff imp eq = elim p.1.3 [ inl e ↦ iff p.1.1 (Atom k (map Var p.1.0)) e | inr e ↦ imp p.1.1 (Atom k (map Var p.1.0)) e ]
   no_other k true (inr f) iff imp eq = eq (App k (map Var f.1.0)) f.1.1 f.1.3
   no_other k false (inr f) iff imp eq = eq f.1.1 (App k (map Var f.1.0)) f.1.3
 

@@ -97,12 +97,12 @@ back_var xs d k =
           let same : renamed_term xs d (Var k) ≡ Var (argument xs (k - d) + d) = rw (renamed_term-Var, le-ltb k d le) refl in
           ap (filled_term xs d) same ∙ placed (position (nat_eq (k - d)) xs) refl le
     ] where
-  placed : (o : Option ℕ) → position (nat_eq (k - d)) xs ≡ o → d ≤ k → filled_term xs d (Var (place_in (length xs) (k - d) o + d)) ≡ Var k
-  placed None e le = filled_high xs d (length xs + (k - d) + d) k le (omega arith)
-  placed (Some i) e le =
-      let at = first_place xs (k - d) i e in
-      let same : k - d + d ≡ k = omega arith in
-      filled_here xs d i (k - d) (length xs - 1 - i + d) at.1 at.0 refl ∙ ap Var same
+      placed : (o : Option ℕ) → position (nat_eq (k - d)) xs ≡ o → d ≤ k → filled_term xs d (Var (place_in (length xs) (k - d) o + d)) ≡ Var k
+      placed None e le = filled_high xs d (length xs + (k - d) + d) k le (omega arith)
+      placed (Some i) e le =
+          let at = first_place xs (k - d) i e in
+          let same : k - d + d ≡ k = omega arith in
+          filled_here xs d i (k - d) (length xs - 1 - i + d) at.1 at.0 refl ∙ ap Var same
 
 pub term_back : (xs : List ℕ) (d : ℕ) (t : Term) → filled_term xs d (renamed_term xs d t) ≡ t
 term_back xs d = same_terms (λ t. filled_term xs d (renamed_term xs d t)) (λ t. t) (both_terms (filled_term xs d) (renamed_term xs d) (filling_term xs d) (renaming_term xs d)) staying_term (back_var xs d)
@@ -126,7 +126,7 @@ place_of (y ∷ xs) (suc i) x apart at =
     let other : nat_eq x y ≡ false = member_false y xs i x apart.0 at in
     rw other (omega (arith, place_of xs i x apart.1 at))
 
-argument_at : (xs : List ℕ) (i x : ℕ) → IsDistinct nat_eq xs → slice_get xs i ≡ Some x → i < length xs → argument xs x ≡ length xs - 1 - i
+pub argument_at : (xs : List ℕ) (i x : ℕ) → IsDistinct nat_eq xs → slice_get xs i ≡ Some x → i < length xs → argument xs x ≡ length xs - 1 - i
 argument_at xs i x apart at lt =
     let place = place_of xs i x apart at in
     let below : nat_lt (position_or_len (nat_eq x) xs) (length xs) ≡ true = rw place (lt-ltb i (length xs) lt) in

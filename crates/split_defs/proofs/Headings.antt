@@ -135,9 +135,9 @@ module _ {S : Type 0} where
 
 -- neither side is one
 pub no_heads : (t : Statements) (l r : Form) (o p : Option ℕ) → o ≡ None → p ≡ None → IsFoundSymbol (Heads t l r) o → IsFoundSymbol (Heads t r l) p → (k : ℕ) (first : Bool) → HeadsAt t l r k first → ⊥
-no_heads t l r o p eo ep ho hp k true h = subst (λ (x : Option ℕ). IsFoundSymbol (Heads t l r) x) eo ho k h
-no_heads t l r o p eo ep ho hp k false h = subst (λ (x : Option ℕ). IsFoundSymbol (Heads t r l) x) ep hp k h
+no_heads t l r o p eo ep ho hp k true h = let none : (j : ℕ) → Heads t l r j → ⊥ = subst (λ (x : Option ℕ). IsFoundSymbol (Heads t l r) x) eo ho in none k h
+no_heads t l r o p eo ep ho hp k false h = let none : (j : ℕ) → Heads t r l j → ⊥ = subst (λ (x : Option ℕ). IsFoundSymbol (Heads t r l) x) ep hp in none k h
 
 pub no_values : (t : Statements) (l r : Term) (o p : Option ℕ) → o ≡ None → p ≡ None → IsFoundSymbol (Values t l r) o → IsFoundSymbol (Values t r l) p → (k : ℕ) (first : Bool) → ValuesAt t l r k first → ⊥
-no_values t l r o p eo ep ho hp k true h = subst (λ (x : Option ℕ). IsFoundSymbol (Values t l r) x) eo ho k h
-no_values t l r o p eo ep ho hp k false h = subst (λ (x : Option ℕ). IsFoundSymbol (Values t r l) x) ep hp k h
+no_values t l r o p eo ep ho hp k true h = let none : (j : ℕ) → Values t l r j → ⊥ = subst (λ (x : Option ℕ). IsFoundSymbol (Values t l r) x) eo ho in none k h
+no_values t l r o p eo ep ho hp k false h = let none : (j : ℕ) → Values t r l j → ⊥ = subst (λ (x : Option ℕ). IsFoundSymbol (Values t r l) x) ep hp in none k h

@@ -136,7 +136,6 @@ stated_fits Predicate fits is e = e
 -- A new predicate at variables, and its meaning.
 module _ (v : Vocabulary) (k : ℕ) (symbol : Symbol) (xs scope : List ℕ) (n : ℕ) (a : Form) (found : slice_get v.symbols k ≡ Some symbol) (is : symbol.kind ≡ Predicate) (m : IsMeaning k xs a)
     (r : SortedTo n v scope (Iff (Atom k (map Var xs)) a)) (room : n + length scope ≤ 2147483647) where
-
   pub predicate_sorts : HaveSorts scope symbol.args xs
   predicate_sorts =
       let sides = both (is_sorted v scope (Atom k (map Var xs))) (is_sorted v scope a) (rw is_sorted-Iff at r.fits) in
@@ -154,7 +153,8 @@ module _ (v : Vocabulary) (k : ℕ) (symbol : Symbol) (xs scope : List ℕ) (n :
   pub naming_is : naming k symbol (renamed xs 0 a) ≡ for_all symbol.args (renamed xs 0 (Iff (Atom k (map Var xs)) a))
   naming_is =
       let vars : map (renamed_term xs 0) (map Var xs) ≡ variables (length symbol.args) = arguments_are xs m.distinct ∙ ap variables (as_many scope symbol.args xs predicate_sorts) in
-      ap (for_all symbol.args) (sym (rw (renamed-Iff, renamed-Atom, vars) refl))
+      let inner : renamed xs 0 (Iff (Atom k (map Var xs)) a) ≡ Iff (Atom k (variables (length symbol.args))) (renamed xs 0 a) = rw (renamed-Iff, renamed-Atom, vars) refl in
+      ap (for_all symbol.args) (sym inner)
 
   pub added_fits : Sorted v [] (for_all symbol.args (renamed xs 0 (Iff (Atom k (map Var xs)) a)))
   added_fits =
@@ -162,17 +162,15 @@ module _ (v : Vocabulary) (k : ℕ) (symbol : Symbol) (xs scope : List ℕ) (n :
       subst (λ (x : List ℕ). SortedTo n v x (renamed xs 0 (Iff (Atom k (map Var xs)) a))) (sym (append-nil (reverse symbol.args))) (renamed_fits v scope symbol.args xs predicate_sorts m.distinct n (Iff (Atom k (map Var xs)) a) whole_speaks r) in
       raised v [] (n + length symbol.args) 2147483647 (for_all symbol.args (renamed xs 0 (Iff (Atom k (map Var xs)) a))) (omega (arith, room, few_arguments v scope symbol.args xs predicate_sorts m.distinct)) (closed_over v symbol.args [] n (renamed xs 0 (Iff (Atom k (map Var xs)) a)) inner)
 
-  pub may_name : (u : Statements) → u.vocabulary ≡ v → IsFresh k u → MayName u k symbol (renamed xs 0 a)
-  may_name u same fresh = subst (λ (w : Vocabulary). MayIn w) (sym same) here where
-    abbrev MayIn : Vocabulary → Type 0
-    MayIn w = MayName (record { vocabulary = w; formulas = u.formulas }) k symbol (renamed xs 0 a)
+  named_in : (formulas : List Form) → IsFresh k (record { vocabulary = v; formulas = formulas }) → MayName (record { vocabulary = v; formulas = formulas }) k symbol (renamed xs 0 a)
+  named_in formulas fresh = record {
+    found = found;
+    kind = is;
+    sorted = raised v (reverse symbol.args) n 2147483647 (renamed xs 0 a) (omega (arith, room)) (renamed_fits v scope symbol.args xs predicate_sorts m.distinct n a meaning_speaks (sorted_of_iff v scope n (Atom k (map Var xs)) a r).1);
+    fresh = fresh;
+    absent = form_occurs xs k a 0 ∙ m.absent;
+    added = subst (λ (b : Form). Sorted v [] b) (sym naming_is) added_fits;
+  }
 
-    here : MayIn v
-    here = record {
-      found = found;
-      kind = is;
-      sorted = raised v (reverse symbol.args) n 2147483647 (renamed xs 0 a) (omega (arith, room)) (renamed_fits v scope symbol.args xs predicate_sorts m.distinct n a meaning_speaks (sorted_of_iff v scope n (Atom k (map Var xs)) a r).1);
-      fresh = fresh;
-      absent = form_occurs xs k a 0 ∙ m.absent;
-      added = subst (λ (b : Form). Sorted v [] b) (sym naming_is) added_fits;
-    }
+  pub may_name : (u : Statements) → u.vocabulary ≡ v → IsFresh k u → MayName u k symbol (renamed xs 0 a)
+  may_name u same fresh = subst (λ (x : Vocabulary). MayName (record { vocabulary = x; formulas = u.formulas }) k symbol (renamed xs 0 a)) (sym same) (named_in u.formulas fresh)

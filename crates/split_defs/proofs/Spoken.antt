@@ -12,10 +12,10 @@ use Rattle.split_defs.specs.DefinitionRule.{IsAmong}
 use Rattle.split_defs.specs.Renaming.{speaks, speaks_in_term, speaks_in_term-Var, speaks_in_term-App, speaks-Atom, speaks-Eq, speaks-Not, speaks-And, speaks-Or, speaks-Imp, speaks-Iff, speaks-All, speaks-Ex}
 use Rattle.split_defs.proofs.Distinct.{is_equal, equals_itself, either}
 
-either_left : (a b : Bool) → a ≡ true → (a || b) ≡ true
+pub either_left : (a b : Bool) → a ≡ true → (a || b) ≡ true
 either_left a b e = rw e refl
 
-either_right : (a b : Bool) → b ≡ true → (a || b) ≡ true
+pub either_right : (a b : Bool) → b ≡ true → (a || b) ≡ true
 either_right true b e = refl
 either_right false b e = e
 
@@ -80,7 +80,7 @@ module _ (xs : List ℕ) where
   pair_has : (a b : Form) → FormHas a → FormHas b → (d m : ℕ) → d ≤ m → (speaks xs d a && speaks xs d b) ≡ true → (has_variable m a || has_variable m b) ≡ true → IsAmong (m - d) xs
   pair_has a b ih jh d m le e h =
       let parts = both (speaks xs d a) (speaks xs d b) e in
-      elim (either (has_variable m a) (has_variable m b) h) [ | inl here ↦ ih d m le parts.0 here | inr there ↦ jh d m le parts.1 there ]
+      elim (either (has_variable m a) (has_variable m b) h) [ inl here ↦ ih d m le parts.0 here | inr there ↦ jh d m le parts.1 there ]
 
   members_have : (as_ : List Form) → AllByRecursion FormHas as_ → (d m : ℕ) → d ≤ m → list_all (speaks xs d) as_ ≡ true → list_any (has_variable m) as_ ≡ true → IsAmong (m - d) xs
   members_have as_ all d m le e h =
@@ -97,7 +97,7 @@ module _ (xs : List ℕ) where
     atom = λ p ts d m le e h. any_speaks (speaks_in_term xs d) (has_in_term m) (IsAmong (m - d) xs) ts (each_term_has ts d m le) (rw speaks-Atom at e) (rw has_variable-Atom at h);
     eq = λ l r d m le e h.
         let parts = both (speaks_in_term xs d l) (speaks_in_term xs d r) (rw speaks-Eq at e) in
-        elim (either (has_in_term m l) (has_in_term m r) (rw has_variable-Eq at h)) [ | inl here ↦ term_has l d m le parts.0 here | inr there ↦ term_has r d m le parts.1 there ];
+        elim (either (has_in_term m l) (has_in_term m r) (rw has_variable-Eq at h)) [ inl here ↦ term_has l d m le parts.0 here | inr there ↦ term_has r d m le parts.1 there ];
     not = λ a ih d m le e h. ih d m le (rw speaks-Not at e) (rw has_variable-Not at h);
     and = λ as_ all d m le e h. members_have as_ all d m le (rw speaks-And at e) (rw has_variable-And at h);
     or = λ as_ all d m le e h. members_have as_ all d m le (rw speaks-Or at e) (rw has_variable-Or at h);

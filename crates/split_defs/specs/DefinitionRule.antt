@@ -72,11 +72,15 @@ module _ (t u : Statements) (same : t.vocabulary ≡ u.vocabulary) (fresh : (k :
   }
 
   pub defines_alike : (line : Form) (k : ℕ) (first : Bool) → Defines t line k first → Defines u line k first
-  defines_alike line k first d =
-      (d.0, d.1, d.2, elim d.3 [
-        | inl p ↦ inl (new_alike Predicate k p.0, p.1)
-        | inr f ↦ inr (new_alike Function k f.0, f.1)
-      ])
+  defines_alike line k first d = (
+    d.0,
+    d.1,
+    d.2,
+    elim d.3 [
+      | inl p ↦ inl (new_alike Predicate k p.0, p.1)
+      | inr f ↦ inr (new_alike Function k f.0, f.1)
+    ],
+  )
 
 pub definition_alike : (t u : Statements) (line : Form) → t.vocabulary ≡ u.vocabulary → ((k : ℕ) → IsFresh k t → IsFresh k u) → IsDefinitionStep t line → IsDefinitionStep u line
 definition_alike t u line same fresh d = (d.0, d.1, defines_alike t u same fresh line d.0 d.1 d.2)

@@ -1,6 +1,7 @@
 -- The rule `split`: the line is a parent clause in which names stand for parts of it, each by a parent that says what the
 -- name stands for.
-use Rattle.std.specs.Prelude.{ℕ, ◌≡◌, ◌<◌, List, [], ◌∷◌, ◌++◌, length, Some, slice_get}
+use Rattle.std.specs.Prelude.{ℕ, ◌≡◌, ◌<◌, ◌⊎◌, List, [], ◌∷◌, ◌++◌, length, Some, slice_get}
+use Rattle.std.proofs.Common.{zero, suc}
 use Rattle.fof_terms.specs.declared.term.Term.{Term}
 use Rattle.fof_terms.specs.declared.form.Form.{Form, Atom, Iff}
 use Rattle.fof_terms.specs.Vocabulary.{Vocabulary}
@@ -22,18 +23,19 @@ pub record Names (line : Clause) (form : Form) (c : Clause) : Type 0 where
   pub in_line : HasName line name
   pub clause : clause_of meaning ≡ Some c
 
--- the parents of these numbers, counted from 0, say so of these clauses
-abbrev pub AllName : List Form → Clause → List ℕ → List Clause → Type 0
-AllName parents line [] [] = Unit {0}
-AllName parents line [] (d ∷ ds) = ⊥
-AllName parents line (n ∷ ns) [] = ⊥
-AllName parents line (n ∷ ns) (d ∷ ds) = ((form : Form) × (slice_get parents n ≡ Some form) × Names line form d) × AllName parents line ns ds
+-- among the first i parents these, by their numbers, and no others say so, of these clauses in turn
+abbrev pub AllName : List Form → Clause → ℕ → List ℕ → List Clause → Type 0
+AllName parents line zero names ds = (names ≡ []) × (ds ≡ [])
+AllName parents line (suc i) names ds =
+    ((form : Form) × (d : Clause) × (slice_get parents i ≡ Some form) × Names line form d × ((before : List ℕ) × (others : List Clause) × (names ≡ before ++ i ∷ []) × (ds ≡ others ++ d ∷ []) × AllName parents line i before others))
+    ⊎ (((form : Form) (d : Clause) → slice_get parents i ≡ Some form → Names line form d → ⊥) × AllName parents line i names ds)
 
 -- the line together with what its names stand for, the variables of each kept apart
 abbrev pub unfolded : Clause → List Clause → Clause
 unfolded line ds = all_beside (ds ++ line ∷ [])
 
--- The parent of that number is a clause, and one or more parents name clauses. One substitution for the variables of the
+-- The parent of that number is a clause, and one or more parents name clauses; all that do are taken, since one that is not
+-- needed does no harm. One substitution for the variables of the
 -- first covers it: each of its literals becomes one of the line or of what the names stand for, up to the sides of an
 -- equation, or is false by its form. The variables of the line and of what the names stand for are themselves.
 pub record SplitsAt (v : Vocabulary) (parents : List Form) (line : Form) (n : ℕ) (names : List ℕ) (e c : Clause) (ds : List Clause) (more : List ℕ) (s : ℕ → Term) : Type 0 where
@@ -42,7 +44,7 @@ pub record SplitsAt (v : Vocabulary) (parents : List Form) (line : Form) (n : �
   pub at : slice_get parents n ≡ Some form
   pub clause : clause_of form ≡ Some c
   pub some_name : 0 < length names
-  pub named : AllName parents e names ds
+  pub named : AllName parents e (length parents) names ds
   pub covers : CoversBy v (scope_of c) c.lits (unfolded e ds) more s
 
 abbrev pub IsSplitStep : Vocabulary → List Form → Form → Type 0

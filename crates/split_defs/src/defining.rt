@@ -13,7 +13,7 @@ ghost use Rattle.split_defs.specs.Trees.{all_tree, turned_tree, forth_tree, back
 
 use crate::arguments::names_of;
 use crate::renaming::rename;
-use derive_kit::{Part, all_i, hyp, imp_e, iff_i, iff_l, iff_r, imp_i, instance_of};
+use derive_kit::{Part, all_i, hyp, iff_i, iff_l, iff_r, imp_e, imp_i, instance_of};
 use fof_terms::{Form, SymId, Term, copy_terms};
 use kernel::{Entry, Proof, Theory};
 use std::alloc::Global;
@@ -40,8 +40,9 @@ pub fn predicate_entries(
     let Form::Atom(_, args) = head else {
         return Err(Memory);
     };
-    let own = over_arguments(alloc, args.as_slice(), meaning)?;
-    let fact = at_arguments(alloc, theory.len(), args.as_slice())?;
+    let args = args.as_slice();
+    let own = over_arguments(alloc, args, meaning)?;
+    let fact = at_arguments(alloc, theory.len(), args)?;
     let inner = related(alloc, body, first, fact)?;
     let whole = under_all(alloc, line, inner)?;
     name_entries(alloc, symbol, own, whole)
@@ -147,7 +148,12 @@ pub fn under_all(alloc: Global, line: &Form, part: Part) -> Result<Part, Memory>
 }
 
 // That the predicate names the formula, and the line.
-fn name_entries(alloc: Global, symbol: SymId, own: Boxed<Form>, whole: Part) -> Result<List<Entry>, Memory>
+fn name_entries(
+    alloc: Global,
+    symbol: SymId,
+    own: Boxed<Form>,
+    whole: Part,
+) -> Result<List<Entry>, Memory>
     ensures { IfOk result (λ entries. entries ≡ Name symbol own ∷ Lemma whole ∷ []) }
 {
     let mut entries = List::new(alloc);

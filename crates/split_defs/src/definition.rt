@@ -9,7 +9,7 @@ ghost use Rattle.split_defs.specs.DefinitionSearch.{Heads, Values, HeadsAt, Valu
 use crate::arguments::names_of;
 use crate::just::SplitJust;
 use crate::speaking::{form_speaks, term_speaks};
-use fof_terms::{Form, Kind, SymId, Term, occurs, occurs_in_term};
+use fof_terms::{Form, Kind, SymId, Symbol, Term, occurs, occurs_in_term};
 use kernel::Theory;
 use std::alloc::Global;
 use tptp_base::Memory;
@@ -153,7 +153,14 @@ fn is_new(theory: &Theory, kind: Kind, number: SymId) -> bool
     ensures { IsTrue result ↔ IsNew theory.now kind number }
 {
     match theory.signature().symbol(number) {
-        Some(symbol) => symbol.kind == kind && !theory.uses(number),
+        Some(symbol) => has_kind(symbol, kind) && !theory.uses(number),
         None => false,
     }
+}
+
+// Whether the symbol is of the kind.
+fn has_kind(symbol: &Symbol, kind: Kind) -> bool
+    ensures { IsTrue result ↔ (symbol.now.kind ≡ kind) }
+{
+    symbol.kind == kind
 }

@@ -30,7 +30,16 @@ pub fn definition_entries(
     let body = body_of(line);
     match body {
         Form::Iff(left, right) | Form::Imp(left, right) => {
-            relation_entries(alloc, theory, symbol, first, line, body, left.get(), right.get())
+            relation_entries(
+                alloc,
+                theory,
+                symbol,
+                first,
+                line,
+                body,
+                left.get(),
+                right.get(),
+            )
         }
         Form::Eq(left, right) => {
             equation_entries(alloc, theory, symbol, first, line, body, left, right)

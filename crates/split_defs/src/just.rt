@@ -6,7 +6,10 @@ use unify_terms::Subst;
 #[derive(Drop)]
 pub enum SplitJust {
     /// Under its quantifiers the line defines the symbol, which stands first or second there.
-    Definition { symbol: SymId, first: bool },
+    Definition {
+        symbol: SymId,
+        first: bool,
+    },
     /// The line has names for parts of the parent, and these other parents say what the names stand for. The substitution
     /// has the images of the line's variables, then those of the parts that the definitions name, the last definition
     /// first, all of which stand for themselves, and then those of the parent's variables.

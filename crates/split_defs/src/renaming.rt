@@ -30,7 +30,12 @@ fn new_number(names: &IndexSet<u32>, distance: u32, depth: u32) -> u32
 /// The term over the arguments that these variables are, the last of which is number 0, so many binders within.
 #[tactic(auto, using(crate::specs::Renaming::renamed_equations, crate::specs::Renaming::speaks_equations))]
 #[cycle(rename_term)]
-pub fn rename_term(alloc: Global, names: &IndexSet<u32>, term: &Term, depth: u32) -> Result<Term, Memory>
+pub fn rename_term(
+    alloc: Global,
+    names: &IndexSet<u32>,
+    term: &Term,
+    depth: u32,
+) -> Result<Term, Memory>
     requires among { speaks_in_term names.now.keys depth term.now ≡ true }
     requires room { length names.now.keys + depth < 2 ^ 32 }
     ensures { IfOk result (λ made. made ≡ renamed_term names.now.keys depth term.now) }
@@ -46,7 +51,12 @@ pub fn rename_term(alloc: Global, names: &IndexSet<u32>, term: &Term, depth: u32
 
 #[tactic(auto, using(crate::specs::Renaming::renamed_equations, crate::specs::Renaming::speaks_equations))]
 #[cycle(rename_term)]
-fn rename_terms(alloc: Global, names: &IndexSet<u32>, terms: &[Term], depth: u32) -> Result<List<Term>, Memory>
+fn rename_terms(
+    alloc: Global,
+    names: &IndexSet<u32>,
+    terms: &[Term],
+    depth: u32,
+) -> Result<List<Term>, Memory>
     requires among { list_all (speaks_in_term names.now.keys depth) terms.now ≡ true }
     requires room { length names.now.keys + depth < 2 ^ 32 }
     ensures { IfOk result (λ made. made ≡ map (renamed_term names.now.keys depth) terms.now) }
@@ -86,14 +96,25 @@ pub fn rename(alloc: Global, names: &IndexSet<u32>, form: &Form, depth: u32) -> 
             rename_box(alloc, names, left.get(), depth)?,
             rename_box(alloc, names, right.get(), depth)?,
         )),
-        Form::All(sort, body) => Ok(Form::All(*sort, rename_box(alloc, names, body.get(), depth + 1)?)),
-        Form::Ex(sort, body) => Ok(Form::Ex(*sort, rename_box(alloc, names, body.get(), depth + 1)?)),
+        Form::All(sort, body) => Ok(Form::All(
+            *sort,
+            rename_box(alloc, names, body.get(), depth + 1)?,
+        )),
+        Form::Ex(sort, body) => Ok(Form::Ex(
+            *sort,
+            rename_box(alloc, names, body.get(), depth + 1)?,
+        )),
     }
 }
 
 #[tactic(auto, using(crate::specs::Renaming::renamed_equations))]
 #[cycle(rename)]
-fn rename_box(alloc: Global, names: &IndexSet<u32>, form: &Form, depth: u32) -> Result<Boxed<Form>, Memory>
+fn rename_box(
+    alloc: Global,
+    names: &IndexSet<u32>,
+    form: &Form,
+    depth: u32,
+) -> Result<Boxed<Form>, Memory>
     requires among { speaks names.now.keys depth form.now ≡ true }
     requires room { length names.now.keys + depth + binder_depth form.now < 2 ^ 32 }
     ensures { IfOk result (λ made. made ≡ renamed names.now.keys depth form.now) }
@@ -103,7 +124,12 @@ fn rename_box(alloc: Global, names: &IndexSet<u32>, form: &Form, depth: u32) -> 
 
 #[tactic(auto, using(crate::specs::Renaming::renamed_equations))]
 #[cycle(rename)]
-fn rename_all(alloc: Global, names: &IndexSet<u32>, forms: &[Form], depth: u32) -> Result<List<Form>, Memory>
+fn rename_all(
+    alloc: Global,
+    names: &IndexSet<u32>,
+    forms: &[Form],
+    depth: u32,
+) -> Result<List<Form>, Memory>
     requires among { list_all (speaks names.now.keys depth) forms.now ≡ true }
     requires room { length names.now.keys + depth + greatest (map binder_depth forms.now) < 2 ^ 32 }
     ensures { IfOk result (λ made. made ≡ map (renamed names.now.keys depth) forms.now) }

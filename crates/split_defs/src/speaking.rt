@@ -42,7 +42,8 @@ pub fn form_speaks(names: &IndexSet<u32>, form: &Form, depth: u32) -> bool
 {
     match form {
         Form::Atom(_, args) => terms_speak(names, args.as_slice(), depth),
-        Form::Eq(left, right) => term_speaks(names, left, depth) && term_speaks(names, right, depth),
+        Form::Eq(left, right) => term_speaks(names, left, depth)
+            && term_speaks(names, right, depth),
         Form::Not(body) => form_speaks(names, body.get(), depth),
         Form::And(members) | Form::Or(members) => forms_speak(names, members.as_slice(), depth),
         Form::Imp(left, right) | Form::Iff(left, right) => {

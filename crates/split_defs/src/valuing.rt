@@ -44,9 +44,10 @@ pub fn function_entries(
     let Some(result) = result_of(theory.signature(), symbol) else {
         return Err(Memory);
     };
-    let own = value_over(alloc, args.as_slice(), value)?;
-    let own = hole(alloc, &own)?;
-    let fact = at_arguments(alloc, theory.len(), args.as_slice())?;
+    let args = args.as_slice();
+    let value_of_arguments = value_over(alloc, args, value)?;
+    let own = hole(alloc, &value_of_arguments)?;
+    let fact = at_arguments(alloc, theory.len(), args)?;
     let inner = equated(alloc, result, first, head, value, fact)?;
     let whole = under_all(alloc, line, inner)?;
     choice_entries(alloc, symbol, own, whole)
