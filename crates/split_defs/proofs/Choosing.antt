@@ -67,9 +67,8 @@ renamed_lifted xs = same_terms (λ u. renamed_term xs 1 (lifted_term 1 0 u)) (λ
 
 pub renamed_value : (xs : List ℕ) (u : Term) → renamed xs 1 (is_value u) ≡ is_value (renamed_term xs 0 u)
 renamed_value xs u =
-    let below : nat_lt 0 1 ≡ true = lt-ltb 0 1 (omega arith) in
-    let first : renamed_term xs 1 (Var 0) ≡ Var 0 = rw (renamed_term-Var, below) refl in
-    rw (renamed-Eq, first, renamed_lifted xs u) refl
+    let first : renamed_term xs 1 (Var 0) ≡ Var 0 = renamed_term-Var xs 1 0 in
+    renamed-Eq xs 1 (Var 0) (lifted_term 1 0 u) ∙ ap (λ (x : Term). Eq x (renamed_term xs 1 (lifted_term 1 0 u))) first ∙ ap (Eq (Var 0)) (renamed_lifted xs u)
 
 -- what was lifted has the same symbols, and speaks of the same variables
 lifted_var_occurs : (k j : ℕ) → occurs_in_term k (lifted_term 1 0 (Var j)) ≡ occurs_in_term k (Var j)
@@ -158,8 +157,7 @@ module _ (v : Vocabulary) (k : ℕ) (symbol : Symbol) (xs scope : List ℕ) (n :
 
   hole_speaks : speaks xs 1 (is_value u) ≡ true
   hole_speaks =
-      let below : nat_lt 0 1 ≡ true = lt-ltb 0 1 (omega arith) in
-      let first : speaks_in_term xs 1 (Var 0) ≡ true = rw (speaks_in_term-Var, below) refl in
+      let first : speaks_in_term xs 1 (Var 0) ≡ true = speaks_in_term-Var xs 1 0 in
       rw speaks-Eq (and_true (speaks_in_term xs 1 (Var 0)) (speaks_in_term xs 1 (lifted_term 1 0 u)) first (lifted_speaks xs u ∙ value_speaks))
 
   chosen_speaks : speaks xs 0 (chosen symbol.result (App k (map Var xs)) u) ≡ true

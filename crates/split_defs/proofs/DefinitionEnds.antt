@@ -114,16 +114,16 @@ module _ (t : Statements) (line body : Form) (is : IsBody line body) where
   joins_not_eq l r x y (inr e) f = imp_not_eq l r x y (sym e ∙ f)
 
   heads_define : (l r : Form) → Joins l r → (k : ℕ) (first : Bool) → HeadsAt t l r k first → DefinesIn k first body
-  heads_define l r j k true h = inl (h.0, (h.1.0, (r, (h.1.2, subst (λ (b : Form). Relates true b r body) h.1.1 (relates_first l r j)))))
-  heads_define l r j k false h = inl (h.0, (h.1.0, (l, (h.1.2, subst (λ (b : Form). Relates false b l body) h.1.1 (relates_second l r j)))))
+  heads_define l r j k true h = inl (h.0, (h.1.0, r, h.1.2, subst (λ (b : Form). Relates true b r body) h.1.1 (relates_first l r j)))
+  heads_define l r j k false h = inl (h.0, (h.1.0, l, h.1.2, subst (λ (b : Form). Relates false b l body) h.1.1 (relates_second l r j)))
 
   pub define_heads : (l r : Form) → Joins l r → (k : ℕ) (first : Bool) → DefinesIn k first body → HeadsAt t l r k first
   define_heads l r j k true (inl p) =
       let same = joins_same l r (Atom k (map Var p.1.0)) p.1.1 j p.1.3 in
-      (p.0, (p.1.0, (same.0, subst (λ (b : Form). IsMeaning k p.1.0 b) (sym same.1) p.1.2)))
+      (p.0, (p.1.0, same.0, subst (λ (b : Form). IsMeaning k p.1.0 b) (sym same.1) p.1.2))
   define_heads l r j k false (inl p) =
       let same = joins_same l r p.1.1 (Atom k (map Var p.1.0)) j p.1.3 in
-      (p.0, (p.1.0, (same.1, subst (λ (b : Form). IsMeaning k p.1.0 b) (sym same.0) p.1.2)))
+      (p.0, (p.1.0, same.1, subst (λ (b : Form). IsMeaning k p.1.0 b) (sym same.0) p.1.2))
   define_heads l r j k true (inr f) = absurd (joins_not_eq l r (App k (map Var f.1.0)) f.1.1 j f.1.3)
   define_heads l r j k false (inr f) = absurd (joins_not_eq l r f.1.1 (App k (map Var f.1.0)) j f.1.3)
 
@@ -132,16 +132,16 @@ module _ (t : Statements) (line body : Form) (is : IsBody line body) where
 
   -- equations
   values_define : (l r : Term) → body ≡ Eq l r → (k : ℕ) (first : Bool) → ValuesAt t l r k first → DefinesIn k first body
-  values_define l r e k true h = inr (h.0, (h.1.0, (r, (h.1.2, e ∙ ap (λ x. Eq x r) h.1.1))))
-  values_define l r e k false h = inr (h.0, (h.1.0, (l, (h.1.2, e ∙ ap (λ x. Eq l x) h.1.1))))
+  values_define l r e k true h = inr (h.0, (h.1.0, r, h.1.2, e ∙ ap (λ (x : Term). Eq x r) h.1.1))
+  values_define l r e k false h = inr (h.0, (h.1.0, l, h.1.2, e ∙ ap (λ (x : Term). Eq l x) h.1.1))
 
   pub define_values : (l r : Term) → body ≡ Eq l r → (k : ℕ) (first : Bool) → DefinesIn k first body → ValuesAt t l r k first
   define_values l r e k true (inr f) =
       let same = Eq-injective l r (App k (map Var f.1.0)) f.1.1 (sym e ∙ f.1.3) in
-      (f.0, (f.1.0, (same.0, subst (λ (u : Term). IsValue k f.1.0 u) (sym same.1) f.1.2)))
+      (f.0, (f.1.0, same.0, subst (λ (u : Term). IsValue k f.1.0 u) (sym same.1) f.1.2))
   define_values l r e k false (inr f) =
       let same = Eq-injective l r f.1.1 (App k (map Var f.1.0)) (sym e ∙ f.1.3) in
-      (f.0, (f.1.0, (same.1, subst (λ (u : Term). IsValue k f.1.0 u) (sym same.0) f.1.2)))
+      (f.0, (f.1.0, same.1, subst (λ (u : Term). IsValue k f.1.0 u) (sym same.0) f.1.2))
   define_values l r e k true (inl p) = absurd (joins_not_eq (Atom k (map Var p.1.0)) p.1.1 l r p.1.3 e)
   define_values l r e k false (inl p) = absurd (joins_not_eq p.1.1 (Atom k (map Var p.1.0)) l r p.1.3 e)
 
@@ -164,3 +164,12 @@ body_further whole inner b s own e same i = record { sorts = s ∷ i.sorts; is =
 
 pub body_shallow : (whole inner b : Form) (s : ℕ) (own : Form) → whole ≡ All s own → inner ≡ own → binder_depth b ≤ binder_depth inner → binder_depth b ≤ binder_depth whole
 body_shallow whole inner b s own e same le = omega (arith, ap binder_depth e, binder_depth-All s own, ap binder_depth same, le)
+
+-- What the code reads off an equivalence or an implication.
+pub joins_at : (body left right l r : Form) → (body ≡ Iff left right) ⊎ (body ≡ Imp left right) → l ≡ left → r ≡ right → (body ≡ Iff l r) ⊎ (body ≡ Imp l r)
+joins_at body left right l r (inl e) el er = inl (e ∙ ap (λ (x : Form). Iff x right) (sym el) ∙ ap (Iff l) (sym er))
+joins_at body left right l r (inr e) el er = inr (e ∙ ap (λ (x : Form). Imp x right) (sym el) ∙ ap (Imp l) (sym er))
+
+pub joins_shallow : (body l r : Form) (n : ℕ) → (body ≡ Iff l r) ⊎ (body ≡ Imp l r) → binder_depth body ≤ n → (binder_depth l ≤ n) × (binder_depth r ≤ n)
+joins_shallow body l r n (inl e) le = (omega (arith, ap binder_depth e, binder_depth-Iff l r, le), omega (arith, ap binder_depth e, binder_depth-Iff l r, le))
+joins_shallow body l r n (inr e) le = (omega (arith, ap binder_depth e, binder_depth-Imp l r, le), omega (arith, ap binder_depth e, binder_depth-Imp l r, le))

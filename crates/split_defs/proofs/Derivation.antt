@@ -1,6 +1,6 @@
 -- The entries of a definition add the line.
 use Rattle.std.proofs.Common.{ℕ, ◌≡◌, ◌≤◌, ◌+◌, ◌-◌, ◌<◌, ◌||◌, ◌⊎◌, Bool, true, false, List, [], ◌∷◌, ◌++◌, map, length, reverse, get_or, arith, zero, suc, refl, sym, ap, subst, ◌∙◌, inl, inr, slice_get, Some, append_assoc}
-use Rattle.std.specs.Prelude.{◌^◌, Result, IfOk}
+use Rattle.std.specs.Prelude.{◌^◌, Option, Result, IfOk, IfSome}
 use Rattle.std.specs.List.{All as Each}
 use Rattle.std.proofs.lemmas.List.{length-reverse, length-append}
 use Rattle.fof_terms.specs.Vocabulary.{Vocabulary}
@@ -92,7 +92,7 @@ by_two t line added e p entries es steps absent = record { first = e ∷ []; las
       let w = with_formula u added in
       let end : with_formulas u (added ∷ line ∷ []) ≡ with_formula w line = ap (λ (fs : List Form). record { vocabulary = u.vocabulary; formulas = fs }) (sym (append_assoc u.formulas (added ∷ []) (line ∷ []))) in
       record {
-        legal = (s.0, (w, (s.1, ((line, s.2), (with_formula w line, ((line, (s.2, refl)), end))))));
+        legal = (s.0, (w, s.1, ((line, s.2), (with_formula w line, (line, s.2, refl), end))));
         speak = λ j fresh none. alone (λ b. occurs_in j b ≡ false) added (absent j none);
       }
 
@@ -148,7 +148,7 @@ module _ (t : Statements) (line body : Form) (ready : IsReady t.vocabulary line)
       let named : MayName u k new.symbol (renamed xs 0 a) = may_name t.vocabulary k new.symbol xs scope_under 1000000000 a new.found new.is_kind h.1.2 whole_sorted room u c.vocabulary (c.fresh k new.fresh) in
       let named' : MayName u k new.symbol own = subst (λ (b : Form). MayName u k new.symbol b) (sym owns) named in (
         (new.symbol, named'),
-        (new.symbol, (named'.found, ap (with_formula u) (sym added_is))),
+        (new.symbol, named'.found, ap (with_formula u) (sym added_is)),
         line_shown new.symbol.args xs (Iff at a) fact inner p u have fits facts ps c.vocabulary c.count (λ w same shown. rels w scope_under [] at a rel' shown),
       ))
       (λ j e. all_absent j new.symbol.args (renamed xs 0 (Iff at a)) ∙ form_occurs xs j (Iff at a) 0 ∙ equivalence_absent j first at a body rel' (of_body j e))
@@ -195,7 +195,7 @@ module _ (t : Statements) (line body : Form) (ready : IsReady t.vocabulary line)
       let new = h.0 in
       let at = App k (map Var xs) in
       let v = t.vocabulary in
-      let n = 1000000000 in
+      let n : ℕ = 1000000000 in
       let e' : Equates first at u body = subst (λ (x : Term). Equates first x u body) h.1.1 e in
       let r : SortedTo n v scope_under (Eq at u) = equates_sorted first at u e' in
       let some : 1 ≤ n = omega arith in
@@ -216,7 +216,7 @@ module _ (t : Statements) (line body : Form) (ready : IsReady t.vocabulary line)
       let may : MayChoose w k new.symbol (is_value (renamed_term xs 0 u)) = may_choose v k new.symbol xs scope_under n u new.found new.is_kind h.1.2 exists' r some room w c.vocabulary (c.fresh k new.fresh) in
       let may' : MayChoose w k new.symbol own = subst (λ (b : Form). MayChoose w k new.symbol b) (sym owns) may in (
         (new.symbol, may'),
-        (new.symbol, (may'.found, ap (with_formula w) (sym added_is))),
+        (new.symbol, may'.found, ap (with_formula w) (sym added_is)),
         line_shown new.symbol.args xs whole fact inner p w have fits facts ps c.vocabulary c.count (λ x same shown.
             subst (λ (q : Proof). Proves x scope_under [] q body) (sym inner_is)
             (valued_shows x scope_under [] s at u fact (omega (arith, room)) (over_same x.vocabulary v (s ∷ scope_under) (is_value at) same sh)
@@ -265,3 +265,13 @@ module _ (t : Statements) (line body : Form) (ready : IsReady t.vocabulary line)
         let facts' : FactOf (length t.formulas) (map Var h.1.0) fact = subst (λ (ts : List Term). FactOf (length t.formulas) ts fact) vars_of (subst (λ (n : ℕ). FactOf n slice fact) en facts) in
         let whole : hole ≡ is_value (renamed_term h.1.0 0 u) = holes ∙ ap is_value (owns h.1.0 vars_of) in
         ok_map r (λ entries made_of. function_derived head u k first h e result hole fact inner p entries its_result exists whole facts' inners (ps body is) made_of) made
+
+-- The sort of the result, as it is found.
+some_then : (P : ℕ → Type 0) (o : Option ℕ) (x : ℕ) → IfSome o P → o ≡ Some x → P x
+some_then P o x h e = subst (λ (p : Option ℕ). IfSome p P) e h
+
+pub result_exists : (v w : Vocabulary) (o : Option ℕ) (r : ℕ) → w ≡ v → IfSome o (λ s. s < length w.sorts) → o ≡ Some r → r < length v.sorts
+result_exists v w o r same h e = subst (λ (x : Vocabulary). r < length x.sorts) same (some_then (λ s. s < length w.sorts) o r h e)
+
+pub result_is : (v w : Vocabulary) (k : ℕ) (o : Option ℕ) (r : ℕ) → w ≡ v → IfSome o (λ sort. (s : Symbol) → slice_get w.symbols k ≡ Some s → s.result ≡ sort) → o ≡ Some r → (s : Symbol) → slice_get v.symbols k ≡ Some s → s.result ≡ r
+result_is v w k o r same h e = subst (λ (x : Vocabulary). (s : Symbol) → slice_get x.symbols k ≡ Some s → s.result ≡ r) same (some_then (λ sort. (s : Symbol) → slice_get w.symbols k ≡ Some s → s.result ≡ sort) o r h e)

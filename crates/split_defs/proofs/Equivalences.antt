@@ -1,5 +1,6 @@
 -- What relates a head to its meaning follows from their equivalence.
 use Rattle.std.proofs.Common.{ℕ, ◌≡◌, ◌⊎◌, Bool, true, false, List, [], ◌∷◌, refl, sym, ap, subst, ◌∙◌, inl, inr}
+use Rattle.std.specs.Prelude.{Result, IfOk}
 use Rattle.fof_terms.specs.Trees.{Imp-injective, Iff-injective}
 use Rattle.fof_terms.specs.Scoped.{Sorted, sorted_of_iff}
 use Rattle.fof_terms.specs.declared.form.Form.{Form, Imp, Iff}
@@ -7,6 +8,7 @@ use Rattle.kernel.specs.Statements.{Statements}
 use Rattle.kernel.specs.Proves.{Proves}
 use Rattle.kernel.specs.Building.{shown_sorted, by_imp_i, by_imp_e, by_iff_i, by_iff_l, by_iff_r}
 use Rattle.kernel.specs.declared.proof.Proof.{Proof, Hyp, ImpI, ImpE, IffI, IffL, IffR}
+use Rattle.derive_kit.specs.Built.{ok_map}
 use Rattle.derive_kit.specs.Steps.{first, second}
 use Rattle.split_defs.specs.DefinitionRule.{Relates}
 use Rattle.split_defs.specs.DefinitionSearch.{RelatesBy}
@@ -72,3 +74,20 @@ imp_second body l r fact made e is t v h head a (inr f) w =
     let same = Imp-injective l r a head (sym e ∙ f) in
     let w' : Proves t v h fact (Iff r l) = shown_as t v h fact (Iff head a) (Iff r l) (iff_of head a r l (sym same.1) (sym same.0)) w in
     shown_as t v h made (Imp l r) body (sym e) (subst (λ (q : Proof). Proves t v h q (Imp l r)) (sym is) (back_shows t v h l r fact w'))
+
+-- as the code meets it
+imp_of : (a b c d : Form) → a ≡ c → b ≡ d → Imp a b ≡ Imp c d
+imp_of a b c d e f = rw (e, f) refl
+
+module _ {E : Type 0} (o : Result Proof E) (body left right l r : Form) (fact : Proof) (is_first : Bool) (el : l ≡ left) (er : r ≡ right) where
+  pub iff_turned : body ≡ Iff left right → is_first ≡ false → IfOk o (λ made. made ≡ turned_tree l r fact) → IfOk o (RelatesBy is_first body fact)
+  iff_turned e no h =
+      subst (λ (b : Bool). IfOk o (RelatesBy b body fact)) (sym no) (ok_map o (λ made is. iff_second body l r fact made (e ∙ iff_of left right l r (sym el) (sym er)) is) h)
+
+  pub imp_forth : body ≡ Imp left right → is_first ≡ true → IfOk o (λ made. made ≡ forth_tree l r fact) → IfOk o (RelatesBy is_first body fact)
+  imp_forth e yes h =
+      subst (λ (b : Bool). IfOk o (RelatesBy b body fact)) (sym yes) (ok_map o (λ made is. imp_first body l r fact made (e ∙ imp_of left right l r (sym el) (sym er)) is) h)
+
+  pub imp_back : body ≡ Imp left right → is_first ≡ false → IfOk o (λ made. made ≡ back_tree l r fact) → IfOk o (RelatesBy is_first body fact)
+  imp_back e no h =
+      subst (λ (b : Bool). IfOk o (RelatesBy b body fact)) (sym no) (ok_map o (λ made is. imp_second body l r fact made (e ∙ imp_of left right l r (sym el) (sym er)) is) h)

@@ -1,6 +1,6 @@
 -- Formulas under universal quantifiers: their sorts, their instances and their proofs.
 use Rattle.std.proofs.Common.{ℕ, ◌≡◌, ◌≤◌, ◌+◌, ◌-◌, ◌<◌, Bool, true, false, List, [], ◌∷◌, ◌++◌, map, length, reverse, arith, zero, suc, refl, sym, ap, subst, ◌∙◌, append_assoc, slice_get, Option, Some, None}
-use Rattle.std.specs.List.{AllByRecursion}
+use Rattle.std.specs.Prelude.{Result, IfOk}
 use Rattle.std.proofs.lemmas.List.{reverse-append, length-reverse, length-append}
 use Rattle.fof_terms.specs.Vocabulary.{Vocabulary}
 use Rattle.fof_terms.specs.declared.term.Term.{Term, Var, App}
@@ -14,6 +14,7 @@ use Rattle.kernel.specs.Proves.{Proves}
 use Rattle.kernel.specs.Building.{by_all_i}
 use Rattle.kernel.specs.Entries.{for_all}
 use Rattle.kernel.specs.declared.proof.Proof.{Proof, AllI}
+use Rattle.derive_kit.specs.Built.{ok_map}
 use Rattle.derive_kit.specs.Instances.{IsInstance}
 use Rattle.split_defs.specs.DefinitionSearch.{IsBody}
 use Rattle.split_defs.specs.Trees.{all_tree}
@@ -40,7 +41,7 @@ module _ (v : Vocabulary) where
       raised v scope (n + length sorts + 1) (n + suc (length sorts)) (All s (for_all sorts b)) (omega arith) (all_sorted v scope (n + length sorts) s (for_all sorts b) inner)
 
 pub depth_is : (sorts : List ℕ) (b : Form) → binder_depth (for_all sorts b) ≡ length sorts + binder_depth b
-depth_is [] b = refl
+depth_is [] b = omega arith
 depth_is (s ∷ sorts) b = rw binder_depth-All (omega (arith, depth_is sorts b))
 
 -- a proof under the quantifiers is one of the whole
@@ -88,3 +89,23 @@ filled_instance w v (s ∷ args) (x ∷ xs) b h =
     let here : instance_at (Var x) 0 (for_all args b) ≡ for_all args (instance_at (Var x) (length xs + 0) b) = all_instance (Var x) args b 0 (length xs + 0) (omega (arith, as_many v args xs h.1)) in
     let sort : sort_of_term w v (Var x) ≡ Some s = rw sort_of_term-Var h.0 in
     (s, for_all args b, refl, sort, subst (λ (c : Form). IsInstance w v c (map Var xs) (filled (x ∷ xs) 0 b)) (sym here) (filled_instance w v args xs (instance_at (Var x) (length xs + 0) b) h.1))
+
+-- The proof of a line, quantifier by quantifier.
+under_at : (line inner own b : Form) (s : ℕ) (part made node : Proof) (sorts : List ℕ) → line ≡ for_all sorts b → ((q : ℕ) (a : Form) → b ≡ All q a → ⊥) → line ≡ All s own → inner ≡ own → ((c : Form) (i : IsBody inner c) → made ≡ all_tree i.sorts part) → node ≡ AllI s made
+    → node ≡ all_tree sorts part
+under_at line inner own b s part made node [] is inmost e same f em = absurd (inmost s own (sym is ∙ e))
+under_at line inner own b s part made node (q ∷ rs) is inmost e same f em =
+    let parts = All-injective q s (for_all rs b) own (sym is ∙ e) in
+    let i : IsBody inner b = record { sorts = rs; is = same ∙ sym parts.1; inmost = inmost } in
+    em ∙ ap (AllI s) (f b i) ∙ ap (λ (j : ℕ). AllI j (all_tree rs part)) (sym parts.0)
+
+pub under_more : {E : Type 0} (r : Result Proof E) (line inner own : Form) (s : ℕ) (part made : Proof) → line ≡ All s own → inner ≡ own → ((c : Form) (i : IsBody inner c) → made ≡ all_tree i.sorts part) → IfOk r (λ node. node ≡ AllI s made)
+    → IfOk r (λ node. (b : Form) (i : IsBody line b) → node ≡ all_tree i.sorts part)
+under_more r line inner own s part made e same f h = ok_map r (λ node em b i. under_at line inner own b s part made node i.sorts i.is i.inmost e same f em) h
+
+under_end : (line b : Form) (part : Proof) (sorts : List ℕ) → line ≡ for_all sorts b → ((s : ℕ) (a : Form) → line ≡ All s a → ⊥) → part ≡ all_tree sorts part
+under_end line b part [] is other = refl
+under_end line b part (q ∷ rs) is other = absurd (other q (for_all rs b) is)
+
+pub under_none : (line : Form) (part : Proof) → ((s : ℕ) (a : Form) → line ≡ All s a → ⊥) → (b : Form) (i : IsBody line b) → part ≡ all_tree i.sorts part
+under_none line part other b i = under_end line b part i.sorts i.is other
