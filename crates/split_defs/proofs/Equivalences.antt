@@ -81,13 +81,13 @@ imp_of a b c d e f = rw (e, f) refl
 
 module _ {E : Type 0} (o : Result Proof E) (body left right l r : Form) (fact : Proof) (is_first : Bool) (el : l ≡ left) (er : r ≡ right) where
   pub iff_turned : body ≡ Iff left right → is_first ≡ false → IfOk o (λ made. made ≡ turned_tree l r fact) → IfOk o (RelatesBy is_first body fact)
-  iff_turned e no h =
-      subst (λ (b : Bool). IfOk o (RelatesBy b body fact)) (sym no) (ok_map o (λ made is. iff_second body l r fact made (e ∙ iff_of left right l r (sym el) (sym er)) is) h)
+  iff_turned e second_is h =
+      subst (λ (b : Bool). IfOk o (RelatesBy b body fact)) (sym second_is) (ok_map o (λ made is. iff_second body l r fact made (e ∙ iff_of left right l r (sym el) (sym er)) is) h)
 
   pub imp_forth : body ≡ Imp left right → is_first ≡ true → IfOk o (λ made. made ≡ forth_tree l r fact) → IfOk o (RelatesBy is_first body fact)
-  imp_forth e yes h =
-      subst (λ (b : Bool). IfOk o (RelatesBy b body fact)) (sym yes) (ok_map o (λ made is. imp_first body l r fact made (e ∙ imp_of left right l r (sym el) (sym er)) is) h)
+  imp_forth e first_is h =
+      subst (λ (b : Bool). IfOk o (RelatesBy b body fact)) (sym first_is) (ok_map o (λ made is. imp_first body l r fact made (e ∙ imp_of left right l r (sym el) (sym er)) is) h)
 
   pub imp_back : body ≡ Imp left right → is_first ≡ false → IfOk o (λ made. made ≡ back_tree l r fact) → IfOk o (RelatesBy is_first body fact)
-  imp_back e no h =
-      subst (λ (b : Bool). IfOk o (RelatesBy b body fact)) (sym no) (ok_map o (λ made is. imp_second body l r fact made (e ∙ imp_of left right l r (sym el) (sym er)) is) h)
+  imp_back e second_is h =
+      subst (λ (b : Bool). IfOk o (RelatesBy b body fact)) (sym second_is) (ok_map o (λ made is. imp_second body l r fact made (e ∙ imp_of left right l r (sym el) (sym er)) is) h)
