@@ -1,5 +1,5 @@
 -- The entries of a definition add the line.
-use Rattle.std.proofs.Common.{ℕ, ◌≡◌, ◌≤◌, ◌+◌, ◌-◌, ◌<◌, ◌||◌, ◌⊎◌, Bool, true, false, List, [], ◌∷◌, ◌++◌, map, length, reverse, get_or, arith, zero, suc, refl, sym, ap, subst, ◌∙◌, inl, inr, slice_get, Some, append_assoc}
+use Rattle.std.proofs.Common.{ℕ, ◌≡◌, ◌≤◌, ◌+◌, ◌<◌, ◌||◌, Bool, true, false, List, [], ◌∷◌, ◌++◌, map, length, reverse, arith, zero, suc, refl, sym, ap, subst, ◌∙◌, inl, inr, slice_get, Some, append_assoc}
 use Rattle.std.specs.Prelude.{◌^◌, Option, Result, IfOk, IfSome}
 use Rattle.std.specs.List.{All as Each}
 use Rattle.std.proofs.lemmas.List.{length-reverse, length-append}
@@ -7,10 +7,10 @@ use Rattle.fof_terms.specs.Vocabulary.{Vocabulary}
 use Rattle.fof_terms.specs.Occurs.{occurs_in, occurs_in_term, occurs_in-Iff, occurs_in-Imp, occurs_in-All, occurs_in-Eq}
 use Rattle.fof_terms.specs.declared.signature.Symbol.{Symbol}
 use Rattle.fof_terms.specs.declared.term.Term.{Term, Var, App}
-use Rattle.fof_terms.specs.declared.form.Form.{Form, Atom, Eq, Iff, Imp, All, Ex}
+use Rattle.fof_terms.specs.declared.form.Form.{Form, Atom, Eq, Iff, Ex}
 use Rattle.fof_terms.specs.Lift.{lift_term_reach}
 use Rattle.fof_terms.specs.MoreReaches.{own_reach}
-use Rattle.fof_terms.specs.Sorts.{IsScope, SortedTo, Sorted, sort_of_term, binder_depth, binder_depth-Iff}
+use Rattle.fof_terms.specs.Sorts.{IsScope, SortedTo, Sorted, sort_of_term, binder_depth}
 use Rattle.fof_terms.specs.Scoped.{raised, iff_sorted, eq_sorted, ex_sorted, sorted_of_iff, sorted_of_imp, sorted_of_eq}
 use Rattle.fof_terms.specs.Moved.{closed_anywhere}
 use Rattle.clause_rules.specs.Steps.{IsReady}

@@ -1,8 +1,8 @@
 -- Variables that stand in a list twice.
-use Rattle.std.proofs.Common.{ℕ, ◌≡◌, ◌<◌, ◌||◌, ◌++◌, Bool, true, false, List, [], ◌∷◌, map, take, length, get_or, nat_eq, arith, zero, suc, refl, sym, ap, ◌∙◌, inl, inr, ◌⊎◌}
+use Rattle.std.proofs.Common.{ℕ, ◌≡◌, ◌<◌, ◌||◌, Bool, true, false, List, [], ◌∷◌, map, take, length, get_or, nat_eq, arith, zero, suc, refl, sym, ap, ◌∙◌, inl, inr, ◌⊎◌}
 use Rattle.std.specs.List.{list_any, IsDistinct, AllByRecursion}
 use Rattle.std.proofs.lemmas.Bool.Decides.{nat_tests}
-use Rattle.fof_terms.specs.declared.term.Term.{Term, Var, App}
+use Rattle.fof_terms.specs.declared.term.Term.{Var}
 
 pub is_equal : (n k : ℕ) → nat_eq n k ≡ true → n ≡ k
 is_equal n k e = grind (arith, nat_tests)

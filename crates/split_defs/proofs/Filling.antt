@@ -1,7 +1,7 @@
 -- What is renamed, with the variables back in the places of the arguments, is what it was.
-use Rattle.std.proofs.Common.{ℕ, ◌≡◌, ◌≤◌, ◌+◌, ◌-◌, ◌<◌, Bool, true, false, cond, List, [], ◌∷◌, map, length, get_or, nat_eq, nat_lt, arith, zero, suc, refl, sym, ap, subst, ◌∙◌, inl, inr, ◌⊎◌, add-one, Option, Some, None, slice_get}
+use Rattle.std.proofs.Common.{ℕ, ◌≡◌, ◌≤◌, ◌+◌, ◌-◌, ◌<◌, Bool, true, false, cond, List, [], ◌∷◌, map, length, get_or, nat_eq, nat_lt, arith, zero, suc, refl, sym, ap, subst, ◌∙◌, inl, inr, Option, Some, None, slice_get}
 use Rattle.std.specs.Prelude.{position}
-use Rattle.std.specs.List.{list_any, position_or_len, AllByRecursion, IsDistinct}
+use Rattle.std.specs.List.{position_or_len, AllByRecursion, IsDistinct}
 use Rattle.std.proofs.lemmas.Bool.Decides.{nat_tests}
 use Rattle.std.proofs.lemmas.Bool.{lt-ltb, le-ltb}
 use Rattle.std.proofs.lemmas.List.Sums.{passes_at_first}
@@ -9,8 +9,8 @@ use Rattle.fof_terms.specs.Laws.{below_or_above, smaller, greater, here, moves}
 use Rattle.fof_terms.specs.Lift.{lifted_term}
 use Rattle.fof_terms.specs.Instance.{instance_term, instance_at}
 use Rattle.fof_terms.specs.Walks.{TermWalk, FormWalk, staying, staying_term, placing, placing_term, both_walks, both_terms, same_terms, same_forms}
-use Rattle.fof_terms.specs.declared.term.Term.{Term, Var, App}
-use Rattle.fof_terms.specs.declared.form.Form.{Form, Atom, Eq, Not, And, Or, Imp, Iff, All, Ex}
+use Rattle.fof_terms.specs.declared.term.Term.{Term, Var}
+use Rattle.fof_terms.specs.declared.form.Form.{Form}
 use Rattle.kernel.specs.Entries.{variables}
 use Rattle.split_defs.specs.Renaming.{argument, place_in, renamed, renamed_term, renamed_term-Var, renamed_term-App, renamed-Atom, renamed-Eq, renamed-Not, renamed-And, renamed-Or, renamed-Imp, renamed-Iff, renamed-All, renamed-Ex}
 use Rattle.split_defs.proofs.Distinct.{is_equal, equals_itself}

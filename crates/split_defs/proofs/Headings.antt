@@ -1,5 +1,5 @@
 -- What the search for a definition finds at two sides.
-use Rattle.std.proofs.Common.{ℕ, ◌≡◌, ◌<◌, ◌↔◌, ◌⊎◌, ◌||◌, Bool, true, false, not, List, [], ◌∷◌, map, take, length, get_or, nat_eq, arith, zero, suc, refl, sym, ap, subst, ◌∙◌, inl, inr, Option, Some, None, slice_get}
+use Rattle.std.proofs.Common.{ℕ, ◌≡◌, ◌<◌, ◌↔◌, ◌||◌, Bool, true, false, not, List, [], ◌∷◌, map, take, length, get_or, nat_eq, arith, zero, suc, refl, sym, ap, subst, ◌∙◌, Option, Some, None, slice_get}
 use Rattle.std.specs.Prelude.{IsTrue}
 use Rattle.std.specs.List.{list_any, All as Each}
 use Rattle.std.proofs.lemmas.List.{length-map}
@@ -10,7 +10,7 @@ use Rattle.fof_terms.specs.declared.signature.Kind.TheVariants.{Function, Predic
 use Rattle.fof_terms.specs.declared.term.Term.{Term, Var, App}
 use Rattle.fof_terms.specs.declared.term.Term.TheOpen as term
 use Rattle.fof_terms.specs.declared.term.Term.TheViews.{out-Term, outs-App, outs-Var}
-use Rattle.fof_terms.specs.declared.form.Form.{Form, Atom, Eq, Imp, Iff, All}
+use Rattle.fof_terms.specs.declared.form.Form.{Form, Atom}
 use Rattle.fof_terms.specs.declared.form.Form.TheOpen as form
 use Rattle.fof_terms.specs.declared.form.Form.TheViews.{out-Form, outs-Atom}
 use Rattle.indexmap.specs.IndexSet.{IndexSet}

@@ -1,5 +1,5 @@
 -- What holds of a list holds of each member.
-use Rattle.std.proofs.Common.{ℕ, ◌+◌, ◌≡◌, ◌<◌, ◌&&◌, Bool, true, max, List, [], ◌∷◌, map, length, get_or, arith, zero, suc}
+use Rattle.std.proofs.Common.{ℕ, ◌+◌, ◌≡◌, ◌<◌, ◌&&◌, Bool, true, List, [], ◌∷◌, map, arith, zero, suc}
 use Rattle.std.specs.List.{list_all, All as Each}
 use Rattle.fof_terms.specs.Lift.{greatest}
 use Rattle.fof_terms.specs.Laws.{both}

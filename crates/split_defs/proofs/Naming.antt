@@ -1,7 +1,6 @@
 -- A new symbol at variables, and the entry that brings it in.
-use Rattle.std.proofs.Common.{ℕ, ◌≡◌, ◌≤◌, ◌+◌, ◌-◌, ◌<◌, ◌||◌, ◌&&◌, Bool, true, false, List, [], ◌∷◌, ◌++◌, map, length, reverse, nat_eq, nat_lt, arith, zero, suc, refl, sym, ap, subst, ◌∙◌, inl, inr, slice_get, Option, Some, None}
+use Rattle.std.proofs.Common.{ℕ, ◌≡◌, ◌≤◌, ◌+◌, ◌-◌, ◌<◌, Bool, true, false, List, [], ◌∷◌, ◌++◌, map, length, reverse, nat_eq, nat_lt, arith, zero, suc, refl, sym, ap, subst, ◌∙◌, inl, inr, slice_get, Option, Some, None}
 use Rattle.std.specs.List.{AllByRecursion, list_any, list_all, IsDistinct}
-use Rattle.std.proofs.lemmas.Bool.Decides.{nat_tests}
 use Rattle.std.proofs.lemmas.List.{length-reverse, append-nil}
 use Rattle.std.proofs.lemmas.Option.{slice_get_within}
 use Rattle.std.proofs.lemmas.Map.Steps.{length-le_from_distinct_below}
@@ -10,14 +9,14 @@ use Rattle.fof_terms.specs.Laws.{both}
 use Rattle.fof_terms.specs.declared.signature.Symbol.{Symbol}
 use Rattle.fof_terms.specs.declared.signature.Kind.{Kind}
 use Rattle.fof_terms.specs.declared.signature.Kind.TheVariants.{Function, Predicate}
-use Rattle.fof_terms.specs.declared.term.Term.{Term, Var, App}
+use Rattle.fof_terms.specs.declared.term.Term.{Var}
 use Rattle.fof_terms.specs.declared.form.Form.{Form, Atom, Iff}
-use Rattle.fof_terms.specs.Sorts.{IsScope, SortedTo, Sorted, is_sort, are_sorts, holds_of, stated_by, sort_of_term, sort_of_term-Var, is_sorted, is_sorted-Atom, is_sorted-Iff, binder_depth, binder_depth-Iff}
+use Rattle.fof_terms.specs.Sorts.{IsScope, SortedTo, Sorted, is_sort, are_sorts, holds_of, stated_by, sort_of_term, sort_of_term-Var, is_sorted, is_sorted-Atom, is_sorted-Iff}
 use Rattle.fof_terms.specs.Scoped.{member_of, raised, sorted_of_iff}
 use Rattle.fof_terms.specs.Walks.{same_depth}
 use Rattle.kernel.specs.Statements.{Statements}
 use Rattle.kernel.specs.Entries.{IsFresh, MayName, naming, for_all, variables}
-use Rattle.split_defs.specs.DefinitionRule.{IsAmong, IsNew, IsMeaning}
+use Rattle.split_defs.specs.DefinitionRule.{IsAmong, IsMeaning}
 use Rattle.split_defs.specs.Renaming.{argument, renamed, renamed_term, renamed-Atom, renamed-Iff, speaks, speaks_in_term, speaks_in_term-Var, speaks-Atom, speaks-Iff}
 use Rattle.split_defs.proofs.Distinct.{is_equal, equals_itself, either}
 use Rattle.split_defs.proofs.Filling.{renaming, arguments_are, argument_at}

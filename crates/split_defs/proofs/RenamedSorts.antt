@@ -1,5 +1,5 @@
 -- What a formula over other names has: the same sorts and the same symbols.
-use Rattle.std.proofs.Common.{ℕ, ◌≡◌, ◌≤◌, ◌+◌, ◌-◌, ◌<◌, ◌||◌, ◌&&◌, ◌==◌, Bool, true, false, List, [], ◌∷◌, ◌++◌, map, length, nat_eq, nat_lt, arith, zero, suc, refl, sym, ap, subst, ◌∙◌, inl, inr, ◌⊎◌, add-one, slice_get}
+use Rattle.std.proofs.Common.{ℕ, ◌≡◌, ◌+◌, ◌-◌, ◌<◌, ◌||◌, ◌&&◌, ◌==◌, Bool, true, false, List, [], ◌∷◌, ◌++◌, map, length, nat_eq, nat_lt, arith, zero, suc, refl, sym, ap, ◌∙◌, inl, inr, add-one, slice_get}
 use Rattle.std.specs.List.{list_any, list_all, AllByRecursion}
 use Rattle.std.proofs.lemmas.Simd.{map-map}
 use Rattle.std.proofs.lemmas.List.Folds.{list_all-map}
@@ -8,9 +8,9 @@ use Rattle.fof_terms.specs.Vocabulary.{Vocabulary}
 use Rattle.fof_terms.specs.Laws.{both, below_or_above}
 use Rattle.fof_terms.specs.Induction.{term_induction, form_induction}
 use Rattle.fof_terms.specs.Occurs.{occurs_in, occurs_in_term, list_any-map, occurs_in_term-Var, occurs_in_term-App, occurs_in-Atom, occurs_in-Eq, occurs_in-Not, occurs_in-And, occurs_in-Or, occurs_in-Imp, occurs_in-Iff, occurs_in-All, occurs_in-Ex}
-use Rattle.fof_terms.specs.Sorts.{applied, holds_of, one_sort, sort_of_term, is_sorted, sort_of_term-Var, sort_of_term-App, is_sorted-Atom, is_sorted-Eq, is_sorted-Not, is_sorted-And, is_sorted-Or, is_sorted-Imp, is_sorted-Iff, is_sorted-All, is_sorted-Ex}
-use Rattle.fof_terms.specs.declared.term.Term.{Term, Var, App}
-use Rattle.fof_terms.specs.declared.form.Form.{Form, Atom, Eq, Not, And, Or, Imp, Iff, All, Ex}
+use Rattle.fof_terms.specs.Sorts.{applied, holds_of, sort_of_term, is_sorted, sort_of_term-Var, sort_of_term-App, is_sorted-Atom, is_sorted-Eq, is_sorted-Not, is_sorted-And, is_sorted-Or, is_sorted-Imp, is_sorted-Iff, is_sorted-All, is_sorted-Ex}
+use Rattle.fof_terms.specs.declared.term.Term.{Term, Var}
+use Rattle.fof_terms.specs.declared.form.Form.{Form}
 use Rattle.split_defs.specs.DefinitionRule.{IsAmong}
 use Rattle.split_defs.specs.Renaming.{argument, renamed, renamed_term, renamed_term-Var, renamed_term-App, renamed-Atom, renamed-Eq, renamed-Not, renamed-And, renamed-Or, renamed-Imp, renamed-Iff, renamed-All, renamed-Ex, speaks, speaks_in_term, speaks_in_term-Var, speaks_in_term-App, speaks-Atom, speaks-Eq, speaks-Not, speaks-And, speaks-Or, speaks-Imp, speaks-Iff, speaks-All, speaks-Ex}
 

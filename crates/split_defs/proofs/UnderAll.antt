@@ -1,13 +1,13 @@
 -- Formulas under universal quantifiers: their sorts, their instances and their proofs.
-use Rattle.std.proofs.Common.{ℕ, ◌≡◌, ◌≤◌, ◌+◌, ◌-◌, ◌<◌, Bool, true, false, List, [], ◌∷◌, ◌++◌, map, length, reverse, arith, zero, suc, refl, sym, ap, subst, ◌∙◌, append_assoc, slice_get, Option, Some, None}
+use Rattle.std.proofs.Common.{ℕ, ◌≡◌, ◌≤◌, ◌+◌, List, [], ◌∷◌, ◌++◌, map, length, reverse, arith, suc, refl, sym, ap, subst, ◌∙◌, append_assoc, slice_get, Some}
 use Rattle.std.specs.Prelude.{Result, IfOk}
-use Rattle.std.proofs.lemmas.List.{reverse-append, length-reverse, length-append}
+use Rattle.std.proofs.lemmas.List.{reverse-append}
 use Rattle.fof_terms.specs.Vocabulary.{Vocabulary}
-use Rattle.fof_terms.specs.declared.term.Term.{Term, Var, App}
+use Rattle.fof_terms.specs.declared.term.Term.{Term, Var}
 use Rattle.fof_terms.specs.declared.form.Form.{Form, All}
 use Rattle.fof_terms.specs.Instance.{instance_at, instance_at-All}
 use Rattle.fof_terms.specs.Sorts.{sort_of_term, sort_of_term-Var, binder_depth, binder_depth-All}
-use Rattle.fof_terms.specs.Scoped.{IsScope, SortedTo, Sorted, raised, all_sorted, sorted_of_all}
+use Rattle.fof_terms.specs.Scoped.{SortedTo, Sorted, raised, all_sorted, sorted_of_all}
 use Rattle.fof_terms.specs.Trees.{All-injective}
 use Rattle.kernel.specs.Statements.{Statements}
 use Rattle.kernel.specs.Proves.{Proves}

@@ -1,7 +1,7 @@
 -- The rule `definition`: a line that says, for all arguments, what a new symbol means in terms of the others.
 use Rattle.std.specs.Prelude.{ℕ, ◌≡◌, ◌⊎◌, Bool, true, false, List, map, Some, slice_get, nat_eq}
 use Rattle.std.specs.List.{list_any, IsDistinct}
-use Rattle.std.proofs.Common.{subst, sym, inl, inr}
+use Rattle.std.proofs.Common.{subst, inl, inr}
 use Rattle.fof_terms.specs.Occurs.{occurs_in, occurs_in_term}
 use Rattle.fof_terms.specs.Variables.{has_variable, has_in_term}
 use Rattle.fof_terms.specs.Vocabulary.{Vocabulary}
