@@ -1,0 +1,12 @@
+pub mod Choosing
+pub mod Derivation
+pub mod DefinitionEnds
+pub mod Distinct
+pub mod Equivalences
+pub mod Filling
+pub mod Headings
+pub mod Lists
+pub mod Naming
+pub mod RenamedSorts
+pub mod Spoken
+pub mod UnderAll

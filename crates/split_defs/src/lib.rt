@@ -1,0 +1,16 @@
+//! Steps that bring in a new symbol or replace parts of a clause by names: a line that defines a symbol, and a line in which
+//! names stand for parts of a parent clause. Each with the entries by which a theory takes it.
+#![tactic(auto)]
+
+mod arguments;
+mod defining;
+mod definition;
+mod entries;
+mod just;
+mod renaming;
+mod speaking;
+mod valuing;
+
+pub use definition::definition_step;
+pub use entries::definition_entries;
+pub use just::SplitJust;
