@@ -1,5 +1,5 @@
 -- What answers say, from what is shown.
-use Rattle.std.specs.Prelude.{ℕ, ◌≡◌, ◌<◌, ◌≤◌, Bool, true, false, List, [], ◌∷◌, length, take, drop, slice_get, get_or, Option, Some, None, MatchOption, if◌then◌else◌, refl}
+use Rattle.std.specs.Prelude.{ℕ, ◌≡◌, ◌<◌, ◌≤◌, Bool, true, false, List, [], ◌∷◌, ◌++◌, length, take, drop, slice_get, get_or, Option, Some, None, MatchOption, if◌then◌else◌, refl}
 use Rattle.std.specs.List.{All as Each, AllByRecursion}
 use Rattle.std.proofs.Common.{ap, sym, subst, ◌∙◌, arith, inl, inr, zero, suc}
 use Rattle.std.proofs.lemmas.List.Elements.{recursion_from_All, All-from_recursion}
@@ -14,14 +14,19 @@ use Rattle.kernel.specs.declared.proof.Proof.{Proof}
 use Rattle.kernel.specs.declared.entry.Entry.TheVariants.{Lemma}
 use Rattle.clause_rules.specs.Answers.{Rule as Word, cover, Holds as Gives}
 use Rattle.elaborate.specs.declared.answer.Rule.{Rule}
-use Rattle.elaborate.specs.declared.answer.Rule.TheVariants.{Norm, Cover}
+use Rattle.skolem_fresh.specs.ChoiceRule.{IsChoiceStep}
+use Rattle.split_defs.specs.DefinitionRule.{Defines, IsDefinitionStep}
+use Rattle.split_defs.specs.DefinitionSearch.{IsFoundDefinition}
+use Rattle.split_defs.specs.declared.just.SplitJust.{SplitJust}
+use Rattle.kernel.specs.declared.entry.Entry.{Entry}
+use Rattle.elaborate.specs.declared.answer.Rule.TheVariants.{Definition, Choice, Norm, Cover}
 use Rattle.elaborate.specs.declared.answer.Reason.{Reason}
 use Rattle.elaborate.specs.declared.answer.Reason.TheVariants.{NotYet, Leaf}
 use Rattle.elaborate.specs.declared.answer.StepAnswer.TheVariants.{Accepted, Unverified}
 use Rattle.clause_rules.specs.Steps.{AreReady, IsReady}
 use Rattle.elaborate.specs.declared.leaves.FromOne.{FromOne}
 use Rattle.elaborate.specs.declared.steps.Found.{Found}
-use Rattle.elaborate.specs.ByRule.{IsFirst, GivesFirst, GivesNowhere, LeafRule, ByNoLeafRule, shape_rules}
+use Rattle.elaborate.specs.ByRule.{IsFirst, IsNone, symbol_rules, GivesFirst, GivesNowhere, LeafRule, ByNoLeafRule, shape_rules}
 use Rattle.derive_kit.specs.Derived.{AreOfTheory, IsDerivedFrom, HasCited, derived_by_lemma, numbers_of}
 use Rattle.elaborate.specs.Answers.{IsStepAnswer, IsLeafAnswer}
 use Rattle.elaborate.specs.Proofs.{ShowsLine, IsByRule, IsFound, CoversAlone, CoversNowhere, IsCoverAlone, IsFromFirst, IsFirstCover}
@@ -50,14 +55,51 @@ derived t parents line p all shows =
     derived_by_lemma t (numbers_of parents) p line
     (λ u cited. subst (λ (w : Vocabulary). Proves (theory_of w u.formulas) [] [] p line) (sym cited.vocabulary) (shows u.formulas (all_here t u parents all cited.formulas)))
 
+-- the first of more rules
+module _ (t : Statements) (parents : List Parent) (line : Form) where
+  pub first_before : (xs ys : List Rule) (rule : Rule) → IsFirst xs t parents line rule → IsFirst (xs ++ ys) t parents line rule
+  first_before [] ys rule h = absurd h
+  first_before (x ∷ xs) ys rule (inl h) = inl h
+  first_before (x ∷ xs) ys rule (inr h) = inr (h.0, first_before xs ys rule h.1)
+
+  pub first_behind : (xs ys : List Rule) (rule : Rule) → IsNone xs t parents line → IsFirst ys t parents line rule → IsFirst (xs ++ ys) t parents line rule
+  first_behind [] ys rule n h = h
+  first_behind (x ∷ xs) ys rule n h = inr (n.0, first_behind xs ys rule n.1 h)
+
+  pub none_of_both : (xs ys : List Rule) → IsNone xs t parents line → IsNone ys t parents line → IsNone (xs ++ ys) t parents line
+  none_of_both [] ys n m = m
+  none_of_both (x ∷ xs) ys n m = (n.0, none_of_both xs ys n.1 m)
+
+-- entries that need nothing that is cited are entries for more that is cited
+pub derived_weaker : (t : Statements) (cites : List ℕ) (entries : List Entry) (line : Form) → IsDerivedFrom t [] entries line → IsDerivedFrom t cites entries line
+derived_weaker t cites entries line d = record {
+  first = d.first;
+  last = d.last;
+  is = d.is;
+  before = d.before;
+  adds = λ u h. d.adds u (record { vocabulary = h.vocabulary; count = h.count; formulas = All-from_recursion (λ (n : ℕ). slice_get u.formulas n ≡ slice_get t.formulas n) [] tt; fresh = h.fresh });
+}
+
 pub step_accepted : (t : Statements) (parents : List Parent) (line : Form) (o : Option Found) (found : Found) → AreOfTheory t parents → o ≡ Some found → IsFound t parents line o
     → IsStepAnswer t parents line (Accepted found.rule (numbers_of parents) (Lemma found.proof ∷ []))
 step_accepted t parents line o found all is f =
     let here : IsFound t parents line (Some found) = subst (IsFound t parents line) is f in
-    (here.0, refl, derived t parents line found.proof all here.1)
+    (first_before t parents line shape_rules symbol_rules found.rule here.0, refl, derived t parents line found.proof all here.1)
 
-pub step_unverified : (t : Statements) (parents : List Parent) (line : Form) (o : Option Found) → o ≡ None → IsFound t parents line o → IsStepAnswer t parents line (Unverified NotYet)
-step_unverified t parents line o is f = subst (IsFound t parents line) is f
+-- where no definition is found, the line is none
+pub no_definition : (t : Statements) (line : Form) (o : Option SplitJust) → o ≡ None → IsFoundDefinition (Defines t line) o → IsDefinitionStep t line → ⊥
+no_definition t line o is found d = subst (IsFoundDefinition (Defines t line)) is found d.0 d.1 d.2
+
+-- what no rule by shape gives
+module _ (t : Statements) (parents : List Parent) (line : Form) (none : IsNone shape_rules t parents line) where
+  pub step_defined : (entries : List Entry) → IsDefinitionStep t line → ((cites : List ℕ) → IsDerivedFrom t cites entries line) → IsStepAnswer t parents line (Accepted Definition (numbers_of parents) entries)
+  step_defined entries holds derives = (first_behind t parents line shape_rules symbol_rules Definition none (inl (refl, holds)), refl, derives (numbers_of parents))
+
+  pub step_chosen : (entries : List Entry) → (IsDefinitionStep t line → ⊥) → IsChoiceStep t line → ((cites : List ℕ) → IsDerivedFrom t cites entries line) → IsStepAnswer t parents line (Accepted Choice (numbers_of parents) entries)
+  step_chosen entries undefined holds derives = (first_behind t parents line shape_rules symbol_rules Choice none (inr (undefined, inl (refl, holds))), refl, derives (numbers_of parents))
+
+  pub step_unverified : (IsDefinitionStep t line → ⊥) → (IsChoiceStep t line → ⊥) → IsStepAnswer t parents line (Unverified NotYet)
+  step_unverified undefined unchosen = none_of_both t parents line shape_rules symbol_rules none (undefined, (unchosen, tt))
 
 -- of one candidate alone
 alone_is : (c p : Parent) → Some c ≡ Some p → c ≡ p

@@ -1,34 +1,38 @@
 -- The rules of steps and of leaves: which of them is the first that gives a line.
-use Rattle.std.specs.Prelude.{ℕ, ◌≡◌, ◌<◌, ◌⊎◌, List, [], ◌∷◌, Some, slice_get}
+use Rattle.std.specs.Prelude.{ℕ, ◌≡◌, ◌<◌, ◌⊎◌, List, [], ◌∷◌, ◌++◌, Some, slice_get}
 use Rattle.fof_terms.specs.declared.form.Form.{Form}
 use Rattle.kernel.specs.Statements.{Statements}
 use Rattle.clause_form.specs.declared.path.Parent.{Parent}
-use Rattle.clause_rules.specs.Answers.{Rule as Word, norm, cover, tautology, resolution, paramodulation, eqfactor, rewrite, Holds as Gives}
+use Rattle.clause_rules.specs.Answers.{norm, cover, tautology, resolution, paramodulation, eqfactor, rewrite, Holds as Gives}
+use Rattle.skolem_fresh.specs.ChoiceRule.{IsChoiceStep}
+use Rattle.split_defs.specs.DefinitionRule.{IsDefinitionStep}
 use Rattle.elaborate.specs.declared.answer.Rule.{Rule}
-use Rattle.elaborate.specs.declared.answer.Rule.TheVariants.{Norm, Cover, Tautology, Resolution, Paramodulation, EqFactor, Rewrite}
-
--- the rule among those that are recognised by shape
-abbrev pub by_shape : Rule → Word
-by_shape Norm = norm
-by_shape Cover = cover
-by_shape Tautology = tautology
-by_shape Resolution = resolution
-by_shape Paramodulation = paramodulation
-by_shape EqFactor = eqfactor
-by_shape Rewrite = rewrite
+use Rattle.elaborate.specs.declared.answer.Rule.TheVariants.{Norm, Cover, Tautology, Resolution, Paramodulation, EqFactor, Rewrite, Definition, Choice}
 
 -- with the symbols of the theory, and its formulas as those in which a new symbol occurs nowhere, the rule gives the line
 -- from some of the parents
 abbrev pub Holds : Statements → List Parent → Form → Rule → Type 0
-Holds t parents line rule = Gives t.vocabulary parents line (by_shape rule)
+Holds t parents line Norm = Gives t.vocabulary parents line norm
+Holds t parents line Cover = Gives t.vocabulary parents line cover
+Holds t parents line Tautology = Gives t.vocabulary parents line tautology
+Holds t parents line Resolution = Gives t.vocabulary parents line resolution
+Holds t parents line Paramodulation = Gives t.vocabulary parents line paramodulation
+Holds t parents line EqFactor = Gives t.vocabulary parents line eqfactor
+Holds t parents line Rewrite = Gives t.vocabulary parents line rewrite
+Holds t parents line Definition = IsDefinitionStep t line
+Holds t parents line Choice = IsChoiceStep t line
 
 -- the rules that are recognised by shape, in the order in which they are tried
 abbrev pub shape_rules : List Rule
 shape_rules = Norm ∷ Cover ∷ Tautology ∷ Resolution ∷ Paramodulation ∷ EqFactor ∷ Rewrite ∷ []
 
+-- the rules by which a line says what new symbols mean, in the order in which they are tried
+abbrev pub symbol_rules : List Rule
+symbol_rules = Definition ∷ Choice ∷ []
+
 -- the rules of steps that are built, in the order in which they are tried
 abbrev pub rules : List Rule
-rules = shape_rules
+rules = shape_rules ++ symbol_rules
 
 -- the rule is the first of the list that gives the line
 abbrev pub IsFirst : List Rule → Statements → List Parent → Form → Rule → Type 0

@@ -6,12 +6,13 @@ use Rattle.clause_form.specs.declared.path.Parent.{Parent}
 use Rattle.clause_rules.specs.Answers.{Rule as Word, cover, Holds as Gives}
 use Rattle.kernel.specs.Statements.{Statements}
 use Rattle.kernel.specs.Proves.{Proves}
+use Rattle.kernel.specs.declared.entry.Entry.{Entry}
 use Rattle.kernel.specs.declared.proof.Proof.{Proof}
 use Rattle.elaborate.specs.ByRule.{IsFirst, IsNone, shape_rules}
 use Rattle.clause_rules.specs.NormRule.{HasNorm}
 use Rattle.elaborate.specs.declared.leaves.FromOne.{FromOne}
 use Rattle.elaborate.specs.declared.steps.Found.{Found}
-use Rattle.derive_kit.specs.Derived.{AreOfTheory}
+use Rattle.derive_kit.specs.Derived.{AreOfTheory, IsDerivedFrom}
 use Rattle.elaborate.specs.Refuting.{theory_of}
 
 -- with these symbols, the proof shows the line wherever the parents are among the formulas
@@ -68,3 +69,8 @@ pub record IsFromFirst (w : Vocabulary) (candidates : List Parent) (line : Form)
 abbrev pub IsFirstCover : Vocabulary → List Parent → Form → Option FromOne → Type 0
 IsFirstCover w candidates line None = CoversNowhere w candidates line
 IsFirstCover w candidates line (Some from) = IsFromFirst w candidates line from
+
+-- the rule holds, and the entries derive the line, whatever it cites; or the rule does not hold
+abbrev pub IsByEntries : Statements → Form → Type 0 → Option (List Entry) → Type 0
+IsByEntries t line holds None = holds → ⊥
+IsByEntries t line holds (Some entries) = holds × ((cites : List ℕ) → IsDerivedFrom t cites entries line)

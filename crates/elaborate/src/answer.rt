@@ -21,6 +21,10 @@ pub enum Rule {
     /// `rewrite`: a parent that is one equation rewrites all occurrences of one term in a parent, and the line covers
     /// the result.
     Rewrite,
+    /// `definition`: the line says what a new symbol means.
+    Definition,
+    /// `choice`: the line says that new functions choose values, where there are any.
+    Choice,
 }
 
 /// Why a line isn't verified.

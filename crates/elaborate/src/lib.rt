@@ -13,6 +13,7 @@ mod by_tautology;
 mod closing;
 mod covering;
 mod leaves;
+mod naming;
 mod nodes;
 mod opening;
 mod premises;

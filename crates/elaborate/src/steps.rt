@@ -4,6 +4,7 @@ ghost use Rattle.elaborate.specs.declared.answer.StepAnswer.TheVariants.{Accepte
 ghost use Rattle.clause_rules.specs.Steps.{AreReady, IsReady};
 ghost use Rattle.derive_kit.specs.Derived.{AreOfTheory, numbers_of};
 ghost use Rattle.elaborate.specs.Answers.{IsStepAnswer};
+ghost use Rattle.elaborate.specs.ByRule.{IsNone, shape_rules};
 ghost use Rattle.elaborate.specs.Proofs.{IsFound};
 
 use crate::answer::{Reason, Rule, StepAnswer};
@@ -14,6 +15,7 @@ use crate::by_paramodulation::by_paramodulation;
 use crate::by_resolution::by_resolution;
 use crate::by_rewrite::by_rewrite;
 use crate::by_tautology::by_tautology;
+use crate::naming::{chosen, defined};
 use clause_form::Parent;
 use derive_kit::Part;
 use fof_terms::Form;
@@ -37,8 +39,51 @@ pub fn step(
 {
     match first_proof(alloc, theory, parents, line)? {
         Some(found) => accepted(alloc, parents, found),
+        None => by_meaning(alloc, theory, parents, line),
+    }
+}
+
+// The answer to a line that no rule by shape gives: whether it says what new symbols mean.
+fn by_meaning(
+    alloc: Global,
+    theory: &Theory,
+    parents: &[Parent],
+    line: &Form,
+) -> Result<StepAnswer, Memory>
+    requires line { IsReady theory.now.vocabulary line.now }
+    requires no_shape { IsNone shape_rules theory.now parents.now line.now }
+    ensures { IfOk result (IsStepAnswer theory.now parents.now line.now) }
+{
+    let cites = numbers(alloc, parents)?;
+    if let Some(entries) = defined(alloc, theory, line)? {
+        return Ok(by_entries(Rule::Definition, cites, entries));
+    }
+    match chosen(alloc, theory, line)? {
+        Some(entries) => Ok(by_entries(Rule::Choice, cites, entries)),
         None => Ok(StepAnswer::Unverified(Reason::NotYet)),
     }
+}
+
+// The answer that the line is accepted by the rule.
+fn by_entries(rule: Rule, cites: List<u64>, entries: List<Entry>) -> StepAnswer
+    ensures { result ≡ Accepted rule cites entries }
+{
+    StepAnswer::Accepted {
+        rule,
+        cites,
+        entries,
+    }
+}
+
+// The numbers of the parents.
+fn numbers(alloc: Global, parents: &[Parent]) -> Result<List<u64>, Memory>
+    ensures { IfOk result (λ cites. cites ≡ numbers_of parents.now) }
+{
+    let mut cites = List::new(alloc);
+    for parent in parents {
+        cites.push(parent.number)?;
+    }
+    Ok(cites)
 }
 
 /// A rule that gives a line, and a proof of the line by it.
@@ -95,17 +140,10 @@ fn by_rule(rule: Rule, proof: Part) -> Option<Found>
 fn accepted(alloc: Global, parents: &[Parent], found: Found) -> Result<StepAnswer, Memory>
     ensures { IfOk result (λ answer. answer ≡ Accepted found.rule (numbers_of parents.now) (Lemma found.proof ∷ [])) }
 {
-    let mut cites = List::new(alloc);
-    for parent in parents {
-        cites.push(parent.number)?;
-    }
+    let cites = numbers(alloc, parents)?;
     let Found { rule, proof } = found;
     let entries = lemma(alloc, proof)?;
-    Ok(StepAnswer::Accepted {
-        rule,
-        cites,
-        entries,
-    })
+    Ok(by_entries(rule, cites, entries))
 }
 
 /// The lemma of the proof, as the only entry.

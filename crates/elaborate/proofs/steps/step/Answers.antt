@@ -1,5 +1,5 @@
 use Rattle.derive_kit.specs.Built.{ok_map}
-use Rattle.elaborate.proofs.StepAnswers.{step_accepted, step_unverified}
+use Rattle.elaborate.proofs.StepAnswers.{step_accepted}
 use Rattle.elaborate.proofs.steps.step.Goals as goal
 
 pub returns-in-Some : goal.returns-in-Some
@@ -7,6 +7,3 @@ returns-in-Some c =
     ok_map c.accepted.result
     (λ answer e. rw e (step_accepted c.args.theory.now c.args.parents.now c.args.line.now c.in_ok-found.field-0 c.in-Some.found c.requires.parents c.in-Some.is c.in_ok-found.ensures))
     c.accepted.ensures
-
-pub returns-in-None : goal.returns-in-None
-returns-in-None c = step_unverified c.args.theory.now c.args.parents.now c.args.line.now c.in_ok-found.field-0 c.in-None.is c.in_ok-found.ensures
