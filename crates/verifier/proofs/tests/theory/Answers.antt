@@ -1,4 +1,4 @@
-use Rattle.std.proofs.Common.{◌≡◌, [], List, sym, subst, rules}
+use Rattle.std.proofs.Common.{◌≡◌, List, sym, subst, rules}
 use Rattle.std.specs.List.{All}
 use Rattle.fof_terms.specs.Vocabulary.{Vocabulary}
 use Rattle.fof_terms.specs.declared.form.Form.{Form}
