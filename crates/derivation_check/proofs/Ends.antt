@@ -1,14 +1,12 @@
 -- How a check ends: its report, and its log as a whole.
-use Rattle.std.specs.Prelude.{IfErr, IfOk, OnErr}
-use Rattle.std.proofs.Common.{◌≡◌, ◌<◌, arith, ℕ, Bool, true, false, List, [], ◌∷◌, ◌++◌, length, Option, None, Result, Ok, Err, refl, sym, ◌∙◌, ap, subst}
-use Rattle.tptp_base.specs.Sink.{Takes}
+use Rattle.std.specs.Prelude.{IfOk, OnErr}
+use Rattle.std.proofs.Common.{◌≡◌, ◌<◌, arith, ℕ, Bool, true, List, [], ◌++◌, length, Option, None, Result, Ok, Err, refl, sym, ◌∙◌, subst}
 use Rattle.fof_terms.specs.Vocabulary.{Vocabulary}
 use Rattle.fof_terms.specs.declared.form.Form.{Form, Or}
 use Rattle.kernel.specs.Statements.{Statements}
 use Rattle.kernel.specs.Entries.{Admits, Refutes, with_formula}
-use Rattle.kernel.specs.EntryLaws.{admits_append, admits_more}
+use Rattle.kernel.specs.EntryLaws.{admits_append}
 use Rattle.kernel.specs.declared.entry.Entry.{Entry}
-use Rattle.kernel.specs.declared.entry.Entry.TheVariants.{Lemma}
 use Rattle.proof_log.specs.Entries.{log_text}
 use Rattle.tstp_graph.specs.Order.{is_taken, first_left, TakesInTurn}
 use Rattle.szs_report.specs.declared.answer.Verdict.{Verdict}
@@ -16,15 +14,15 @@ use Rattle.szs_report.specs.declared.answer.Verdict.TheVariants.{Failed, NoFalse
 use Rattle.derivation_text.specs.declared.derivation.Derivation.{Derivation}
 use Rattle.verifier.specs.Claim.{IsJustified}
 use Rattle.verifier.specs.Closing.{Closes, IsVerified}
-use Rattle.verifier.specs.Logged.{LogsSome, entries_text}
-use Rattle.verifier.specs.Report.{AreAccepted, HasFalse, IsVerdict, report_text}
+use Rattle.verifier.specs.Logged.{LogsSome}
+use Rattle.verifier.specs.Report.{AreAccepted, HasFalse, IsVerdict}
 use Rattle.verifier.specs.declared.answer.LineAnswer.{LineAnswer}
 use Rattle.verifier.specs.declared.claim.Claim.{Claim}
 use Rattle.verifier.specs.declared.fault.RunFault.{RunFault}
 use Rattle.verifier.proofs.Refuting.{falsehood_stands, closed_refutes}
 use Rattle.verifier.proofs.Goodness.{good_accepted}
 use Rattle.derivation_check.specs.Cases.{Asked, claim_by, lines_over, widened}
-use Rattle.derivation_check.specs.Checks.{Checks, Runs, is_verified}
+use Rattle.derivation_check.specs.Checks.{Checks, is_verified}
 use Rattle.derivation_check.specs.GoodCases.{IsGoodCase}
 use Rattle.derivation_check.specs.Logs.{Closed, ChecksWithLog, LogsRuns, TakesSomeOfLog}
 use Rattle.derivation_check.specs.declared.checking.Report.{Report}

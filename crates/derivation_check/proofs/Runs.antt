@@ -1,11 +1,10 @@
 -- A run of the lines of a derivation, behind its declarations.
 use Rattle.std.specs.List.{All}
-use Rattle.std.proofs.Common.{◌≡◌, ℕ, ◌≤◌, ◌++◌, List, [], length, Option, refl, sym, ap, subst, arith}
+use Rattle.std.proofs.Common.{◌≡◌, ℕ, ◌++◌, List, [], Option, refl, sym, subst, arith}
 use Rattle.tptp_base.specs.Sink.{Takes}
 use Rattle.fof_terms.specs.Vocabulary.{Vocabulary}
 use Rattle.fof_terms.specs.Scoped.{raised}
 use Rattle.fof_terms.specs.SortLaws.{grown_sorted}
-use Rattle.fof_terms.specs.declared.form.Form.{Form}
 use Rattle.kernel.specs.Statements.{Statements}
 use Rattle.kernel.specs.Entries.{Admits}
 use Rattle.kernel.specs.EntryLaws.{admits_append}

@@ -1,5 +1,5 @@
 -- What a derivation is checked against: the given formulas of its problem, and what is asked of a claim (SZS ontology).
-use Rattle.std.specs.Prelude.{◌≡◌, ℕ, Bool, List, Option, Some, None, slice_range}
+use Rattle.std.specs.Prelude.{ℕ, Bool, List, Option, Some, None, slice_range}
 use Rattle.fof_terms.specs.Vocabulary.{Vocabulary}
 use Rattle.kernel.specs.Statements.{Statements}
 use Rattle.szs_report.specs.Region.{claim_of}
