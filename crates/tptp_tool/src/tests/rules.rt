@@ -76,3 +76,43 @@ fn normal_forms(rt: HostRuntime) -> Result<(), Fail> {
     }
     Ok(())
 }
+
+#[test]
+fn meanings_of_new_symbols(rt: HostRuntime) -> Result<(), Fail> {
+    let functions = "fof(a,axiom,! [X] : ? [Y] : q(X,Y)).\n";
+    let clause = "cnf(a,axiom,p(c)).\n";
+    for (problem, derivation, printed) in [
+        (
+            functions,
+            "fof(k,plain,! [X] : ( ? [Y] : q(X,Y) => q(X,s(X)) ),introduced(choice_axiom,[])).\n",
+            "k ok choice\nnot verified: no line is $false\n",
+        ),
+        (
+            functions,
+            "fof(k,plain,! [X] : ( ? [Y] : q(X,Y) => q(X,t) ),introduced(choice_axiom,[])).\n",
+            "k unverified not-yet\nnot verified: 1 unverified, 0 skipped of 1 lines\n",
+        ),
+        (
+            clause,
+            "fof(d,plain,! [X] : ( r(X) => p(X) ),introduced(definition,[])).\n",
+            "d ok definition\nnot verified: no line is $false\n",
+        ),
+        (
+            clause,
+            "fof(d,plain,! [X] : ( r(X) => p(X) ),introduced(definition,[])).\nfof(e,plain,! [X] : ( p(X) => r(X) ),introduced(definition,[])).\n",
+            "d ok definition\ne unverified not-yet\nnot verified: 1 unverified, 0 skipped of 2 lines\n",
+        ),
+        (
+            "cnf(a1,axiom,p(X) | q(Y)).\n",
+            "fof(d1,plain,s1 <=> ! [X] : p(X),introduced(avatar_definition,[])).\nfof(d2,plain,s2 <=> ! [Y] : q(Y),introduced(avatar_definition,[])).\nfof(d3,plain,c = f(g),introduced(definition,[])).\n",
+            "d1 ok definition\nd2 ok definition\nd3 ok definition\nnot verified: no line is $false\n",
+        ),
+    ] {
+        let named = [("x.p", problem), ("u.s", derivation)];
+        assert!(rt;
+            prints(rt.alloc(), "verify x.p u.s", &named, 1, printed)?,
+            "{derivation}"
+        );
+    }
+    Ok(())
+}
