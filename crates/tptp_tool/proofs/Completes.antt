@@ -44,10 +44,9 @@ format_complete files file ending h ends = ap status (format_writes files file h
 module _ (files : Files) (root : Option (List ℕ)) (problem log : List ℕ) (ending : Ending) (h : IsRefutedByLog files root problem log) where
   log_complete : (theory : Statements) (read : ℕ) → IsGiven (Some files) root problem theory read → AfterFile files log (TOTAL_SIZE - read) (SaysLog theory) ending → ending.status ≡ 0
   log_complete theory read is after =
-      let same = one_given files root problem h.theory theory h.read read h.is is in
-      let has : HasRefutation files log theory read =
-      subst (λ (n : ℕ). HasRefutation files log theory n) same.1 (subst (λ (t : Statements). HasRefutation files log t h.read) same.0 h.log) in
-      (log_exact files root problem log ending theory read is after).always has
+      let exact = log_exact files root problem log ending theory read is after in
+      let same = one_given files root problem h.theory exact.theory h.read exact.read h.is exact.given in
+      exact.always (subst (λ (n : ℕ). HasRefutation files log exact.theory n) same.1 (subst (λ (t : Statements). HasRefutation files log t h.read) same.0 h.refuted))
 
   -- no fault of the problem is met
   no_include : {R : Type 0} (theory : Statements) (read : ℕ) → IsGiven (Some files) root problem theory read → (fault : IncludeFault) → Resolves (Some files) root problem (Err fault) → R

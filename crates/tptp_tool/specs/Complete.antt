@@ -29,7 +29,7 @@ pub record IsRefutedByLog (files : Files) (root : Option (List ℕ)) (problem lo
   pub theory : Statements
   pub read : ℕ
   pub is : IsGiven (Some files) root problem theory read
-  pub log : HasRefutation files log theory read
+  pub refuted : HasRefutation files log theory read
 
 -- the files have no fault that the task could meet
 abbrev pub MeetsNoFault : Files → Option (List ℕ) → Task → Type 0
