@@ -8,6 +8,7 @@ use Rattle.kernel.specs.declared.entry.Entry.{Entry}
 use Rattle.include_resolve.specs.declared.fault.IncludeFault.{IncludeFault}
 use Rattle.include_resolve.specs.declared.problem.Problem.{Problem}
 use Rattle.include_resolve.specs.Parts.{Answer}
+use Rattle.include_resolve.proofs.OneAnswer.{one}
 use Rattle.sort_check.specs.declared.fault.SortFault.{SortFault}
 use Rattle.sort_check.specs.declared.line.Line.{Line}
 use Rattle.sort_check.specs.declared.line.TextKind.TheVariants as kind
@@ -125,10 +126,10 @@ module _ (after : Files) (root : Option (List ℕ)) (problem log text : List ℕ
       text_refuted (given_theory others w) text entries ending is (subst (λ (s : Statements). Refutes s entries) same refutes) (file.read text there fits)
 
   problem_checks : (files : Files) (read : ℕ) → GivesTheSame files after root problem → IsGiven (Some files) root problem t read → Fits read (length text) → EndsCheck after root problem log ending → ending ≡ refuted (length entries)
-  problem_checks files read same (whole, resolves, theory, bytes) fits (inl (fault, faulty, says)) = no_answer fault whole (same (Ok whole) (Err fault) resolves faulty)
+  problem_checks files read same (whole, resolves, theory, bytes) fits (inl (fault, faulty, says)) = no_answer fault whole (one after root problem (Err fault) (Ok whole) faulty (same (Ok whole) resolves))
   problem_checks files read same (whole, resolves, (lines, v, denotes, is_theory), bytes) fits (inr (other, again, rest)) =
       let Rest : Problem → Type 0 = λ p. AfterDenoted p (λ lines v. AfterFile after log (TOTAL_SIZE - p.read) (SaysLog (given_theory lines v))) ending in
-      theory_checks whole lines v denotes is_theory (subst (λ (n : ℕ). Fits n (length text)) bytes fits) (subst Rest (one_problem whole other (same (Ok whole) (Ok other) resolves again)) rest)
+      theory_checks whole lines v denotes is_theory (subst (λ (n : ℕ). Fits n (length text)) bytes fits) (subst Rest (one_problem whole other (one after root problem (Ok other) (Ok whole) again (same (Ok whole) resolves))) rest)
 
 module _ (files after : Files) (root : Option (List ℕ)) (problem log text : List ℕ) (run : IsRefutation files root problem (Some []) (Some text)) where
   logged_is : CanBeRead MAX_NESTING run.entries → IsLogOf MAX_NESTING text run.entries

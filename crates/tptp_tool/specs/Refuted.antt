@@ -41,6 +41,6 @@ pub record IsExact (files : Files) (root : Option (List ℕ)) (problem log : Lis
 abbrev pub IsRefused : Files → Option (List ℕ) → List ℕ → Ending → Type 0
 IsRefused files root problem ending = IsProblemRefusal (Some files) root problem ending × (ending.status ≡ 0 → ⊥)
 
--- the problem gives in the second store what it gives in the first, and nothing else
+-- the problem gives in the second store what it gives in the first
 abbrev pub GivesTheSame : Files → Files → Option (List ℕ) → List ℕ → Type 0
-GivesTheSame files after root problem = (answer other : Answer) → Resolves (Some files) root problem answer → Resolves (Some after) root problem other → other ≡ answer
+GivesTheSame files after root problem = (answer : Answer) → Resolves (Some files) root problem answer → Resolves (Some after) root problem answer
