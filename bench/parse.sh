@@ -1,5 +1,5 @@
 #!/bin/sh
-# Measures `tptp parse` on problems of about 10 MB and 20 MB, and on problems of 10,000 and 100,000 symbols, half of them
+# Measures `tptp parse` on problems of about 10 MB and 20 MB, and on problems of 50,000 and 100,000 symbols, half of them
 # declared by type lines: its speed, its peak memory, and how its time grows, all in one run.
 set -eu
 . "$(dirname "$0")/common.sh"
@@ -12,8 +12,13 @@ symbols() {
         for (i = 0; i < count / 2; i++) printf "tff(axiom_%d,axiom,declared_%d(constant_%d)).\n", i, i, i
     }' > "$2"
 }
-symbols 10000 "$folder/few.p"
+symbols 50000 "$folder/few.p"
 symbols 100000 "$folder/many.p"
+bytes=$(wc -c < "$folder/many.p")
 few=$(seconds "$tptp" parse "$folder/few.p")
 many=$(seconds "$tptp" parse "$folder/many.p")
-echo "symbols      100,000 in $many s, $(calculate "$many / $few") times the time for 10,000"
+memory=$(peak "$tptp" parse "$folder/many.p")
+echo "symbols      100,000 in $bytes bytes"
+echo "speed        $(calculate "$bytes / 1000000 / $many") MB/s"
+echo "growth       $(calculate "$many / $few") times the time for twice the symbols"
+echo "peak memory  $(calculate "$memory / $bytes") bytes a byte of text"

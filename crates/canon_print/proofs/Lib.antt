@@ -10,3 +10,4 @@ pub mod GeneralShown
 pub mod ItemsShown
 pub mod FilesShown
 pub mod OneReading
+pub mod ReadBack

@@ -1,26 +1,61 @@
 -- Texts that a sink takes in pieces, the last of which may be refused.
-use Rattle.std.proofs.Common.{◌≡◌, ℕ, zero, suc, ◌<◌, length, List, [], ◌∷◌, ◌++◌, get_or, take, Option, Result, Ok, Err, OnOk, OnErr, refl, sym, ap, subst, ◌∙◌, arith, append_assoc}
-use Rattle.std.specs.List.{flat_map}
+use Rattle.std.proofs.Common.{◌≡◌, ℕ, zero, suc, ◌+◌, ◌<◌, ◌≤◌, Bool, true, false, not, if◌then◌else◌, List, [], ◌∷◌, ◌++◌, length, get_or, take, drop, Option, Result, Ok, Err, OnOk, OnErr, refl, sym, ap, subst, ◌∙◌, arith, append_assoc}
+use Rattle.std.proofs.lemmas.Grind.{flat_map-append}
+use Rattle.std.proofs.lemmas.List.{append-nil, take-append-drop}
+use Rattle.std.proofs.Math.Seq.{take-add}
+use Rattle.std.specs.List.{flat_map, prefix_len}
+use Rattle.std.specs.Io.KnownBytes.{append_known}
 use Rattle.tptp_base.specs.declared.surface.BinOp.{BinOp}
 use Rattle.tptp_base.specs.declared.surface.Surface.{Surface}
 use Rattle.tptp_base.specs.declared.surface.Surface.TheVariants.{Binary}
 use Rattle.tptp_base.specs.Sink.{Takes, TakesPrefix}
-use Rattle.tptp_base.proofs.Taken.{takes_then_prefix, prefix_of_more}
+use Rattle.tptp_base.proofs.Taken.{takes_both, takes_then_prefix, prefix_of_more}
+use Rattle.tptp_lexer.specs.Quotes.{is_escaped}
 use Rattle.canon_print.specs.Canonical.{operator_text, Shown, formula_text, unit_text}
 use Rattle.canon_print.specs.Equations.{shown-Binary}
+use Rattle.canon_print.specs.Words.{escaped, is_bare}
 
--- the pieces before one, that one, and the others
-split_at : (f : ℕ → List ℕ) (xs : List ℕ) (i d : ℕ) → i < length xs → (more : List ℕ) × (flat_map f xs ≡ (flat_map f (take i xs) ++ f (get_or xs i d)) ++ more)
-split_at f [] i d h = absurd (omega arith)
-split_at f (x ∷ xs) zero d h = (flat_map f xs, refl)
-split_at f (x ∷ xs) (suc i) d h =
-    let (more, same) = split_at f xs i d (omega arith) in
-    (more, ap (λ (z : List ℕ). f x ++ z) same ∙ sym (append_assoc (f x) (flat_map f (take i xs) ++ f (get_or xs i d)) more) ∙ ap (λ (z : List ℕ). z ++ more) (sym (append_assoc (f x) (flat_map f (take i xs)) (f (get_or xs i d)))))
+-- characters that stand for themselves
+plain_by : (quote : ℕ) (x : ℕ) (xs : List ℕ) (n : ℕ) (t : Bool) → is_escaped quote x ≡ t → suc n ≤ (if not t then 1 + prefix_len (is_bare quote) xs else 0)
+    → (n ≤ prefix_len (is_bare quote) xs → flat_map (escaped quote) (take n xs) ≡ take n xs) → flat_map (escaped quote) (x ∷ take n xs) ≡ x ∷ take n xs
+plain_by quote x xs n true e h more = absurd (omega arith)
+plain_by quote x xs n false e h more = let rest = more (omega arith) in rw e (ap (λ (z : List ℕ). x ∷ z) rest)
 
-pub pieces_refused : (f : ℕ → List ℕ) (old mid new : Option (List ℕ)) (xs : List ℕ) (i d : ℕ) → i < length xs → Takes old mid (flat_map f (take i xs)) → TakesPrefix mid new (f (get_or xs i d)) → TakesPrefix old new (flat_map f xs)
-pieces_refused f old mid new xs i d h taken prefix =
-    let (more, same) = split_at f xs i d h in
-    subst (TakesPrefix old new) (sym same) (prefix_of_more old new _ more (takes_then_prefix old mid new (flat_map f (take i xs)) (f (get_or xs i d)) taken prefix))
+plain_run : (quote : ℕ) (xs : List ℕ) (n : ℕ) → n ≤ prefix_len (is_bare quote) xs → flat_map (escaped quote) (take n xs) ≡ take n xs
+plain_run quote xs zero h = refl
+plain_run quote [] (suc n) h = refl
+plain_run quote (x ∷ xs) (suc n) h = plain_by quote x xs n (is_escaped quote x) refl h (plain_run quote xs n)
+
+-- pieces more, and pieces that are refused
+pub more_pieces : (f : ℕ → List ℕ) (old mid new : Option (List ℕ)) (xs : List ℕ) (done count : ℕ) → Takes old mid (flat_map f (take done xs)) → Takes mid new (flat_map f (take count (drop done xs)))
+    → Takes old new (flat_map f (take (done + count) xs))
+more_pieces f old mid new xs done count first second =
+    takes_both old mid new _ _ first second ∙ ap (append_known old) (sym (ap (flat_map f) (take-add done count xs) ∙ flat_map-append f (take done xs) (take count (drop done xs))))
+
+pub pieces_refused : (f : ℕ → List ℕ) (old mid new : Option (List ℕ)) (xs : List ℕ) (done : ℕ) → Takes old mid (flat_map f (take done xs)) → TakesPrefix mid new (flat_map f (drop done xs)) → TakesPrefix old new (flat_map f xs)
+pieces_refused f old mid new xs done taken prefix =
+    subst (TakesPrefix old new) (sym (flat_map-append f (take done xs) (drop done xs)) ∙ ap (flat_map f) (take-append-drop done xs))
+    (takes_then_prefix old mid new (flat_map f (take done xs)) (flat_map f (drop done xs)) taken prefix)
+
+-- of these pieces the first ones
+front_refused : (f : ℕ → List ℕ) (old new : Option (List ℕ)) (xs : List ℕ) (n : ℕ) → TakesPrefix old new (flat_map f (take n xs)) → TakesPrefix old new (flat_map f xs)
+front_refused f old new xs n prefix =
+    subst (TakesPrefix old new) (sym (flat_map-append f (take n xs) (drop n xs)) ∙ ap (flat_map f) (take-append-drop n xs)) (prefix_of_more old new (flat_map f (take n xs)) (flat_map f (drop n xs)) prefix)
+
+-- the first of these pieces
+first_piece : (f : ℕ → List ℕ) (xs : List ℕ) → 0 < length xs → flat_map f (take 1 xs) ≡ f (get_or xs 0 0)
+first_piece f [] h = absurd (omega arith)
+first_piece f (x ∷ xs) h = append-nil (f x)
+
+pub first_piece_refused : (f : ℕ → List ℕ) (old new : Option (List ℕ)) (xs : List ℕ) → 0 < length xs → TakesPrefix old new (f (get_or xs 0 0)) → TakesPrefix old new (flat_map f xs)
+first_piece_refused f old new xs h prefix = front_refused f old new xs 1 (subst (TakesPrefix old new) (sym (first_piece f xs h)) prefix)
+
+-- a run of characters that stand for themselves
+pub run_taken : (quote : ℕ) (old new : Option (List ℕ)) (xs : List ℕ) (n : ℕ) → n ≤ prefix_len (is_bare quote) xs → Takes old new (take n xs) → Takes old new (flat_map (escaped quote) (take n xs))
+run_taken quote old new xs n h taken = subst (Takes old new) (sym (plain_run quote xs n h)) taken
+
+pub run_refused : (quote : ℕ) (old new : Option (List ℕ)) (xs : List ℕ) (n : ℕ) → n ≤ prefix_len (is_bare quote) xs → TakesPrefix old new (take n xs) → TakesPrefix old new (flat_map (escaped quote) xs)
+run_refused quote old new xs n h prefix = front_refused (escaped quote) old new xs n (subst (TakesPrefix old new) (sym (plain_run quote xs n h)) prefix)
 
 -- the quote, the characters, the quote
 pub first_refused : (old new : Option (List ℕ)) (quote : ℕ) (written : List ℕ) → TakesPrefix old new (quote ∷ []) → TakesPrefix old new (quote ∷ (written ++ quote ∷ []))

@@ -1,11 +1,19 @@
 -- Texts that spell items, and items that differ in their places alone.
-use Rattle.std.specs.Prelude.{◌≡◌, ℕ, List, [], map}
+use Rattle.std.specs.Prelude.{◌≡◌, ℕ, List, [], length, map, Result, Ok, Err}
 use Rattle.tptp_base.specs.declared.place.Place.{Place}
+use Rattle.tptp_base.specs.declared.place.Region.{Region}
 use Rattle.tptp_base.specs.declared.item.Item.{Item}
 use Rattle.tptp_base.specs.declared.item.Item.TheVariants as item
+use Rattle.tptp_lexer.specs.declared.fault.LexFault.{LexFault}
+use Rattle.tptp_lexer.specs.declared.fault.LexFault.TheVariants as lf
 use Rattle.tptp_lexer.specs.declared.style.Style.TheVariants.{Problem}
+use Rattle.tptp_lexer.specs.declared.token.Tokens.{Tokens}
+use Rattle.tptp_lexer.specs.Answer as lexer
 use Rattle.tptp_lexer.specs.Bytes.{Text}
 use Rattle.tptp_lexer.specs.Tokenized.{Cut, placed}
+use Rattle.tptp_grammar.specs.declared.fault.GrammarFault.{GrammarFault}
+use Rattle.tptp_grammar.specs.declared.fault.GrammarFault.TheVariants as gf
+use Rattle.tptp_grammar.specs.Answers as grammar
 use Rattle.tptp_grammar.specs.Solid.{Placed}
 use Rattle.tptp_grammar.specs.Files.{SpellsWithin}
 
@@ -30,3 +38,23 @@ AreSame items others = map (at_place first_place) items ≡ map (at_place first_
 -- Some text spells the same items again, but for their places.
 abbrev pub SpellsAgain : ℕ → ℕ → List Item → Text → Type 0
 SpellsAgain file limit items text = (again : List Item) × AreSame again items × TextSpells file limit again text
+
+-- a text as a region of itself
+abbrev pub whole : Text → Region
+whole text = record { start = 0; end = length text }
+
+-- `tokens` and `parse` read these items from the text.
+abbrev pub ReadsItems : ℕ → Text → List Item → Type 0
+ReadsItems file text items = (tokens : Tokens) × lexer.Answers file text (whole text) Problem (Ok tokens) × grammar.Answers tokens.items tokens.end (Ok items)
+
+-- `parse` gave these items, but for their places, or memory was wanting.
+abbrev pub ParsesAs : List Item → Result (List Item) GrammarFault → Type 0
+ParsesAs items (Ok found) = AreSame found items
+ParsesAs items (Err gf.Memory) = Unit {0}
+ParsesAs items (Err fault) = ⊥
+
+-- `tokens` gave tokens of which every answer of `parse` is these items, but for their places, or memory was wanting.
+abbrev pub ReadsAs : List Item → Result Tokens LexFault → Type 0
+ReadsAs items (Ok tokens) = (result : Result (List Item) GrammarFault) → grammar.Answers tokens.items tokens.end result → ParsesAs items result
+ReadsAs items (Err lf.Memory) = Unit {0}
+ReadsAs items (Err fault) = ⊥

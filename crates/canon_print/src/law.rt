@@ -1,9 +1,14 @@
 //! Laws of the canonical text. Their bodies are empty: what they say is in their contracts.
-ghost use Rattle.std.specs.Prelude.{◌≡◌, ℕ, List};
+ghost use Rattle.std.specs.Prelude.{◌≡◌, ◌≤◌, ℕ, List, Result, length};
 ghost use Rattle.tptp_base.specs.declared.item.Item.{Item};
+ghost use Rattle.tptp_base.specs.declared.read.TheConstants.{FILE_SIZE};
+ghost use Rattle.tptp_lexer.specs.declared.fault.LexFault.{LexFault};
+ghost use Rattle.tptp_lexer.specs.declared.style.Style.TheVariants.{Problem};
+ghost use Rattle.tptp_lexer.specs.declared.token.Tokens.{Tokens};
+ghost use Rattle.tptp_lexer.specs.Answer.{Answers};
 ghost use Rattle.tptp_lexer.specs.Bytes.{Text};
 ghost use Rattle.canon_print.specs.Canonical.{canonical_text};
-ghost use Rattle.canon_print.specs.RoundTrip.{AreSame, TextSpells, SpellsAgain};
+ghost use Rattle.canon_print.specs.RoundTrip.{AreSame, TextSpells, SpellsAgain, whole, ReadsItems, ReadsAs};
 
 /// What some text spells, the canonical text spells again, but for the places of the items. It nests no deeper than
 /// any text that spells them.
@@ -31,4 +36,12 @@ pub fn read_only()
 /// Items that differ in their places alone have one canonical text: printed again, it is the same bytes.
 pub fn one_text()
     ensures { (items others : List Item) → AreSame items others → canonical_text items ≡ canonical_text others }
+{}
+
+/// Where `tokens` and `parse` read items from a text, they read them from the canonical text again, but for their places,
+/// where that text is no longer than a file may be and memory is not wanting.
+pub fn reads_back()
+    ensures { (file : ℕ) (items : List Item) (text : Text) (answer : Result Tokens LexFault) →
+        ReadsItems file text items → length (canonical_text items) ≤ FILE_SIZE →
+        Answers file (canonical_text items) (whole (canonical_text items)) Problem answer → ReadsAs items answer }
 {}

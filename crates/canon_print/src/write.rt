@@ -1,6 +1,6 @@
 // Names, written to a sink.
-ghost use Rattle.std.specs.Prelude.{◌≤◌, OnOk, OnErr, IsErrOf};
-ghost use Rattle.std.specs.List.{flat_map};
+ghost use Rattle.std.specs.Prelude.{◌≡◌, ◌<◌, ◌≤◌, length, take, IfOk, OnOk, OnErr, IsErrOf};
+ghost use Rattle.std.specs.List.{flat_map, prefix_len};
 ghost use Rattle.tptp_base.specs.Count.{Rose};
 ghost use Rattle.tptp_base.specs.Sink.{Takes, TakesPrefix};
 ghost use Rattle.tptp_lexer.specs.Quotes.{single_quote};
@@ -23,6 +23,36 @@ fn write_escaped<K: Sink>(char: u8, sink: &mut K) -> Result<(), SinkFault>
     }
 }
 
+// How many characters stand for themselves before the first that is written with `\`.
+fn plain_len(chars: &[u8]) -> usize
+    ensures value { result ≡ prefix_len (spec.is_bare single_quote) chars.now }
+    ensures within { result ≤ length chars.now }
+{
+    chars
+        .iter()
+        .take_while(|char| **char != b'\'' && **char != b'\\')
+        .count()
+}
+
+// Appends the characters before the first that is written with `\`, or that one alone, and says how many they are.
+fn write_some<K: Sink>(chars: &[u8], sink: &mut K) -> Result<usize, SinkFault>
+    requires { 0 < length chars.now }
+    ensures count { IfOk result (λ count. (0 < count) × (count ≤ length chars.now)) }
+    ensures ok { IfOk result (λ count. Takes (K.taken sink.old) (K.taken sink.new) (flat_map (spec.escaped single_quote) (take count chars.now))) }
+    ensures err { OnErr result (TakesPrefix (K.taken sink.old) (K.taken sink.new) (flat_map (spec.escaped single_quote) chars.now)) }
+    ensures failed { IsErrOf result SinkFault.Failed → Rose (K.faults sink.old) (K.faults sink.new) }
+    ensures more_faults { K.faults sink.old ≤ K.faults sink.new }
+{
+    let plain = plain_len(chars);
+    if plain == 0 {
+        write_escaped(chars[0], sink)?;
+        Ok(1)
+    } else {
+        put_all(sink, &chars[..plain])?;
+        Ok(plain)
+    }
+}
+
 // Appends the characters of a quoted word.
 fn write_chars<K: Sink>(chars: &[u8], sink: &mut K) -> Result<(), SinkFault>
     ensures ok { OnOk result (Takes (K.taken sink.old) (K.taken sink.new) (flat_map (spec.escaped single_quote) chars.now)) }
@@ -30,8 +60,9 @@ fn write_chars<K: Sink>(chars: &[u8], sink: &mut K) -> Result<(), SinkFault>
     ensures failed { IsErrOf result SinkFault.Failed → Rose (K.faults sink.old) (K.faults sink.new) }
     ensures more_faults { K.faults sink.old ≤ K.faults sink.new }
 {
-    for char in chars {
-        write_escaped(*char, sink)?;
+    let mut done = 0;
+    while done < chars.len() {
+        done += write_some(&chars[done..], sink)?;
     }
     Ok(())
 }

@@ -39,14 +39,8 @@ pub fn norm_signed(alloc: Global, form: &Form, positive: bool) -> Result<Form, M
     match form {
         Form::Atom(_, _) | Form::Eq(_, _) => signed(alloc, positive, form.copy(alloc)?),
         Form::Not(body) => norm_signed(alloc, body.get(), !positive),
-        Form::And(members) => {
-            let flat = norm_members(alloc, members.as_slice(), positive, positive)?;
-            Ok(join_flat(alloc, positive, flat))
-        }
-        Form::Or(members) => {
-            let flat = norm_members(alloc, members.as_slice(), positive, !positive)?;
-            Ok(join_flat(alloc, !positive, flat))
-        }
+        Form::And(members) => norm_joined(alloc, members.as_slice(), positive, positive),
+        Form::Or(members) => norm_joined(alloc, members.as_slice(), positive, !positive),
         Form::Imp(left, right) => {
             let first = norm_signed(alloc, left.get(), !positive)?;
             let flat = first_member(alloc, !positive, first)?;
@@ -66,20 +60,12 @@ pub fn norm_signed(alloc: Global, form: &Form, positive: bool) -> Result<Form, M
             second_member(alloc, positive, whole, back)
         }
         Form::All(sort, body) => {
-            quantified(
-                alloc,
-                positive,
-                *sort,
-                norm_signed(alloc, body.get(), positive)?,
-            )
+            let norm = norm_signed(alloc, body.get(), positive)?;
+            quantified(alloc, positive, *sort, norm)
         }
         Form::Ex(sort, body) => {
-            quantified(
-                alloc,
-                !positive,
-                *sort,
-                norm_signed(alloc, body.get(), positive)?,
-            )
+            let norm = norm_signed(alloc, body.get(), positive)?;
+            quantified(alloc, !positive, *sort, norm)
         }
     }
 }
@@ -102,22 +88,17 @@ fn second_member(alloc: Global, kind: bool, flat: List<Form>, form: Form) -> Res
     Ok(join_flat(alloc, kind, flat))
 }
 
-// The members of the normal forms of the formulas, where these are nodes of that kind, and else themselves.
+// The joined node of the normal forms of the formulas, or under minus of their negations.
 #[cycle(norm_signed)]
-fn norm_members(
-    alloc: Global,
-    forms: &[Form],
-    positive: bool,
-    kind: bool,
-) -> Result<List<Form>, Memory>
+fn norm_joined(alloc: Global, forms: &[Form], positive: bool, kind: bool) -> Result<Form, Memory>
     requires { greatest (map binder_depth forms.now) < 2 ^ 32 }
-    ensures { IfOk result (λ flat. flat ≡ flat_map (members_of kind) (map (norm_of positive) forms.now)) }
+    ensures { IfOk result (λ made. made ≡ joined kind (map (norm_of positive) forms.now)) }
 {
     let mut flat = List::new(alloc);
     for form in forms {
         push_members(&mut flat, kind, norm_signed(alloc, form, positive)?)?;
     }
-    Ok(flat)
+    Ok(join_flat(alloc, kind, flat))
 }
 
 /// The normal forms of the formulas.

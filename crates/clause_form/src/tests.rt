@@ -45,15 +45,21 @@ fn node_with(
     count: usize,
     stack: &mut Stack,
 ) -> Result<Boxed<Form>, Memory> {
-    let mut parts = List::new(alloc);
-    for _ in 0..count {
-        parts.push(stack.pop().ok_or(Memory)?)?;
-    }
+    let mut parts = taken(alloc, count, stack)?;
     let mut members = List::new(alloc);
     for _ in 0..count {
         members.push(parts.pop().ok_or(Memory)?.into_inner())?;
     }
     Ok(Boxed::new(alloc, node(positive, members))?)
+}
+
+// So many formulas from the end of the stack, the last first.
+fn taken(alloc: Global, count: usize, stack: &mut Stack) -> Result<Stack, Memory> {
+    let mut parts = List::new(alloc);
+    for _ in 0..count {
+        parts.push(stack.pop().ok_or(Memory)?)?;
+    }
+    Ok(parts)
 }
 
 fn connected(alloc: Global, byte: u8, stack: &mut Stack) -> Result<Boxed<Form>, Memory> {
@@ -74,10 +80,8 @@ fn normal(alloc: Global, text: &str) -> Result<Boxed<Form>, Memory> {
     }
 }
 
-#[test]
-fn normal_forms(rt: HostRuntime) -> Result<(), Fail> {
-    let alloc = rt.alloc();
-    let rows = "a a
+// Formulas and their normal forms.
+const NORMAL_FORMS: &str = "a a
 e~ e~
 a~~ a
 ab& ab&
@@ -94,7 +98,7 @@ ab=~ ab~&a~b&|
 0?~ 0~!
 1! 0
 1?~ 0~
-1! 0
+02&?! 01&?
 01&!! 01&!!
 1!! 0!
 0T|! T
@@ -103,12 +107,19 @@ abc&& abc*
 ab&c| ab&c|
 abc%F| abc%
 aF| a
+FF| F
+aF& F
 aF&~ T
+aT|~ F
 aT& a
 TT& T
 aT| T
 ab&F|T& ab&";
-    for row in rows.lines() {
+
+#[test]
+fn normal_forms(rt: HostRuntime) -> Result<(), Fail> {
+    let alloc = rt.alloc();
+    for row in NORMAL_FORMS.lines() {
         let (text, want) = row.split_once(' ').ok_or(Memory)?;
         let found = normal(alloc, text)?;
         let want = form(alloc, want.as_bytes())?;
@@ -179,6 +190,12 @@ fn clauses(rt: HostRuntime) -> Result<(), Fail> {
         let is_same = equal(again.get(), form(alloc, text.as_bytes())?.get());
         assert!(rt; is_same == (text != "ab|F|T|!"), "{text}");
     }
+    Ok(())
+}
+
+#[test]
+fn no_clauses(rt: HostRuntime) -> Result<(), Fail> {
+    let alloc = rt.alloc();
     for text in ["ab&", "ab|c|", "0?", "a~~", "ab>", "ab=", "0!~", "0!a|"] {
         let found = as_clause(alloc, form(alloc, text.as_bytes())?.get())?;
         assert!(rt; found.is_none(), "{text}");

@@ -30,7 +30,7 @@ use Rattle.clause_rules.proofs.PlaceLaws.{lit_put_walk}
 use Rattle.clause_rules.proofs.Rewritten.{lits_same}
 
 -- elements of a list of which one was changed or left out
-set_other : {X : Type 0} (xs : List X) (i m : ℕ) (x y : X) → m ≢ i → slice_get xs m ≡ Some y → slice_get (slice_set xs i x) m ≡ Some y
+pub set_other : {X : Type 0} (xs : List X) (i m : ℕ) (x y : X) → m ≢ i → slice_get xs m ≡ Some y → slice_get (slice_set xs i x) m ≡ Some y
 set_other [] i m x y other e = cc
 set_other (z ∷ xs) zero zero x y other e = absurd (other refl)
 set_other (z ∷ xs) zero (suc m) x y other e = e
@@ -42,16 +42,16 @@ set_same [] i x y e = cc
 set_same (z ∷ xs) zero x y e = refl
 set_same (z ∷ xs) (suc i) x y e = set_same xs i x y e
 
-before : {X : Type 0} (xs ys : List X) (m : ℕ) (y : X) → slice_get xs m ≡ Some y → slice_get (xs ++ ys) m ≡ Some y
+pub before : {X : Type 0} (xs ys : List X) (m : ℕ) (y : X) → slice_get xs m ≡ Some y → slice_get (xs ++ ys) m ≡ Some y
 before [] ys m y e = cc
 before (x ∷ xs) ys zero y e = e
 before (x ∷ xs) ys (suc m) y e = before xs ys m y e
 
-behind : {X : Type 0} (xs ys : List X) (m : ℕ) (y : X) → slice_get ys m ≡ Some y → (n : ℕ) × (slice_get (xs ++ ys) n ≡ Some y)
+pub behind : {X : Type 0} (xs ys : List X) (m : ℕ) (y : X) → slice_get ys m ≡ Some y → (n : ℕ) × (slice_get (xs ++ ys) n ≡ Some y)
 behind [] ys m y e = (m, e)
 behind (x ∷ xs) ys m y e = let rest = behind xs ys m y e in (suc rest.0, rest.1)
 
-kept : {X : Type 0} (xs : List X) (j m : ℕ) (y : X) → m ≢ j → slice_get xs m ≡ Some y → (n : ℕ) × (slice_get (remove xs j) n ≡ Some y)
+pub kept : {X : Type 0} (xs : List X) (j m : ℕ) (y : X) → m ≢ j → slice_get xs m ≡ Some y → (n : ℕ) × (slice_get (remove xs j) n ≡ Some y)
 kept [] j m y other e = cc
 kept (x ∷ xs) zero zero y other e = absurd (other refl)
 kept (x ∷ xs) zero (suc m) y other e = (m, e)
@@ -60,10 +60,6 @@ kept (x ∷ xs) (suc j) (suc m) y other e = let rest = kept xs j m y (λ h. othe
 
 pub never_factored : (v : Vocabulary) (c line : Clause) (i : ℕ) → NeverOthers line.lits c.lits i → NoneFrom v c line i
 never_factored v c line i never = λ j f g more s h. never s (λ m k other e. h.factored.covered m k (set_other (instances s c.lits) i m _ k other e))
-
-pub never_beside : (line into : Clause) (site : Site) → NeverOthers line.lits into.lits site.lit → NeverAt line into site
-never_beside line into site never = λ v fit from j flipped more s h.
-    never s (λ m k other e. h.paramodulant.covered m k (before (slice_set (instances s into.lits) site.lit _) (remove (instances s (apart_from into from.lits)) j) m k (set_other (instances s into.lits) site.lit m _ k other e)))
 
 pub never_from : (v : Vocabulary) (into from line : Clause) (i : ℕ) (place : List ℕ) (j : ℕ) (flipped : Bool) → NeverOthers line.lits from.lits j → (more : List ℕ) (s : ℕ → Term) → Paramodulates v into from line i place j flipped more s → ⊥
 never_from v into from line i place j flipped never more s h =

@@ -48,3 +48,6 @@ pub mod Unlike
 pub mod Uncovered
 pub mod Changing
 pub mod Unmet
+pub mod LeftOver
+pub mod ParamodulationPlaces
+pub mod Unreached

@@ -17,12 +17,11 @@ use Rattle.clause_rules.specs.declared.joint.Joint.{Joint}
 use Rattle.clause_rules.specs.declared.just.Just.{Just}
 use Rattle.clause_rules.specs.declared.just.Just.TheVariants.{Paramodulation}
 use Rattle.clause_rules.specs.declared.sites.Reading.{Reading}
-use Rattle.clause_rules.specs.declared.sites.Site.{Site}
 use Rattle.clause_rules.specs.Answers.{IsAnswer, paramodulation, rule_of}
 use Rattle.clause_rules.specs.JointClauses.{IsJoined}
 use Rattle.clause_rules.specs.Justified.{Shows}
 use Rattle.clause_rules.specs.ParamodulationRule.{HasPlace, Paramodulates}
-use Rattle.clause_rules.specs.ParamodulationSearch.{sites_of_places, sites_of_lits, sites_of_slot, sites_from, readings_of_atom, readings_of_lits, readings_of_slot, readings_from, HasSpot, HasEquation, FoundAtSites}
+use Rattle.clause_rules.specs.ParamodulationSearch.{sites_of_places, sites_of_lits, sites_of_slot, sites_from, readings_of_atom, readings_of_lits, readings_of_slot, readings_from, HasSpot, HasEquation, FoundInClauses}
 use Rattle.clause_rules.specs.Places.{lit_term_at}
 use Rattle.clause_rules.specs.PlaceSearch.{places_of}
 use Rattle.clause_rules.specs.Screens.{NeverEqual}
@@ -92,7 +91,7 @@ lists_behind : {X : Type 0} (xs ys : List X) (x : X) → Lists ys x → Lists (x
 lists_behind [] ys x h = h
 lists_behind (y ∷ xs) ys x h = let rest = lists_behind xs ys x h in (suc rest.0, rest.1)
 
-site_in_places : (a i : ℕ) (places : List (List ℕ)) (n : ℕ) (p : List ℕ) → slice_get places n ≡ Some p → Lists (sites_of_places a i places) (record { clause = a; lit = i; at = p })
+pub site_in_places : (a i : ℕ) (places : List (List ℕ)) (n : ℕ) (p : List ℕ) → slice_get places n ≡ Some p → Lists (sites_of_places a i places) (record { clause = a; lit = i; at = p })
 site_in_places a i [] n p e = cc
 site_in_places a i (q ∷ places) zero p e = let same : q ≡ p = cc in (0, ap (λ x. Some (record { clause = a; lit = i; at = x })) same)
 site_in_places a i (q ∷ places) (suc n) p e = let rest = site_in_places a i places n p e in (suc rest.0, rest.1)
@@ -165,23 +164,22 @@ reading_listed clauses b c j flipped l r e at =
 
 module _ (v : Vocabulary) (clauses : List (Option Clause)) (line : Clause) where
   -- nothing was found with any of the readings
-  pub none_nowhere : (sites : List Site) (readings : List Reading) → sites ≡ sites_from 0 clauses → readings ≡ readings_from 0 clauses → FoundAtSites v clauses sites readings line None → (a b i : ℕ) (place : List ℕ) (j : ℕ) (flipped : Bool) (into from : Clause) (more : List ℕ) (s : ℕ → Term)
-      → slice_get clauses a ≡ Some (Some into) → slice_get clauses b ≡ Some (Some from) → Paramodulates v into from line i place j flipped more s → ⊥
-  none_nowhere sites readings e f none a b i place j flipped into from more s there here h =
-      let site = site_listed clauses a into i place there h.place_of in
+  pub none_nowhere : (readings : List Reading) → readings ≡ readings_from 0 clauses → FoundInClauses v clauses readings line None → (a b i : ℕ) (place : List ℕ) (j : ℕ) (flipped : Bool) (into from : Clause) (more : List ℕ) (s : ℕ → Term) → slice_get clauses a ≡ Some (Some into)
+      → slice_get clauses b ≡ Some (Some from) → Paramodulates v into from line i place j flipped more s → ⊥
+  none_nowhere readings f none a b i place j flipped into from more s there here h =
       let eq = from_equation v into from line i j place flipped more s h in
       let reading = reading_listed clauses b from j flipped eq.0 eq.1 here eq.2 in
-      none site.0 (record { clause = a; lit = i; at = place }) (ap (λ (xs : List Site). slice_get xs site.0) e ∙ site.1) reading.0 (record { clause = b; lit = j; flipped = flipped }) (ap (λ (xs : List Reading). slice_get xs reading.0) f ∙ reading.1) into from there here more s h
+      none a i place reading.0 (record { clause = b; lit = j; flipped = flipped }) (ap (λ (xs : List Reading). slice_get xs reading.0) f ∙ reading.1) into from there here more s h
 
 -- the answer from what was found at the places
-pub paramodulation_answer : (v : Vocabulary) (parents : List Parent) (form : Form) (line : Clause) (clauses : List (Option Clause)) (sites : List Site) (readings : List Reading) → clause_of form ≡ Some line → clauses ≡ clauses_of parents → sites ≡ sites_from 0 clauses → readings ≡ readings_from 0 clauses
-    → (found : Option Just) → FoundAtSites v clauses sites readings line found → IsAnswer v parents form paramodulation found
-paramodulation_answer v parents form line clauses sites readings is same listed read None none = λ h.
+pub paramodulation_answer : (v : Vocabulary) (parents : List Parent) (form : Form) (line : Clause) (clauses : List (Option Clause)) (readings : List Reading) → clause_of form ≡ Some line → clauses ≡ clauses_of parents → readings ≡ readings_from 0 clauses → (found : Option Just)
+    → FoundInClauses v clauses readings line found → IsAnswer v parents form paramodulation found
+paramodulation_answer v parents form line clauses readings is same read None none = λ h.
     let at = h.11 in
     let e : h.8 ≡ line = let f = at.line_clause in cc in
-    none_nowhere v clauses line sites readings listed read none h.0 h.1 h.2 h.3 h.4 h.5 h.6 h.7 h.9 h.10 (ap (λ (cs : List (Option Clause)). slice_get cs h.0) same ∙ at.into_clause) (ap (λ (cs : List (Option Clause)). slice_get cs h.1) same ∙ at.from_clause)
+    none_nowhere v clauses line readings read none h.0 h.1 h.2 h.3 h.4 h.5 h.6 h.7 h.9 h.10 (ap (λ (cs : List (Option Clause)). slice_get cs h.0) same ∙ at.into_clause) (ap (λ (cs : List (Option Clause)). slice_get cs h.1) same ∙ at.from_clause)
     (subst (λ (x : Clause). Paramodulates v h.6 h.7 x h.2 h.3 h.4 h.5 h.9 h.10) e at.paramodulates)
-paramodulation_answer v parents form line clauses sites readings is same listed read (Some just) w =
+paramodulation_answer v parents form line clauses readings is same read (Some just) w =
     let x = w.shown in
     let shows : Shows v parents form (Paramodulation w.site.clause w.reading.clause w.site.lit w.site.at w.reading.lit w.reading.flipped w.images) = (
       x.into,
@@ -198,7 +196,7 @@ paramodulation_answer v parents form line clauses sites readings is same listed 
     (ap rule_of w.is, subst (Shows v parents form) (sym w.is) shows)
 
 -- nothing is found where no equation is read
-pub no_readings : (v : Vocabulary) (clauses : List (Option Clause)) (sites : List Site) (readings : List Reading) (line : Clause) → readings ≡ [] → FoundAtSites v clauses sites readings line None
-no_readings v clauses sites readings line empty = λ m site at k reading e. let none : slice_get [] k ≡ Some reading = ap (λ (rs : List Reading). slice_get rs k) (sym empty) ∙ e in absurd (nothing k reading none) where
+pub no_readings : (v : Vocabulary) (clauses : List (Option Clause)) (readings : List Reading) (line : Clause) → readings ≡ [] → FoundInClauses v clauses readings line None
+no_readings v clauses readings line empty = λ a i place k reading e. let none : slice_get [] k ≡ Some reading = ap (λ (rs : List Reading). slice_get rs k) (sym empty) ∙ e in absurd (nothing k reading none) where
   nothing : (k : ℕ) (reading : Reading) → slice_get [] k ≡ Some reading → ⊥
   nothing k reading e = cc

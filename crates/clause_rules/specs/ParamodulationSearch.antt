@@ -113,3 +113,16 @@ FoundAtSite v clauses readings line site (Some just) = ShowsParamodulation v cla
 abbrev pub FoundAtSites : Vocabulary → List (Option Clause) → List Site → List Reading → Clause → Option Just → Type 0
 FoundAtSites v clauses sites readings line None = (m : ℕ) (site : Site) → slice_get sites m ≡ Some site → FoundAtSite v clauses readings line site None
 FoundAtSites v clauses sites readings line (Some just) = ShowsParamodulation v clauses line just
+
+-- at the places of literal i of clause a, at those of clause a, and at those of all clauses
+abbrev pub FoundAtLit : Vocabulary → List (Option Clause) → List Reading → Clause → ℕ → ℕ → Option Just → Type 0
+FoundAtLit v clauses readings line a i None = (place : List ℕ) → FoundAtSite v clauses readings line (record { clause = a; lit = i; at = place }) None
+FoundAtLit v clauses readings line a i (Some just) = ShowsParamodulation v clauses line just
+
+abbrev pub FoundInClause : Vocabulary → List (Option Clause) → List Reading → Clause → ℕ → Option Just → Type 0
+FoundInClause v clauses readings line a None = (i : ℕ) → FoundAtLit v clauses readings line a i None
+FoundInClause v clauses readings line a (Some just) = ShowsParamodulation v clauses line just
+
+abbrev pub FoundInClauses : Vocabulary → List (Option Clause) → List Reading → Clause → Option Just → Type 0
+FoundInClauses v clauses readings line None = (a : ℕ) → FoundInClause v clauses readings line a None
+FoundInClauses v clauses readings line (Some just) = ShowsParamodulation v clauses line just

@@ -1,10 +1,15 @@
 -- Cheap tests that come before a search: where one answers no, no substitution at all will do.
-use Rattle.std.specs.Prelude.{ℕ, Bool, true, ◌≡◌, ◌≢◌, ◌⊎◌, List, [], ◌∷◌, ◌++◌, map, Some, slice_get}
+use Rattle.std.specs.Prelude.{ℕ, Bool, true, ◌≡◌, ◌≢◌, ◌⊎◌, List, [], ◌∷◌, ◌++◌, map, remove, Some, slice_get}
 use Rattle.fof_terms.specs.declared.term.Term.{Term}
+use Rattle.fof_terms.specs.Vocabulary.{Vocabulary}
+use Rattle.fof_terms.specs.declared.form.Form.{Form}
+use Rattle.clause_form.specs.declared.path.Path.{Path}
 use Rattle.clause_form.specs.declared.clause.AtomOf.{AtomOf}
+use Rattle.clause_form.specs.declared.clause.Clause.{Clause}
 use Rattle.clause_form.specs.declared.clause.Lit.{Lit}
-use Rattle.clause_form.specs.Covers.{at_terms, lit_image, IsSameAtom, IsSame, IsAbsurd, IsCovered, AreComplementary}
+use Rattle.clause_form.specs.Covers.{at_terms, lit_image, scope_of, IsSameAtom, IsSame, IsAbsurd, HasOne, IsCovered, AreComplementary, CoversBy}
 use Rattle.clause_form.specs.Images.{image}
+use Rattle.clause_form.specs.Paths.{reached}
 use Rattle.clause_rules.specs.Steps.{instances, AreCovered}
 
 -- the terms of a line stay as they are
@@ -54,3 +59,18 @@ NeverOthers line lits i = (s : ℕ → Term) → ((m : ℕ) (k : Lit) → m ≢ 
 -- no instances of the literals are all covered by the line
 abbrev pub NeverAll : List Lit → List Lit → Type 0
 NeverAll line lits = (s : ℕ → Term) → AreCovered line (instances s lits) → ⊥
+
+-- no substitution covers by the line all literals of the clause but that of this number
+abbrev pub NeverBeside : Vocabulary → Clause → Clause → ℕ → Type 0
+NeverBeside v line c i = (more : List ℕ) (s : ℕ → Term) → CoversBy v (scope_of c) (remove c.lits i) line more s → ⊥
+
+-- each clause that a path reaches in the formula has a literal no instance of which is covered by the line
+abbrev pub NeverReached : List Lit → Form → Type 0
+NeverReached line a = (p : Path) (c : Clause) → reached p a ≡ Some c → HasOne (NeverCovered line) c.lits
+
+-- so it is with all of the formulas, and with one of them
+abbrev pub NoneReached : List Lit → List Form → Type 0
+NoneReached line forms = (i : ℕ) (a : Form) → slice_get forms i ≡ Some a → NeverReached line a
+
+abbrev pub OneUnreached : List Lit → List Form → Type 0
+OneUnreached line forms = (i : ℕ) × (a : Form) × (slice_get forms i ≡ Some a) × NeverReached line a

@@ -14,6 +14,7 @@ use crate::joint::join_one;
 use crate::just::Just;
 use crate::numbers::number;
 use crate::opening::open;
+use crate::reaching::may_reach;
 use crate::scopes::scope_of_clause;
 use crate::search::{settle, solution_of};
 use crate::taking::{Reached, reached_by};
@@ -94,7 +95,7 @@ fn cover_form(
     ensures { IfOk result (λ found. FoundInForm sig.now form.now line.now found) }
 {
     match norm_within(alloc, form)? {
-        Some(norm) => cover_norm(alloc, sig, norm.get(), line),
+        Some(norm) => cover_open(alloc, sig, norm.get(), line),
         None => Ok(None),
     }
 }
@@ -110,7 +111,26 @@ fn norm_within(alloc: Global, form: &Form) -> Result<Option<Boxed<Form>>, Memory
     }
 }
 
-// A covering of what a path reaches in the normal form.
+// A covering of what a path reaches in the normal form. A cheap test comes first.
+fn cover_open(
+    alloc: Global,
+    sig: &Signature,
+    norm: &Form,
+    line: &Clause,
+) -> Result<Option<Covering>, Memory>
+    requires small { norm_size_of norm.now ≤ 100000 }
+    requires norm { is_sorted sig.now [] norm.now ≡ true }
+    requires line { IsFit sig.now line.now }
+    ensures { IfOk result (λ found. FoundCover sig.now norm.now line.now found) }
+{
+    let is_open = may_reach(norm, alloc, line.lits.as_slice())?;
+    if !is_open {
+        return Ok(None);
+    }
+    cover_norm(alloc, sig, norm, line)
+}
+
+// The same by a search.
 fn cover_norm(
     alloc: Global,
     sig: &Signature,

@@ -3,6 +3,7 @@
 #![tactic(auto)]
 
 mod apart;
+mod beside;
 mod chances;
 mod cover_rule;
 mod eqfactor_rule;
@@ -18,6 +19,7 @@ mod opening;
 mod paramodulation_rule;
 mod places;
 mod position;
+mod reaching;
 mod ready;
 mod recognising;
 mod replacing;
@@ -32,8 +34,9 @@ mod taking;
 mod tautology_rule;
 mod ways;
 
-pub use cover_rule::cover_step;
+pub use cover_rule::{cover_clause, cover_step};
 pub use eqfactor_rule::eqfactor_step;
+pub use joint::kept_apart;
 pub use just::Just;
 pub use laws::what_is_shown_holds;
 pub use norm_rule::{first_norm, norm_step};

@@ -1,15 +1,16 @@
-ghost use Rattle.std.specs.Prelude.{◌≡◌, ◌↔◌, ◌≤◌, false, length, IsTrue, Some, IfOk, option_copied, slice_get};
+ghost use Rattle.std.specs.Prelude.{◌≡◌, ◌↔◌, ◌<◌, ◌≤◌, false, length, IsTrue, Some, IfOk, option_copied, slice_get};
 ghost use Rattle.fof_terms.specs.Sorts.{sort_of_term};
 ghost use Rattle.clause_rules.specs.declared.just.Just.TheVariants.{Paramodulation};
 ghost use Rattle.clause_rules.specs.Answers.{IsAnswer, paramodulation};
 ghost use Rattle.clause_rules.specs.JointClauses.{IsJoined};
 ghost use Rattle.clause_rules.specs.ParamodulationRule.{HasPlace, Paramodulates};
-ghost use Rattle.clause_rules.specs.ParamodulationSearch.{FoundAtSite, FoundAtSites, HasClause, NeverAt, TriedAtSite, paramodulation_needs};
+ghost use Rattle.clause_rules.specs.ParamodulationSearch.{FoundAtLit, FoundAtSite, FoundAtSites, FoundInClause, FoundInClauses, HasClause, NeverAt, TriedAtSite, paramodulation_needs};
 ghost use Rattle.clause_rules.specs.Places.{lit_term_at};
 ghost use Rattle.clause_rules.specs.Settled.{AllFit, IsFit, Settles};
 ghost use Rattle.clause_rules.specs.Steps.{AreReady, IsReady, equation, scope_of_both};
 ghost use Rattle.clause_rules.specs.Ways.{goal_of_needs};
 
+use crate::beside::may_rest_be_covered;
 use crate::joint::{Joint, join};
 use crate::just::Just;
 use crate::matching::may_meet;
@@ -19,7 +20,7 @@ use crate::scopes::reversed;
 use crate::screening::{may_be_covered, may_others_be_covered};
 use crate::search::{clauses_of_parents, settle};
 use crate::sides::Sides;
-use crate::sites::{Reading, Site, Spot, equation_in, readings_of, sites_of, spot_in};
+use crate::sites::{Reading, Site, Spot, equation_in, readings_of, sites_at, spot_in};
 use crate::ways::{all_covered, alone, one_pair};
 use clause_form::{Clause, Lit, Parent, as_clause, copy_lits};
 use fof_terms::{Form, Scope as Reach, Signature, Term, sort_of};
@@ -47,18 +48,102 @@ pub fn paramodulation_step(
             if readings.is_empty() {
                 return Ok(None);
             }
-            let sites = sites_of(alloc, clauses)?;
-            at_sites(
-                alloc,
-                sig,
-                clauses,
-                sites.as_slice(),
-                readings.as_slice(),
-                &line,
-            )
+            in_clauses(alloc, sig, clauses, readings.as_slice(), &line)
         }
         None => Ok(None),
     }
+}
+
+// A justification at a place of one of the clauses.
+fn in_clauses(
+    alloc: Global,
+    sig: &Signature,
+    clauses: &[Option<Clause>],
+    readings: &[Reading],
+    line: &Clause,
+) -> Result<Option<Just>, Memory>
+    requires clauses { AllFit sig.now clauses.now }
+    requires line { IsFit sig.now line.now }
+    ensures { IfOk result (λ found. FoundInClauses sig.now clauses.now readings.now line.now found) }
+{
+    for a in 0..clauses.len() {
+        let found = in_slot(alloc, sig, clauses, readings, line, a, &clauses[a])?;
+        if let Some(just) = found {
+            return Ok(Some(just));
+        }
+    }
+    Ok(None)
+}
+
+// A justification at a place of this clause, if it is one.
+fn in_slot(
+    alloc: Global,
+    sig: &Signature,
+    clauses: &[Option<Clause>],
+    readings: &[Reading],
+    line: &Clause,
+    a: usize,
+    slot: &Option<Clause>,
+) -> Result<Option<Just>, Memory>
+    requires clauses { AllFit sig.now clauses.now }
+    requires line { IsFit sig.now line.now }
+    requires there { slice_get clauses.now a ≡ Some slot.now }
+    ensures { IfOk result (λ found. FoundInClause sig.now clauses.now readings.now line.now a found) }
+{
+    match slot {
+        Some(into) => in_clause(alloc, sig, clauses, readings, line, a, into),
+        None => Ok(None),
+    }
+}
+
+// A justification at a place of this clause.
+fn in_clause(
+    alloc: Global,
+    sig: &Signature,
+    clauses: &[Option<Clause>],
+    readings: &[Reading],
+    line: &Clause,
+    a: usize,
+    into: &Clause,
+) -> Result<Option<Just>, Memory>
+    requires clauses { AllFit sig.now clauses.now }
+    requires line { IsFit sig.now line.now }
+    requires there { slice_get clauses.now a ≡ Some (Some into.now) }
+    ensures { IfOk result (λ found. FoundInClause sig.now clauses.now readings.now line.now a found) }
+{
+    for i in 0..into.lits.len() {
+        let found = at_lit(alloc, sig, clauses, readings, line, a, into, i)?;
+        if let Some(just) = found {
+            return Ok(Some(just));
+        }
+    }
+    Ok(None)
+}
+
+// A justification at a place of this literal. Whether the others can be covered is settled once for all its places.
+fn at_lit(
+    alloc: Global,
+    sig: &Signature,
+    clauses: &[Option<Clause>],
+    readings: &[Reading],
+    line: &Clause,
+    a: usize,
+    into: &Clause,
+    i: usize,
+) -> Result<Option<Just>, Memory>
+    requires clauses { AllFit sig.now clauses.now }
+    requires line { IsFit sig.now line.now }
+    requires there { slice_get clauses.now a ≡ Some (Some into.now) }
+    requires lit { i < length into.now.lits }
+    ensures { IfOk result (λ found. FoundAtLit sig.now clauses.now readings.now line.now a i found) }
+{
+    let is_open = may_rest_be_covered(alloc, sig, into, line, i)?;
+    if !is_open {
+        return Ok(None);
+    }
+    let lits = into.lits.as_slice();
+    let sites = sites_at(alloc, a, i, &lits[i])?;
+    at_sites(alloc, sig, clauses, sites.as_slice(), readings, line)
 }
 
 // A justification at one of the places.
@@ -83,7 +168,7 @@ fn at_sites(
     Ok(None)
 }
 
-// A justification at this place. A cheap test of the literals comes first.
+// A justification at this place. A cheap test of the literal comes first.
 fn at_site(
     alloc: Global,
     sig: &Signature,
@@ -108,7 +193,7 @@ fn at_site(
     }
 }
 
-// Whether the line may cover the clause with another term at this place: its other literals, and what is left of its own.
+// Whether the line may cover the literal of the clause with another term at this place.
 fn may_change(alloc: Global, line: &Clause, into: &Clause, site: &Site) -> Result<bool, Memory>
     requires few { length into.now.sorts ≤ 1000000000 }
     ensures { IfOk result (λ answer. answer ≡ false → NeverAt line.now into.now site.now) }
@@ -117,9 +202,6 @@ fn may_change(alloc: Global, line: &Clause, into: &Clause, site: &Site) -> Resul
     let at = site.lit as usize;
     if at >= lits.len() {
         return Ok(true);
-    }
-    if !may_others_be_covered(line.lits.as_slice(), lits, at) {
-        return Ok(false);
     }
     let hole = Term::Var(into.sorts.len() as u32);
     let open = put_in(alloc, &lits[at], site.at.as_slice(), &hole)?;

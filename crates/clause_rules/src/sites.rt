@@ -71,6 +71,17 @@ fn add_sites(alloc: Global, clause: u32, lits: &[Lit], sites: &mut List<Site>) -
     Ok(())
 }
 
+/// The places of literal i, as it is given, of clause a.
+pub fn sites_at(alloc: Global, a: usize, i: usize, of: &Lit) -> Result<List<Site>, Memory>
+    ensures { IfOk result (λ sites. sites ≡ sites_of_places a i (places_of of.now)) }
+{
+    let clause = number(a)?;
+    let lit = number(i)?;
+    let mut sites = List::new(alloc);
+    add_places(alloc, clause, lit, of, &mut sites)?;
+    Ok(sites)
+}
+
 // Adds the places of a literal.
 fn add_places(
     alloc: Global,

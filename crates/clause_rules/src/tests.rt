@@ -68,7 +68,7 @@ fn symbol(letter: u8) -> SymId {
 
 // The formula of a text in which the parts stand before what they are parts of: a digit is the variable of that number,
 // a to e are constants, f, p, q, r and t take the term before them, s and = the two before them, ~ negates, | joins the two
-// formulas before it, & does so by And, ! and ? bind a variable, T and F are truth and falsehood.
+// formulas before it, & does so by And, ! and ? bind a variable, % one of the other sort, T and F are truth and falsehood.
 fn form(alloc: Global, text: &str) -> Result<Boxed<Form>, Memory> {
     let mut terms = List::new(alloc);
     let mut forms = List::new(alloc);
@@ -114,6 +114,7 @@ fn node(
         }
         b'~' => Form::Not(forms.pop().ok_or(Memory)?),
         b'!' => Form::All(0, forms.pop().ok_or(Memory)?),
+        b'%' => Form::All(1, forms.pop().ok_or(Memory)?),
         b'?' => Form::Ex(0, forms.pop().ok_or(Memory)?),
         b'&' => both(alloc, forms)?,
         b'T' => Form::And(List::new(alloc)),
@@ -253,6 +254,14 @@ fn close_decoys(rt: HostRuntime) -> Result<(), Fail> {
         ("", "0p?~~ 0q?"),
         ("CPW", "01=!! ab="),
         ("", "01=!! de="),
+        ("", "01=%% ab="),
+        ("", "01=!!~~ 01=%%"),
+        ("RPW", "01=!! ab=~ F"),
+        ("", "01=%% ab=~ F"),
+        ("PW", "01=!! ap bp"),
+        ("", "01=%% ap bp"),
+        ("CPE", "01=ab=|!! ab="),
+        ("", "01=ab=|%% ab="),
         ("", "0a=! dt et"),
         ("C", "0p0q|! apaq|br|"),
         ("", "0p0q|! apbq|br|"),

@@ -1,3 +1,4 @@
+pub mod Bringing
 pub mod Counts
 pub mod OneNodeEach
 pub mod Readings

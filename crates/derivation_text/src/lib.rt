@@ -4,12 +4,14 @@
 
 mod derivation;
 mod fault;
+mod law;
 mod lines;
 mod reading;
 mod text;
 
 pub use derivation::Derivation;
 pub use fault::DerivationFault;
+pub use law::brought_by_the_derivation;
 pub use reading::read_derivation;
 
 #[cfg(test)]

@@ -14,24 +14,26 @@ use Rattle.kernel.specs.declared.proof.Proof.{Proof}
 use Rattle.kernel.specs.declared.entry.Entry.TheVariants.{Lemma}
 use Rattle.clause_rules.specs.Answers.{Rule as Word, cover, Holds as Gives}
 use Rattle.elaborate.specs.declared.answer.Rule.{Rule}
-use Rattle.skolem_fresh.specs.ChoiceRule.{IsChoiceStep}
 use Rattle.split_defs.specs.DefinitionRule.{Defines, IsDefinitionStep}
 use Rattle.split_defs.specs.DefinitionSearch.{IsFoundDefinition}
+use Rattle.split_defs.specs.SplitRule.{IsSplitStep}
+use Rattle.split_defs.specs.SplitSearch.{ShowsSplit, forms_of, split_holds}
 use Rattle.split_defs.specs.declared.just.SplitJust.{SplitJust}
 use Rattle.kernel.specs.declared.entry.Entry.{Entry}
-use Rattle.elaborate.specs.declared.answer.Rule.TheVariants.{Definition, Choice, Norm, Cover}
+use Rattle.elaborate.specs.declared.answer.Rule.TheVariants.{Split, Definition, Choice, Norm, Cover}
 use Rattle.elaborate.specs.declared.answer.Reason.{Reason}
 use Rattle.elaborate.specs.declared.answer.Reason.TheVariants.{NotYet, Leaf}
 use Rattle.elaborate.specs.declared.answer.StepAnswer.TheVariants.{Accepted, Unverified}
 use Rattle.clause_rules.specs.Steps.{AreReady, IsReady}
 use Rattle.elaborate.specs.declared.leaves.FromOne.{FromOne}
 use Rattle.elaborate.specs.declared.steps.Found.{Found}
-use Rattle.elaborate.specs.ByRule.{IsFirst, IsNone, symbol_rules, GivesFirst, GivesNowhere, LeafRule, ByNoLeafRule, shape_rules}
-use Rattle.derive_kit.specs.Derived.{AreOfTheory, IsDerivedFrom, HasCited, derived_by_lemma, numbers_of}
+use Rattle.elaborate.specs.ByRule.{Holds, IsFirst, IsNone, symbol_rules, GivesFirst, GivesNowhere, LeafRule, ByNoLeafRule, shape_rules}
+use Rattle.derive_kit.specs.Derived.{AreOfTheory, IsDerivedFrom, derived_by_lemma, numbers_of}
 use Rattle.elaborate.specs.Answers.{IsStepAnswer, IsLeafAnswer}
-use Rattle.elaborate.specs.Proofs.{ShowsLine, IsByRule, IsFound, CoversAlone, CoversNowhere, IsCoverAlone, IsFromFirst, IsFirstCover}
-use Rattle.elaborate.specs.Refuting.{theory_of}
-use Rattle.elaborate.proofs.NormLines.{norm_there, of_theory, parent_at, parent_ready}
+use Rattle.clause_proofs.specs.Shown.{ShowsLine, IsByRule}
+use Rattle.elaborate.specs.Proofs.{IsFound, CoversAlone, CoversNowhere, IsCoverAlone, IsFromFirst, IsFirstCover}
+use Rattle.clause_proofs.specs.Refuting.{theory_of}
+use Rattle.clause_proofs.proofs.NormLines.{norm_there, of_theory, parent_at, parent_ready}
 
 module _ (t u : Statements) where
   abbrev Own : Parent → Type 0
@@ -90,16 +92,34 @@ step_accepted t parents line o found all is f =
 pub no_definition : (t : Statements) (line : Form) (o : Option SplitJust) → o ≡ None → IsFoundDefinition (Defines t line) o → IsDefinitionStep t line → ⊥
 no_definition t line o is found d = subst (IsFoundDefinition (Defines t line)) is found d.0 d.1 d.2
 
+-- where names are found for parts of a line, the rule gives it
+pub split_found : (v : Vocabulary) (parents : List Parent) (line : Form) (o : Option SplitJust) (just : SplitJust) → o ≡ Some just
+    → MatchOption o (IsSplitStep v (forms_of parents) line → ⊥) (ShowsSplit v (forms_of parents) line) → IsSplitStep v (forms_of parents) line
+split_found v parents line o just is m =
+    split_holds v (forms_of parents) line just (subst (λ (x : Option SplitJust). MatchOption x (IsSplitStep v (forms_of parents) line → ⊥) (ShowsSplit v (forms_of parents) line)) is m)
+
 -- what no rule by shape gives
 module _ (t : Statements) (parents : List Parent) (line : Form) (none : IsNone shape_rules t parents line) where
-  pub step_defined : (entries : List Entry) → IsDefinitionStep t line → ((cites : List ℕ) → IsDerivedFrom t cites entries line) → IsStepAnswer t parents line (Accepted Definition (numbers_of parents) entries)
-  step_defined entries holds derives = (first_behind t parents line shape_rules symbol_rules Definition none (inl (refl, holds)), refl, derives (numbers_of parents))
+  abbrev NotBy : Rule → Type 0
+  NotBy rule = Holds t parents line rule → ⊥
 
-  pub step_chosen : (entries : List Entry) → (IsDefinitionStep t line → ⊥) → IsChoiceStep t line → ((cites : List ℕ) → IsDerivedFrom t cites entries line) → IsStepAnswer t parents line (Accepted Choice (numbers_of parents) entries)
-  step_chosen entries undefined holds derives = (first_behind t parents line shape_rules symbol_rules Choice none (inr (undefined, inl (refl, holds))), refl, derives (numbers_of parents))
+  abbrev Derives : List Entry → Type 0
+  Derives entries = IsDerivedFrom t (numbers_of parents) entries line
 
-  pub step_unverified : (IsDefinitionStep t line → ⊥) → (IsChoiceStep t line → ⊥) → IsStepAnswer t parents line (Unverified NotYet)
-  step_unverified undefined unchosen = none_of_both t parents line shape_rules symbol_rules none (undefined, (unchosen, tt))
+  answered : (rule : Rule) (entries : List Entry) → IsFirst symbol_rules t parents line rule → Derives entries → IsStepAnswer t parents line (Accepted rule (numbers_of parents) entries)
+  answered rule entries first derives = (first_behind t parents line shape_rules symbol_rules rule none first, refl, derives)
+
+  pub step_split : (entries : List Entry) → Holds t parents line Split → Derives entries → IsStepAnswer t parents line (Accepted Split (numbers_of parents) entries)
+  step_split entries holds derives = answered Split entries (inl (refl, holds)) derives
+
+  pub step_defined : (entries : List Entry) → NotBy Split → Holds t parents line Definition → IsDerivedFrom t [] entries line → IsStepAnswer t parents line (Accepted Definition (numbers_of parents) entries)
+  step_defined entries whole holds derives = answered Definition entries (inr (whole, inl (refl, holds))) (derived_weaker t (numbers_of parents) entries line derives)
+
+  pub step_chosen : (entries : List Entry) → NotBy Split → NotBy Definition → Holds t parents line Choice → IsDerivedFrom t [] entries line → IsStepAnswer t parents line (Accepted Choice (numbers_of parents) entries)
+  step_chosen entries whole undefined holds derives = answered Choice entries (inr (whole, inr (undefined, inl (refl, holds)))) (derived_weaker t (numbers_of parents) entries line derives)
+
+  pub step_unverified : NotBy Split → NotBy Definition → NotBy Choice → IsStepAnswer t parents line (Unverified NotYet)
+  step_unverified whole undefined unchosen = none_of_both t parents line shape_rules symbol_rules none (whole, (undefined, (unchosen, tt)))
 
 -- of one candidate alone
 alone_is : (c p : Parent) → Some c ≡ Some p → c ≡ p

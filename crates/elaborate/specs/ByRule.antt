@@ -6,8 +6,10 @@ use Rattle.clause_form.specs.declared.path.Parent.{Parent}
 use Rattle.clause_rules.specs.Answers.{norm, cover, tautology, resolution, paramodulation, eqfactor, rewrite, Holds as Gives}
 use Rattle.skolem_fresh.specs.ChoiceRule.{IsChoiceStep}
 use Rattle.split_defs.specs.DefinitionRule.{IsDefinitionStep}
+use Rattle.split_defs.specs.SplitRule.{IsSplitStep}
+use Rattle.split_defs.specs.SplitSearch.{forms_of}
 use Rattle.elaborate.specs.declared.answer.Rule.{Rule}
-use Rattle.elaborate.specs.declared.answer.Rule.TheVariants.{Norm, Cover, Tautology, Resolution, Paramodulation, EqFactor, Rewrite, Definition, Choice}
+use Rattle.elaborate.specs.declared.answer.Rule.TheVariants.{Norm, Cover, Tautology, Resolution, Paramodulation, EqFactor, Rewrite, Split, Definition, Choice}
 
 -- with the symbols of the theory, and its formulas as those in which a new symbol occurs nowhere, the rule gives the line
 -- from some of the parents
@@ -19,6 +21,7 @@ Holds t parents line Resolution = Gives t.vocabulary parents line resolution
 Holds t parents line Paramodulation = Gives t.vocabulary parents line paramodulation
 Holds t parents line EqFactor = Gives t.vocabulary parents line eqfactor
 Holds t parents line Rewrite = Gives t.vocabulary parents line rewrite
+Holds t parents line Split = IsSplitStep t.vocabulary (forms_of parents) line
 Holds t parents line Definition = IsDefinitionStep t line
 Holds t parents line Choice = IsChoiceStep t line
 
@@ -26,9 +29,9 @@ Holds t parents line Choice = IsChoiceStep t line
 abbrev pub shape_rules : List Rule
 shape_rules = Norm ∷ Cover ∷ Tautology ∷ Resolution ∷ Paramodulation ∷ EqFactor ∷ Rewrite ∷ []
 
--- the rules by which a line says what new symbols mean, in the order in which they are tried
+-- the rules by which names stand for parts of a line, or new symbols come in, in the order in which they are tried
 abbrev pub symbol_rules : List Rule
-symbol_rules = Definition ∷ Choice ∷ []
+symbol_rules = Split ∷ Definition ∷ Choice ∷ []
 
 -- the rules of steps that are built, in the order in which they are tried
 abbrev pub rules : List Rule
@@ -52,7 +55,7 @@ ByRule = IsFirst rules
 abbrev pub ByNone : Statements → List Parent → Form → Type 0
 ByNone = IsNone rules
 
--- the rules of leaves that are built, in the order in which they are tried
+-- the rules of leaves, in the order in which they are tried
 abbrev pub leaf_rules : List Rule
 leaf_rules = Norm ∷ Cover ∷ []
 

@@ -1,38 +1,17 @@
--- What the proof of a line by a rule says.
+-- What the proof of a line by the first of several rules says, and its entries by others.
 use Rattle.std.specs.Prelude.{ℕ, ◌≡◌, ◌<◌, List, [], ◌∷◌, Option, Some, None, slice_get}
 use Rattle.fof_terms.specs.declared.form.Form.{Form}
 use Rattle.fof_terms.specs.Vocabulary.{Vocabulary}
 use Rattle.clause_form.specs.declared.path.Parent.{Parent}
-use Rattle.clause_rules.specs.Answers.{Rule as Word, cover, Holds as Gives}
+use Rattle.clause_rules.specs.Answers.{cover, Holds as Gives}
 use Rattle.kernel.specs.Statements.{Statements}
-use Rattle.kernel.specs.Proves.{Proves}
 use Rattle.kernel.specs.declared.entry.Entry.{Entry}
 use Rattle.kernel.specs.declared.proof.Proof.{Proof}
+use Rattle.clause_proofs.specs.Shown.{ShowsLine}
 use Rattle.elaborate.specs.ByRule.{IsFirst, IsNone, shape_rules}
-use Rattle.clause_rules.specs.NormRule.{HasNorm}
 use Rattle.elaborate.specs.declared.leaves.FromOne.{FromOne}
 use Rattle.elaborate.specs.declared.steps.Found.{Found}
-use Rattle.derive_kit.specs.Derived.{AreOfTheory, IsDerivedFrom}
-use Rattle.elaborate.specs.Refuting.{theory_of}
-
--- with these symbols, the proof shows the line wherever the parents are among the formulas
-abbrev pub ShowsLine : Vocabulary → List Parent → Form → Proof → Type 0
-ShowsLine w parents line p = (formulas : List Form) → AreOfTheory (theory_of w formulas) parents → Proves (theory_of w formulas) [] [] p line
-
--- the rule gives the line, and the proof shows it, or the rule does not give it
-abbrev pub IsByRule : Vocabulary → List Parent → Form → Word → Option Proof → Type 0
-IsByRule w parents line rule None = Gives w parents line rule → ⊥
-IsByRule w parents line rule (Some p) = Gives w parents line rule × ShowsLine w parents line p
-
--- with these symbols, the proof shows the line, whatever formulas hold
-abbrev pub ShowsAlone : Vocabulary → Form → Proof → Type 0
-ShowsAlone w line p = (formulas : List Form) → Proves (theory_of w formulas) [] [] p line
-
--- the formulas have one normal form
-pub record AreAlike (a b : Form) : Type 0 where
-  pub made : Form
-  pub of_first : HasNorm a made
-  pub of_second : HasNorm b made
+use Rattle.derive_kit.specs.Derived.{IsDerivedFrom}
 
 -- the first of the rules by shape that gives the line, with a proof of it, or that there is none
 abbrev pub IsFound : Statements → List Parent → Form → Option Found → Type 0
@@ -70,7 +49,7 @@ abbrev pub IsFirstCover : Vocabulary → List Parent → Form → Option FromOne
 IsFirstCover w candidates line None = CoversNowhere w candidates line
 IsFirstCover w candidates line (Some from) = IsFromFirst w candidates line from
 
--- the rule holds, and the entries derive the line, whatever it cites; or the rule does not hold
-abbrev pub IsByEntries : Statements → Form → Type 0 → Option (List Entry) → Type 0
-IsByEntries t line holds None = holds → ⊥
-IsByEntries t line holds (Some entries) = holds × ((cites : List ℕ) → IsDerivedFrom t cites entries line)
+-- the rule holds, and the entries derive the line from what is cited; or the rule does not hold
+abbrev pub IsByEntries : Statements → List ℕ → Form → Type 0 → Option (List Entry) → Type 0
+IsByEntries t cites line holds None = holds → ⊥
+IsByEntries t cites line holds (Some entries) = holds × IsDerivedFrom t cites entries line

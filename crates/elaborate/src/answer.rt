@@ -21,6 +21,8 @@ pub enum Rule {
     /// `rewrite`: a parent that is one equation rewrites all occurrences of one term in a parent, and the line covers
     /// the result.
     Rewrite,
+    /// `split`: names stand in the line for parts of a parent, and other parents say what they stand for.
+    Split,
     /// `definition`: the line says what a new symbol means.
     Definition,
     /// `choice`: the line says that new functions choose values, where there are any.

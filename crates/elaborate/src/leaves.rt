@@ -9,10 +9,9 @@ ghost use Rattle.elaborate.specs.Answers.{IsLeafAnswer};
 ghost use Rattle.elaborate.specs.Proofs.{IsCoverAlone, IsFirstCover};
 
 use crate::answer::{Reason, Rule, StepAnswer};
-use crate::by_cover::by_cover;
-use crate::by_norm::normed;
 use crate::steps::lemma;
 use clause_form::Parent;
+use clause_proofs::{by_cover, normed};
 use clause_rules::first_norm;
 use derive_kit::Part;
 use fof_terms::{Form, Signature};

@@ -1,21 +1,46 @@
-// Lines that say what new symbols mean: they follow from no parent.
-ghost use Rattle.std.specs.Prelude.{IfOk};
-ghost use Rattle.clause_rules.specs.Steps.{IsReady};
+// Lines in which names stand for parts of a parent, or that bring in new symbols: the rule, and entries that derive the line.
+ghost use Rattle.std.specs.Prelude.{[], IfOk};
+ghost use Rattle.clause_rules.specs.Steps.{AreReady, IsReady};
+ghost use Rattle.derive_kit.specs.Derived.{AreOfTheory, numbers_of};
 ghost use Rattle.skolem_fresh.specs.ChoiceRule.{IsChoiceStep};
 ghost use Rattle.split_defs.specs.DefinitionRule.{IsDefinitionStep};
+ghost use Rattle.split_defs.specs.SplitRule.{IsSplitStep};
+ghost use Rattle.split_defs.specs.SplitSearch.{forms_of};
 ghost use Rattle.elaborate.specs.Proofs.{IsByEntries};
 
+use clause_form::Parent;
 use fof_terms::Form;
 use kernel::{Entry, Theory};
 use skolem_fresh::{choice_entries, choice_step};
-use split_defs::{SplitJust, definition_entries, definition_step};
+use split_defs::{SplitJust, definition_entries, definition_step, split_entries, split_step};
 use std::alloc::Global;
 use tptp_base::{List, Memory};
+
+/// Entries of a line that has names for parts of a parent; None exactly where it is none.
+pub fn split(
+    alloc: Global,
+    theory: &Theory,
+    parents: &[Parent],
+    line: &Form,
+) -> Result<Option<List<Entry>>, Memory>
+    requires parents { AreOfTheory theory.now parents.now }
+    requires ready { AreReady theory.now.vocabulary parents.now }
+    requires line { IsReady theory.now.vocabulary line.now }
+    ensures { IfOk result (IsByEntries theory.now (numbers_of parents.now) line.now (IsSplitStep theory.now.vocabulary (forms_of parents.now) line.now)) }
+{
+    match split_step(alloc, theory, parents, line)? {
+        Some(just) => {
+            let entries = split_entries(alloc, theory, &just, parents, line)?;
+            Ok(Some(entries))
+        }
+        None => Ok(None),
+    }
+}
 
 /// Entries of a line that defines a symbol; None exactly where it defines none.
 pub fn defined(alloc: Global, theory: &Theory, line: &Form) -> Result<Option<List<Entry>>, Memory>
     requires { IsReady theory.now.vocabulary line.now }
-    ensures { IfOk result (IsByEntries theory.now line.now (IsDefinitionStep theory.now line.now)) }
+    ensures { IfOk result (IsByEntries theory.now [] line.now (IsDefinitionStep theory.now line.now)) }
 {
     match definition_step(alloc, theory, line)? {
         Some(SplitJust::Definition { symbol, first }) => {
@@ -30,7 +55,7 @@ pub fn defined(alloc: Global, theory: &Theory, line: &Form) -> Result<Option<Lis
 /// Entries of a line that says of functions that they choose; None exactly where it says so of none.
 pub fn chosen(alloc: Global, theory: &Theory, line: &Form) -> Result<Option<List<Entry>>, Memory>
     requires { IsReady theory.now.vocabulary line.now }
-    ensures { IfOk result (IsByEntries theory.now line.now (IsChoiceStep theory.now line.now)) }
+    ensures { IfOk result (IsByEntries theory.now [] line.now (IsChoiceStep theory.now line.now)) }
 {
     match choice_step(alloc, theory, line)? {
         Some(just) => {

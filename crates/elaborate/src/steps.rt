@@ -4,19 +4,16 @@ ghost use Rattle.elaborate.specs.declared.answer.StepAnswer.TheVariants.{Accepte
 ghost use Rattle.clause_rules.specs.Steps.{AreReady, IsReady};
 ghost use Rattle.derive_kit.specs.Derived.{AreOfTheory, numbers_of};
 ghost use Rattle.elaborate.specs.Answers.{IsStepAnswer};
-ghost use Rattle.elaborate.specs.ByRule.{IsNone, shape_rules};
+ghost use Rattle.elaborate.specs.ByRule.{Holds, IsNone, shape_rules};
+ghost use Rattle.elaborate.specs.declared.answer.Rule.TheVariants.{Definition, Split};
 ghost use Rattle.elaborate.specs.Proofs.{IsFound};
 
 use crate::answer::{Reason, Rule, StepAnswer};
-use crate::by_cover::by_cover;
-use crate::by_eqfactor::by_eqfactor;
-use crate::by_norm::by_norm;
-use crate::by_paramodulation::by_paramodulation;
-use crate::by_resolution::by_resolution;
-use crate::by_rewrite::by_rewrite;
-use crate::by_tautology::by_tautology;
-use crate::naming::{chosen, defined};
+use crate::naming::{chosen, defined, split};
 use clause_form::Parent;
+use clause_proofs::{
+    by_cover, by_eqfactor, by_norm, by_paramodulation, by_resolution, by_rewrite, by_tautology,
+};
 use derive_kit::Part;
 use fof_terms::Form;
 use kernel::{Entry, Theory};
@@ -39,11 +36,33 @@ pub fn step(
 {
     match first_proof(alloc, theory, parents, line)? {
         Some(found) => accepted(alloc, parents, found),
+        None => by_symbols(alloc, theory, parents, line),
+    }
+}
+
+// The answer to a line that no rule by shape gives: whether it has names for parts of a parent, or brings in symbols.
+fn by_symbols(
+    alloc: Global,
+    theory: &Theory,
+    parents: &[Parent],
+    line: &Form,
+) -> Result<StepAnswer, Memory>
+    requires parents { AreOfTheory theory.now parents.now }
+    requires ready { AreReady theory.now.vocabulary parents.now }
+    requires line { IsReady theory.now.vocabulary line.now }
+    requires no_shape { IsNone shape_rules theory.now parents.now line.now }
+    ensures { IfOk result (IsStepAnswer theory.now parents.now line.now) }
+{
+    match split(alloc, theory, parents, line)? {
+        Some(entries) => {
+            let cites = numbers(alloc, parents)?;
+            Ok(by_entries(Rule::Split, cites, entries))
+        }
         None => by_meaning(alloc, theory, parents, line),
     }
 }
 
-// The answer to a line that no rule by shape gives: whether it says what new symbols mean.
+// The answer to a line that has no names for parts: whether it says what new symbols mean.
 fn by_meaning(
     alloc: Global,
     theory: &Theory,
@@ -52,14 +71,36 @@ fn by_meaning(
 ) -> Result<StepAnswer, Memory>
     requires line { IsReady theory.now.vocabulary line.now }
     requires no_shape { IsNone shape_rules theory.now parents.now line.now }
+    requires whole { Holds theory.now parents.now line.now Split → ⊥ }
     ensures { IfOk result (IsStepAnswer theory.now parents.now line.now) }
 {
-    let cites = numbers(alloc, parents)?;
-    if let Some(entries) = defined(alloc, theory, line)? {
-        return Ok(by_entries(Rule::Definition, cites, entries));
+    match defined(alloc, theory, line)? {
+        Some(entries) => {
+            let cites = numbers(alloc, parents)?;
+            Ok(by_entries(Rule::Definition, cites, entries))
+        }
+        None => by_choice(alloc, theory, parents, line),
     }
+}
+
+// The answer to a line that defines no symbol: whether it says of functions that they choose.
+fn by_choice(
+    alloc: Global,
+    theory: &Theory,
+    parents: &[Parent],
+    line: &Form,
+) -> Result<StepAnswer, Memory>
+    requires line { IsReady theory.now.vocabulary line.now }
+    requires no_shape { IsNone shape_rules theory.now parents.now line.now }
+    requires whole { Holds theory.now parents.now line.now Split → ⊥ }
+    requires undefined { Holds theory.now parents.now line.now Definition → ⊥ }
+    ensures { IfOk result (IsStepAnswer theory.now parents.now line.now) }
+{
     match chosen(alloc, theory, line)? {
-        Some(entries) => Ok(by_entries(Rule::Choice, cites, entries)),
+        Some(entries) => {
+            let cites = numbers(alloc, parents)?;
+            Ok(by_entries(Rule::Choice, cites, entries))
+        }
         None => Ok(StepAnswer::Unverified(Reason::NotYet)),
     }
 }

@@ -43,7 +43,7 @@ file_few end_of_file = omega arith
 file_few (comment more) = let few = file_few more in omega (arith, few)
 file_few (input is through more) = let few = file_few more in let less = through_few through in omega (arith, few, less)
 
-spelled_few : (number : ℕ) (text : Text) (items : List Item) → IsSpelled number text items → length items ≤ length text
+pub spelled_few : (number : ℕ) (text : Text) (items : List Item) → IsSpelled number text items → length items ≤ length text
 spelled_few number text items (tokens, (fits, (offset, cut, end)), (us, file, within)) =
     let bytes = cut_few cut in
     let entries = file_few file in

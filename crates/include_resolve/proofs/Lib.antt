@@ -1,6 +1,7 @@
 pub mod Causing
 pub mod Counts
 pub mod Faults
+pub mod FewFiles
 pub mod Finding
 pub mod Joins
 pub mod Sets

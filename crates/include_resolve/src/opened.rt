@@ -25,6 +25,7 @@ pub fn take_text(
 ) -> Result<List<Item>, IncludeFault>
     requires fits { FitsIn opened.old read }
     requires budget { opened.old.read ≤ total_size }
+    requires few { length opened.old.names ≤ opened.old.read }
     ensures taken { TakesText opened.old opened.new name.now read result }
     ensures budget { opened.new.read ≤ total_size }
 {
@@ -32,9 +33,7 @@ pub fn take_text(
         Read::Whole(text) => text,
         Read::Over(limit) => return Err(over(alloc, name, limit)),
     };
-    let Ok(number) = u32::try_from(opened.names.len()) else {
-        return Err(IncludeFault::Memory);
-    };
+    let number = opened.names.len() as u32;
     let items = spelled_items(alloc, number, name, text.as_slice())?;
     add(alloc, opened, name, text.len() as u64)?;
     Ok(items)

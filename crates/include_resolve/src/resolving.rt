@@ -47,6 +47,7 @@ fn open<S: Store>(
 ) -> Result<Items<Item>, IncludeFault>
     requires room { length (path_names level.now.path.now) + level.now.room ≡ max_depth + 1 }
     requires budget { opened.old.read ≤ total_size }
+    requires few_files { length opened.old.names ≤ opened.old.read }
     ensures gives { Gives (spec.Opens (S.files store.old) (option_copied level.now.root) (walk_of (path_names level.now.path.now) opened.old) (list_of names) wanted.now.written.now wanted.now.selection.now) opened.old opened.new result }
     ensures read { opened.new.read ≤ total_size }
     ensures cause { IfErr result (λ fault. HasCause fault (Rose (S.absents store.old) (S.absents store.new)) (Rose (S.faults store.old) (S.faults store.new))) }
@@ -71,6 +72,7 @@ fn open_found<S: Store>(
 ) -> Result<Items<Item>, IncludeFault>
     requires room { length (path_names level.now.path.now) + level.now.room ≡ max_depth + 1 }
     requires budget { opened.old.read ≤ total_size }
+    requires few_files { length opened.old.names ≤ opened.old.read }
     requires read { IsReadOf (S.files store.old) (string_bytes found.name) (total_size - opened.old.read) found.read }
     ensures gives { (names : List (List ℕ)) → spec.IsFirstFile (S.files store.old) names (string_bytes found.name)
         → Gives (spec.Opens (S.files store.old) (option_copied level.now.root) (walk_of (path_names level.now.path.now) opened.old) names wanted.now.written.now wanted.now.selection.now) opened.old opened.new result }
@@ -105,6 +107,7 @@ fn replace<S: Store>(
 ) -> Result<Items<Item>, IncludeFault>
     requires room { length (path_names level.now.path.now) + level.now.room ≡ max_depth + 1 }
     requires budget { opened.old.read ≤ total_size }
+    requires few_files { length opened.old.names + length items ≤ opened.old.read + 1 }
     ensures gives { Gives (spec.Replaces (S.files store.old) (option_copied level.now.root) (walk_of (path_names level.now.path.now) opened.old) from.now items) opened.old opened.new result }
     ensures read { opened.new.read ≤ total_size }
     ensures cause { IfErr result (λ fault. HasCause fault (Rose (S.absents store.old) (S.absents store.new)) (Rose (S.faults store.old) (S.faults store.new))) }
@@ -132,6 +135,7 @@ fn take<S: Store>(
 ) -> Result<(), IncludeFault>
     requires room { length (path_names level.now.path.now) + level.now.room ≡ max_depth + 1 }
     requires budget { opened.old.read ≤ total_size }
+    requires few_files { length opened.old.names ≤ opened.old.read }
     ensures adds { Adds (spec.Takes (S.files store.old) (option_copied level.now.root) (walk_of (path_names level.now.path.now) opened.old) from.now item) opened.old opened.new kept.old kept.new result }
     ensures read { opened.new.read ≤ total_size }
     ensures cause { IfErr result (λ fault. HasCause fault (Rose (S.absents store.old) (S.absents store.new)) (Rose (S.faults store.old) (S.faults store.new))) }
@@ -160,6 +164,7 @@ fn included<S: Store>(
 ) -> Result<Items<Item>, IncludeFault>
     requires room { length (path_names level.now.path.now) + level.now.room ≡ max_depth + 1 }
     requires budget { opened.old.read ≤ total_size }
+    requires few_files { length opened.old.names ≤ opened.old.read }
     ensures gives { Gives (spec.Takes (S.files store.old) (option_copied level.now.root) (walk_of (path_names level.now.path.now) opened.old) from.now (Item.Include include.now)) opened.old opened.new result }
     ensures read { opened.new.read ≤ total_size }
     ensures cause { IfErr result (λ fault. HasCause fault (Rose (S.absents store.old) (S.absents store.new)) (Rose (S.faults store.old) (S.faults store.new))) }
@@ -250,6 +255,7 @@ pub fn resolve<S: Store>(
     // Whatever the store tells:
     ensures read { IfOk result (λ problem. problem.read ≤ total_size) }
     ensures few { IfOk result (λ problem. length problem.items ≤ problem.read) }
+    ensures few_files { IfOk result (λ problem. length problem.files ≤ problem.read + 1) }
     // A missing file and a fault of the store have their cause in this call.
     ensures missing { (written : List ℕ) → IsErrOf result (IncludeFault.Missing written) → Rose (S.absents store.old) (S.absents store.new) }
     ensures store_fault { IsErrOf result IncludeFault.Store → Rose (S.faults store.old) (S.faults store.new) }

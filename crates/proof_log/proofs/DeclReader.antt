@@ -17,7 +17,8 @@ use Rattle.proof_log.specs.declared.name.DeclName.{DeclName}
 use Rattle.proof_log.specs.declared.name.DeclName.TheVariants as d
 use Rattle.proof_log.specs.Words.{Word, word, at_level, nested}
 use Rattle.proof_log.specs.LogText.{number as number_text, numbers_text}
-use Rattle.proof_log.specs.Entries.{quoted as quoted_text, symbol_text, decl_text, IsQuotable, HasNoResult, IsWritableDecl, IsSmall, AreSmall, AreNumbersInRange}
+use Rattle.tptp_base.specs.Quotable.{IsQuotable}
+use Rattle.proof_log.specs.Entries.{quoted as quoted_text, symbol_text, decl_text, HasNoResult, IsWritableDecl, IsSmall, AreSmall, AreNumbersInRange}
 use Rattle.proof_log.specs.Names.{decl_name, decl_names}
 use Rattle.proof_log.specs.ReadWords.{is_byte, find, number, listed, both, name, head}
 use Rattle.proof_log.specs.ReadEntries.{quoted, function_of, predicate_of, decl_by, declaration}

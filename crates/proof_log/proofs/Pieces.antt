@@ -1,7 +1,8 @@
 -- Texts that are appended in pieces, the last of which may be refused.
-use Rattle.std.proofs.Common.{◌≡◌, ℕ, List, [], ◌∷◌, ◌++◌, Result, Ok, Err, OnOk, ◌≤◌, length, take, map, sym, ◌∙◌, ap, append_assoc}
+use Rattle.std.proofs.Common.{◌≡◌, ℕ, ◌+◌, ◌<◌, get_or, append-nil, List, [], ◌∷◌, ◌++◌, Result, Ok, Err, OnOk, ◌≤◌, length, take, map, sym, ◌∙◌, ap, append_assoc}
 use Rattle.std.specs.List.{flat_map}
-use Rattle.std.proofs.lemmas.List.{take_all, length-map}
+use Rattle.std.proofs.lemmas.List.{take_all, take_more, length-map}
+use Rattle.std.proofs.lemmas.List.Concat.{flat_map-append}
 use Rattle.std.proofs.lemmas.List.Folds.{flat_map-map}
 use Rattle.proof_log.specs.Entries.{escaped, quoted}
 use Rattle.proof_log.specs.LogText.{number, list_text}
@@ -18,6 +19,17 @@ four_pieces result t0 t1 t2 t3 t4 a b c d one two three last = two_pieces result
 
 pub five_pieces : {T E : Type 0} (result : Result T E) (t0 t1 t2 t3 t4 t5 a b c d e : List ℕ) → t1 ≡ t0 ++ a → t2 ≡ t1 ++ b → t3 ≡ t2 ++ c → t4 ≡ t3 ++ d → OnOk result (t5 ≡ t4 ++ e) → OnOk result (t5 ≡ t0 ++ (a ++ (b ++ (c ++ (d ++ e)))))
 five_pieces result t0 t1 t2 t3 t4 t5 a b c d e one two three four last = two_pieces result t0 t1 t5 a (b ++ (c ++ (d ++ e))) one (four_pieces result t1 t2 t3 t4 t5 b c d e two three four last)
+
+-- the members so far, and one more
+pub more_written : {X : Type 0} (f : X → List ℕ) (xs : List X) (i : ℕ) (x : X) (t0 t1 t : List ℕ) → i < length xs → x ≡ get_or xs i x → t1 ≡ t0 ++ flat_map f (take i xs) → t ≡ t1 ++ f x → t ≡ t0 ++ flat_map f (take (i + 1) xs)
+more_written {X = X} f xs i x t0 t1 t lt is so_far one =
+    one
+    ∙ ap (λ (l : List ℕ). l ++ f x) so_far
+    ∙ append_assoc t0 (flat_map f (take i xs)) (f x)
+    ∙ ap (λ (l : List ℕ). t0 ++ l) (sym (
+    ap (λ (l : List X). flat_map f l) (take_more xs i x lt)
+    ∙ flat_map-append f (take i xs) (get_or xs i x ∷ [])
+    ∙ ap (λ (l : List ℕ). flat_map f (take i xs) ++ l) (append-nil (f (get_or xs i x)) ∙ ap f (sym is))))
 
 -- a list, written as its length and then its members
 pub list_written : {X : Type 0} (f : X → List ℕ) (xs : List X) (i : ℕ) (t0 t1 t : List ℕ) → length xs ≤ i → t1 ≡ t0 ++ number (length xs) → t ≡ t1 ++ flat_map f (take i xs) → t ≡ t0 ++ list_text (map f xs)

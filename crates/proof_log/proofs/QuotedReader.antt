@@ -11,7 +11,8 @@ use Rattle.first_fault.proofs.Exact.{Exact, Inhabited, exact_stop, exact_after, 
 use Rattle.first_fault.proofs.Found.{Found}
 use Rattle.first_fault.proofs.Good.{Good, After, after, good_opened, good_as, always}
 use Rattle.proof_log.specs.Words.{at_level}
-use Rattle.proof_log.specs.Entries.{is_special, is_printable, escaped, IsQuotable}
+use Rattle.tptp_base.specs.Quotable.{is_printable, IsQuotable}
+use Rattle.proof_log.specs.Entries.{is_special, escaped}
 use Rattle.proof_log.specs.Entries as entries
 use Rattle.proof_log.specs.ReadWords.{is_byte}
 use Rattle.proof_log.specs.ReadEntries.{characters, some_characters, quoted}

@@ -1,6 +1,7 @@
 -- The text of entries, one line each, and of a whole log.
-use Rattle.std.specs.Prelude.{◌≡◌, ⊤, ℕ, ◌<◌, ◌==◌, ◌||◌, ◌&&◌, nat_le, ◌≤◌, Bool, List, [], ◌∷◌, ◌++◌, length, map, codes, if◌then◌else◌}
-use Rattle.std.specs.List.{flat_map, AllPass}
+use Rattle.std.specs.Prelude.{◌≡◌, ⊤, ℕ, ◌==◌, ◌||◌, ◌≤◌, Bool, List, [], ◌∷◌, ◌++◌, length, map, codes, if◌then◌else◌}
+use Rattle.std.specs.List.{flat_map, AllByRecursion}
+use Rattle.tptp_base.specs.Quotable.{IsQuotable}
 use Rattle.fof_terms.specs.declared.signature.Kind.{Kind}
 use Rattle.fof_terms.specs.declared.signature.Kind.TheVariants.{Function, Predicate}
 use Rattle.kernel.specs.declared.entry.Decl.{Decl}
@@ -43,15 +44,6 @@ entry_text (Choice symbol body) = codes "C" ++ (number symbol ++ (form_text body
 unfoldable pub log_text : List Entry → List ℕ
 log_text entries = HEADER.now ++ flat_map entry_text entries
 
--- a byte that a quoted word can hold: a printable one
-abbrev pub is_printable : ℕ → Bool
-is_printable byte = nat_le 32 byte && nat_le byte 126
-
--- the name has a spelling as a single-quoted word
-pub record IsQuotable (name : List ℕ) : Type 0 where
-  pub some : 0 < length name
-  pub printable : AllPass is_printable name
-
 abbrev pub HasNoResult : Kind → ℕ → Type 0
 HasNoResult Function result = ⊤
 HasNoResult Predicate result = result ≡ 0
@@ -68,6 +60,10 @@ IsWritable (Lemma proof) = ⊤
 IsWritable (Name symbol body) = ⊤
 IsWritable (Choice symbol body) = ⊤
 
+-- each of the entries can be
+abbrev pub AreWritable : List Entry → Type 0
+AreWritable entries = AllByRecursion IsWritable entries
+
 -- ---- the numbers
 
 abbrev pub IsSmall : ℕ → Type 0
@@ -82,6 +78,10 @@ AreNumbersInRange (Declare (SymbolOf symbol)) = AreSmall symbol.args × IsSmall 
 AreNumbersInRange (Lemma proof) = AreInRange (proof_words proof)
 AreNumbersInRange (Name symbol body) = IsSmall symbol × AreInRange (form_words body)
 AreNumbersInRange (Choice symbol body) = IsSmall symbol × AreInRange (form_words body)
+
+-- the numbers in each of the entries fit their types
+abbrev pub HaveNumbersInRange : List Entry → Type 0
+HaveNumbersInRange entries = AllByRecursion AreNumbersInRange entries
 
 -- The entry stands in logs: it can be read back, and its numbers fit their types.
 pub record IsLogged (entry : Entry) : Type 0 where

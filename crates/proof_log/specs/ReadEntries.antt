@@ -11,7 +11,8 @@ use Rattle.proof_log.specs.declared.name.DeclName.TheVariants as d
 use Rattle.proof_log.specs.declared.name.EntryName.{EntryName}
 use Rattle.proof_log.specs.declared.name.LogVersion.{LogVersion}
 use Rattle.proof_log.specs.declared.name.EntryName.TheVariants as e
-use Rattle.proof_log.specs.Entries.{is_special, is_printable}
+use Rattle.tptp_base.specs.Quotable.{is_printable}
+use Rattle.proof_log.specs.Entries.{is_special}
 use Rattle.proof_log.specs.Names.{decl_name, decl_names, entry_name, entry_names, version_line, versions}
 use Rattle.proof_log.specs.ReadWords.{is_byte, number, listed, both, name, head}
 use Rattle.proof_log.specs.ReadTrees.{behind, form, proof}

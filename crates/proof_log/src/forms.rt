@@ -1,8 +1,9 @@
 // The text of terms and formulas.
-ghost use Rattle.std.specs.Prelude.{◌≡◌, ◌++◌, OnOk};
-ghost use Rattle.proof_log.specs.LogText.{term_text, terms_text, form_text, forms_text};
+ghost use Rattle.std.specs.Prelude.{◌≡◌, ◌++◌, OnOk, map};
+ghost use Rattle.proof_log.specs.LogText.{term_text, terms_text, form_text, forms_text, term_words, form_words};
+ghost use Rattle.proof_log.specs.Words.{AreInRange, list_of};
 
-use crate::line::{put_number, put_word};
+use crate::line::{put_number, put_small, put_word};
 use fof_terms::{Form, Term};
 use std::alloc::AllocError;
 
@@ -10,16 +11,17 @@ use std::alloc::AllocError;
 #[tactic(auto, using(crate::specs::LogEquations::term_equations))]
 #[cycle(put_term)]
 pub fn put_term(term: &Term, text: &mut Vec<u8>) -> Result<(), AllocError>
-    ensures { OnOk result (text.new.items ≡ text.old.items ++ term_text term.now) }
+    ensures text { OnOk result (text.new.items ≡ text.old.items ++ term_text term.now) }
+    ensures in_range { OnOk result (AreInRange (term_words term.now)) }
 {
     match term {
         Term::Var(number) => {
             put_word(text, b"v")?;
-            put_number(text, u64::from(*number))
+            put_small(text, *number)
         }
         Term::App(symbol, args) => {
             put_word(text, b"f")?;
-            put_number(text, u64::from(*symbol))?;
+            put_small(text, *symbol)?;
             put_terms(args.as_slice(), text)
         }
     }
@@ -29,7 +31,8 @@ pub fn put_term(term: &Term, text: &mut Vec<u8>) -> Result<(), AllocError>
 #[tactic(auto, using(crate::specs::LogEquations::term_equations))]
 #[cycle(put_term)]
 pub fn put_terms(terms: &[Term], text: &mut Vec<u8>) -> Result<(), AllocError>
-    ensures { OnOk result (text.new.items ≡ text.old.items ++ terms_text terms.now) }
+    ensures text { OnOk result (text.new.items ≡ text.old.items ++ terms_text terms.now) }
+    ensures in_range { OnOk result (AreInRange (list_of (map term_words terms.now))) }
 {
     put_number(text, terms.len() as u64)?;
     for term in terms {
@@ -42,12 +45,13 @@ pub fn put_terms(terms: &[Term], text: &mut Vec<u8>) -> Result<(), AllocError>
 #[tactic(auto, using(crate::specs::LogEquations::form_equations))]
 #[cycle(put_form)]
 pub fn put_form(form: &Form, text: &mut Vec<u8>) -> Result<(), AllocError>
-    ensures { OnOk result (text.new.items ≡ text.old.items ++ form_text form.now) }
+    ensures text { OnOk result (text.new.items ≡ text.old.items ++ form_text form.now) }
+    ensures in_range { OnOk result (AreInRange (form_words form.now)) }
 {
     match form {
         Form::Atom(symbol, args) => {
             put_word(text, b"a")?;
-            put_number(text, u64::from(*symbol))?;
+            put_small(text, *symbol)?;
             put_terms(args.as_slice(), text)
         }
         Form::Eq(left, right) => {
@@ -79,12 +83,12 @@ pub fn put_form(form: &Form, text: &mut Vec<u8>) -> Result<(), AllocError>
         }
         Form::All(sort, body) => {
             put_word(text, b"!")?;
-            put_number(text, u64::from(*sort))?;
+            put_small(text, *sort)?;
             put_form(body.get(), text)
         }
         Form::Ex(sort, body) => {
             put_word(text, b"?")?;
-            put_number(text, u64::from(*sort))?;
+            put_small(text, *sort)?;
             put_form(body.get(), text)
         }
     }
@@ -94,7 +98,8 @@ pub fn put_form(form: &Form, text: &mut Vec<u8>) -> Result<(), AllocError>
 #[tactic(auto, using(crate::specs::LogEquations::form_equations))]
 #[cycle(put_form)]
 pub fn put_forms(forms: &[Form], text: &mut Vec<u8>) -> Result<(), AllocError>
-    ensures { OnOk result (text.new.items ≡ text.old.items ++ forms_text forms.now) }
+    ensures text { OnOk result (text.new.items ≡ text.old.items ++ forms_text forms.now) }
+    ensures in_range { OnOk result (AreInRange (list_of (map form_words forms.now))) }
 {
     put_number(text, forms.len() as u64)?;
     for form in forms {

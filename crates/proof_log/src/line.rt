@@ -1,7 +1,7 @@
 // The text of a line.
-ghost use Rattle.std.specs.Prelude.{◌≡◌, ◌∷◌, ◌++◌, OnOk, decimal};
+ghost use Rattle.std.specs.Prelude.{◌≡◌, ◌≤◌, ◌∷◌, ◌++◌, OnOk, decimal};
 ghost use Rattle.proof_log.specs.Entries;
-ghost use Rattle.proof_log.specs.Entries.{escaped};
+ghost use Rattle.proof_log.specs.Entries.{escaped, AreSmall, IsSmall};
 ghost use Rattle.proof_log.specs.LogText;
 ghost use Rattle.proof_log.specs.LogText.{numbers_text};
 ghost use Rattle.std.specs.List.{flat_map};
@@ -19,19 +19,29 @@ pub fn put_word(text: &mut Vec<u8>, word: &[u8]) -> Result<(), AllocError>
 
 // Appends a number in decimal, with a blank before it.
 pub fn put_number(text: &mut Vec<u8>, number: u64) -> Result<(), AllocError>
-    ensures { OnOk result (text.new.items ≡ text.old.items ++ LogText.number number) }
+    ensures text { OnOk result (text.new.items ≡ text.old.items ++ LogText.number number) }
+    ensures large { number ≤ 18446744073709551615 }
 {
     let mut buffer = Buffer::new();
     put_word(text, buffer.format(number).as_bytes())
 }
 
+// Appends a number of 32 bits in decimal, with a blank before it.
+pub fn put_small(text: &mut Vec<u8>, number: u32) -> Result<(), AllocError>
+    ensures text { OnOk result (text.new.items ≡ text.old.items ++ LogText.number number) }
+    ensures small { IsSmall number }
+{
+    put_number(text, u64::from(number))
+}
+
 // Appends how many numbers there are, and then the numbers.
 pub fn put_numbers(text: &mut Vec<u8>, numbers: &[u32]) -> Result<(), AllocError>
-    ensures { OnOk result (text.new.items ≡ text.old.items ++ numbers_text numbers.now) }
+    ensures text { OnOk result (text.new.items ≡ text.old.items ++ numbers_text numbers.now) }
+    ensures in_range { OnOk result (AreSmall numbers.now) }
 {
     put_number(text, numbers.len() as u64)?;
     for number in numbers {
-        put_number(text, u64::from(*number))?;
+        put_small(text, *number)?;
     }
     Ok(())
 }

@@ -1,16 +1,18 @@
 // The text of proofs.
 ghost use Rattle.std.specs.Prelude.{◌≡◌, ◌++◌, OnOk, map};
-ghost use Rattle.proof_log.specs.LogText.{list_text, proof_text};
+ghost use Rattle.proof_log.specs.LogText.{list_text, proof_text, proof_words};
+ghost use Rattle.proof_log.specs.Words.{AreInRange, list_of};
 
 use crate::forms::{put_form, put_forms, put_term};
-use crate::line::{put_number, put_word};
+use crate::line::{put_number, put_small, put_word};
 use kernel::Proof;
 use std::alloc::AllocError;
 
 // Appends the text of a proof: a row for each node.
 #[cycle(put_proof)]
 pub fn put_proof(proof: &Proof, text: &mut Vec<u8>) -> Result<(), AllocError>
-    ensures { OnOk result (text.new.items ≡ text.old.items ++ proof_text proof.now) }
+    ensures text { OnOk result (text.new.items ≡ text.old.items ++ proof_text proof.now) }
+    ensures in_range { OnOk result (AreInRange (proof_words proof.now)) }
 {
     match proof {
         Proof::Line(line) => {
@@ -19,7 +21,7 @@ pub fn put_proof(proof: &Proof, text: &mut Vec<u8>) -> Result<(), AllocError>
         }
         Proof::Hyp(hypothesis) => {
             put_word(text, b"hyp")?;
-            put_number(text, u64::from(*hypothesis))
+            put_small(text, *hypothesis)
         }
         Proof::AndI(parts) => {
             put_word(text, b"andi")?;
@@ -27,13 +29,13 @@ pub fn put_proof(proof: &Proof, text: &mut Vec<u8>) -> Result<(), AllocError>
         }
         Proof::AndE(member, part) => {
             put_word(text, b"ande")?;
-            put_number(text, u64::from(*member))?;
+            put_small(text, *member)?;
             put_proof(part.get(), text)
         }
         Proof::OrI(members, member, part) => {
             put_word(text, b"ori")?;
             put_forms(members.as_slice(), text)?;
-            put_number(text, u64::from(*member))?;
+            put_small(text, *member)?;
             put_proof(part.get(), text)
         }
         Proof::OrE(goal, part, cases) => {
@@ -86,7 +88,7 @@ pub fn put_proof(proof: &Proof, text: &mut Vec<u8>) -> Result<(), AllocError>
         }
         Proof::AllI(sort, part) => {
             put_word(text, b"alli")?;
-            put_number(text, u64::from(*sort))?;
+            put_small(text, *sort)?;
             put_proof(part.get(), text)
         }
         Proof::AllE(term, part) => {
@@ -96,7 +98,7 @@ pub fn put_proof(proof: &Proof, text: &mut Vec<u8>) -> Result<(), AllocError>
         }
         Proof::ExI(sort, form, term, part) => {
             put_word(text, b"exi")?;
-            put_number(text, u64::from(*sort))?;
+            put_small(text, *sort)?;
             put_form(form, text)?;
             put_term(term, text)?;
             put_proof(part.get(), text)
@@ -113,14 +115,14 @@ pub fn put_proof(proof: &Proof, text: &mut Vec<u8>) -> Result<(), AllocError>
         }
         Proof::Subst(sort, form, left, right) => {
             put_word(text, b"subst")?;
-            put_number(text, u64::from(*sort))?;
+            put_small(text, *sort)?;
             put_form(form, text)?;
             put_proof(left.get(), text)?;
             put_proof(right.get(), text)
         }
         Proof::Inhabit(sort, goal, part) => {
             put_word(text, b"inhabit")?;
-            put_number(text, u64::from(*sort))?;
+            put_small(text, *sort)?;
             put_form(goal, text)?;
             put_proof(part.get(), text)
         }
@@ -130,7 +132,8 @@ pub fn put_proof(proof: &Proof, text: &mut Vec<u8>) -> Result<(), AllocError>
 // Appends how many proofs there are, and then their texts.
 #[cycle(put_proof)]
 fn put_proofs(proofs: &[Proof], text: &mut Vec<u8>) -> Result<(), AllocError>
-    ensures { OnOk result (text.new.items ≡ text.old.items ++ list_text (map proof_text proofs.now)) }
+    ensures text { OnOk result (text.new.items ≡ text.old.items ++ list_text (map proof_text proofs.now)) }
+    ensures in_range { OnOk result (AreInRange (list_of (map proof_words proofs.now))) }
 {
     put_number(text, proofs.len() as u64)?;
     for proof in proofs {

@@ -1,5 +1,6 @@
 // Quoted names are read.
 ghost use Rattle.std.specs.Prelude.{◌≡◌, true, false};
+ghost use Rattle.tptp_base.specs.Quotable as names;
 ghost use Rattle.proof_log.specs.Entries as entries;
 ghost use Rattle.proof_log.specs.ReadEntries as spec;
 ghost use Rattle.proof_log.specs.Characters.{ReadsCharacter, ReadsEscaped};
@@ -17,7 +18,7 @@ fn is_special(byte: u8) -> bool
 }
 
 fn is_printable(byte: u8) -> bool
-    ensures { result ≡ entries.is_printable byte }
+    ensures { result ≡ names.is_printable byte }
 {
     32 <= byte && byte <= 126
 }

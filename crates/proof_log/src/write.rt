@@ -2,12 +2,14 @@
 ghost use Rattle.std.specs.Prelude.{◌≡◌, ◌≤◌, ◌++◌, ◌∷◌, [], OnOk, OnErr, IfOk, IsErrOf};
 ghost use Rattle.tptp_base.specs.Count.{Rose};
 ghost use Rattle.tptp_base.specs.Sink.{Takes, TakesPrefix};
-ghost use Rattle.proof_log.specs.Entries.{entry_text, decl_text, symbol_text};
+ghost use Rattle.proof_log.specs.Entries.{AreNumbersInRange, AreSmall, IsSmall, entry_text, decl_text, symbol_text};
 ghost use Rattle.proof_log.specs.LogText;
-ghost use Rattle.proof_log.specs.LogText.{form_text};
+ghost use Rattle.proof_log.specs.LogText.{form_text, form_words};
+ghost use Rattle.proof_log.specs.Words.{AreInRange};
+ghost use Rattle.kernel.specs.declared.entry.Entry.TheVariants.{Declare};
 
 use crate::forms::put_form;
-use crate::line::{put_number, put_numbers, put_quoted, put_word};
+use crate::line::{put_numbers, put_quoted, put_small, put_word};
 use crate::proofs::put_proof;
 use fof_terms::{Form, Kind, SymId, Symbol};
 use kernel::{Decl, Entry};
@@ -27,9 +29,11 @@ pub fn write_header<K: Sink>(sink: &mut K) -> Result<(), SinkFault>
     put_all(sink, HEADER)
 }
 
-/// Appends the line of an entry; on a refusal a prefix of it. The line is made first, and written in one piece.
+/// Appends the line of an entry; on a refusal a prefix of it. The line is made first, and written in one piece. Each number
+/// in it fits its type, as it is read back.
 pub fn write_entry<K: Sink>(alloc: Global, entry: &Entry, sink: &mut K) -> Result<(), SinkFault>
     ensures ok { OnOk result (Takes (K.taken sink.old) (K.taken sink.new) (entry_text entry.now)) }
+    ensures in_range { OnOk result (AreNumbersInRange entry.now) }
     ensures err { OnErr result (TakesPrefix (K.taken sink.old) (K.taken sink.new) (entry_text entry.now)) }
     ensures failed { IsErrOf result SinkFault.Failed → Rose (K.faults sink.old) (K.faults sink.new) }
     ensures more_faults { K.faults sink.old ≤ K.faults sink.new }
@@ -42,7 +46,8 @@ pub fn write_entry<K: Sink>(alloc: Global, entry: &Entry, sink: &mut K) -> Resul
 
 // The line of an entry.
 fn entry_line(alloc: Global, entry: &Entry) -> Result<Vec<u8>, AllocError>
-    ensures { IfOk result (λ line. line.items ≡ entry_text entry.now) }
+    ensures text { IfOk result (λ line. line.items ≡ entry_text entry.now) }
+    ensures in_range { OnOk result (AreNumbersInRange entry.now) }
 {
     let mut line = Vec::new(alloc);
     put_entry(entry, &mut line)?;
@@ -52,7 +57,8 @@ fn entry_line(alloc: Global, entry: &Entry) -> Result<Vec<u8>, AllocError>
 
 // Appends an entry's line, without its line feed.
 fn put_entry(entry: &Entry, line: &mut Vec<u8>) -> Result<(), AllocError>
-    ensures { OnOk result (line.new.items ++ 10 ∷ [] ≡ line.old.items ++ entry_text entry.now) }
+    ensures text { OnOk result (line.new.items ++ 10 ∷ [] ≡ line.old.items ++ entry_text entry.now) }
+    ensures in_range { OnOk result (AreNumbersInRange entry.now) }
 {
     match entry {
         Entry::Declare(decl) => {
@@ -80,15 +86,18 @@ fn put_entry(entry: &Entry, line: &mut Vec<u8>) -> Result<(), AllocError>
 
 // Appends a symbol's number, and the formula that it is for.
 fn put_defined(symbol: SymId, form: &Form, line: &mut Vec<u8>) -> Result<(), AllocError>
-    ensures { OnOk result (line.new.items ≡ line.old.items ++ (LogText.number symbol ++ form_text form.now)) }
+    ensures text { OnOk result (line.new.items ≡ line.old.items ++ (LogText.number symbol ++ form_text form.now)) }
+    ensures small { OnOk result (IsSmall symbol) }
+    ensures in_range { OnOk result (AreInRange (form_words form.now)) }
 {
-    put_number(line, u64::from(symbol))?;
+    put_small(line, symbol)?;
     put_form(form, line)
 }
 
 // Appends a declaration.
 fn put_decl(decl: &Decl, line: &mut Vec<u8>) -> Result<(), AllocError>
-    ensures { OnOk result (line.new.items ≡ line.old.items ++ decl_text decl.now) }
+    ensures text { OnOk result (line.new.items ≡ line.old.items ++ decl_text decl.now) }
+    ensures in_range { OnOk result (AreNumbersInRange (Declare decl.now)) }
 {
     match decl {
         Decl::Sort(name) => {
@@ -101,14 +110,17 @@ fn put_decl(decl: &Decl, line: &mut Vec<u8>) -> Result<(), AllocError>
 
 // Appends a declared symbol.
 fn put_symbol(symbol: &Symbol, line: &mut Vec<u8>) -> Result<(), AllocError>
-    ensures { OnOk result (line.new.items ≡ line.old.items ++ symbol_text symbol.now.kind symbol.now.name symbol.now.args symbol.now.result) }
+    ensures text { OnOk result (line.new.items ≡ line.old.items ++ symbol_text symbol.now.kind symbol.now.name symbol.now.args symbol.now.result) }
+    ensures args { OnOk result (AreSmall symbol.now.args) }
+    ensures small { OnOk result (IsSmall symbol.now.result) }
 {
+    let result = symbol.result;
     match symbol.kind {
         Kind::Function => {
             put_word(line, b"f")?;
             put_quoted(line, symbol.name.as_slice())?;
             put_numbers(line, symbol.args.as_slice())?;
-            put_number(line, u64::from(symbol.result))
+            put_small(line, result)
         }
         Kind::Predicate => {
             put_word(line, b"p")?;

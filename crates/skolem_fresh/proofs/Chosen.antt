@@ -61,7 +61,7 @@ all_are : (t : Statements) (left : Form) (xs ys : List ℕ) (uses : List Use) �
 all_are t left xs ys [] e h f g = tt
 all_are t left xs ys (u ∷ uses) e h f g = (record { same = h.0 ∙ e; fresh = f.0; absent = g.0 }, all_are t left xs ys uses e h.1 f.1 g.1)
 
-only_arguments : (xs : List ℕ) (left : Form) → IsDistinct nat_eq xs → only_has xs 0 left ≡ true → AreArguments xs left
+pub only_arguments : (xs : List ℕ) (left : Form) → IsDistinct nat_eq xs → only_has xs 0 left ≡ true → AreArguments xs left
 only_arguments xs left d o = record {
   distinct = d;
   all_free = λ k h. let same : k + 0 ≡ k = omega arith in among_contains xs k (only_form_has xs left (0, k) o (rw same h));

@@ -8,10 +8,9 @@ use Rattle.fof_terms.specs.declared.term.Term.{Term, Var, App}
 use Rattle.fof_terms.specs.declared.form.Form.{Form}
 use Rattle.fof_terms.specs.Occurs.{occurs_in}
 use Rattle.kernel.specs.Statements.{Statements}
-use Rattle.kernel.specs.Entries.{IsFresh}
 use Rattle.skolem_fresh.specs.declared.just.Use.{Use}
 use Rattle.skolem_fresh.specs.declared.leaves.Leaf.{Leaf}
-use Rattle.skolem_fresh.specs.Reading.{found_in, found_term, found_term-App-Var, read, all_there}
+use Rattle.skolem_fresh.specs.Reading.{found_in, found_term, found_term-App-Var, read, read_from, all_there}
 use Rattle.skolem_fresh.specs.Choosing.{IsFree}
 
 none_in : (fs : List (Term → Option Term)) → found_in fs [] ≡ None
@@ -35,8 +34,8 @@ nothing_in_variable n f k ts term other is at = sym (rw (is, at) (found_term-App
 pub no_term_left : (n i : ℕ) (terms others : List Term) → length others ≤ i → found_in (map (found_term n) (drop i terms)) (drop i others) ≡ found_in (map (found_term n) terms) others → None ≡ found_in (map (found_term n) terms) others
 no_term_left n i terms others le same = sym (none_in (map (found_term n) (drop i terms))) ∙ ap (λ (us : List Term). found_in (map (found_term n) (drop i terms)) us) (sym (past_end others i le)) ∙ same
 
-pub no_leaf_left : (s i : ℕ) (leaves others : List Leaf) → length others ≤ i → read s (drop i leaves) (drop i others) ≡ read s leaves others → None ≡ read s leaves others
-no_leaf_left s i leaves others le same = sym (none_read s (drop i leaves)) ∙ ap (λ (ms : List Leaf). read s (drop i leaves) ms) (sym (past_end others i le)) ∙ same
+pub no_leaf_left : (e s i : ℕ) (leaves others : List Leaf) → length others ≤ i → read_from e s (drop i leaves) (drop i others) ≡ read_from e s leaves others → None ≡ read_from e s leaves others
+no_leaf_left e s i leaves others le same = sym (none_read s (drop i leaves)) ∙ ap (λ (ms : List Leaf). read_from e s (drop i leaves) ms) (sym (past_end others i le)) ∙ same
 
 -- members that are there
 some_of : {X : Type 0} (y : X) (xs : Option (List X)) (ys : List X) → option_map (λ zs. y ∷ zs) xs ≡ Some ys → (zs : List X) × (xs ≡ Some zs) × (ys ≡ y ∷ zs)
@@ -92,7 +91,7 @@ none_has f (x ∷ xs) e (suc k) d lt = none_has f xs (rest_false (f x) (list_any
 both_false : (a b : Bool) → a ≡ false → b ≡ false → (a || b) ≡ false
 both_false a b e f = rw (e, f) refl
 
-has_none : {X : Type 0} (f : X → Bool) (xs : List X) → Every (λ x. f x ≡ false) xs → list_any f xs ≡ false
+pub has_none : {X : Type 0} (f : X → Bool) (xs : List X) → Every (λ x. f x ≡ false) xs → list_any f xs ≡ false
 has_none f [] h = refl
 has_none f (x ∷ xs) h = both_false (f x) (list_any f xs) (h 0 x (omega arith)) (has_none f xs (λ k d lt. h (suc k) d (omega arith)))
 

@@ -9,5 +9,7 @@ pub mod Only
 pub mod Reading
 pub mod Renamed
 pub mod SkolemRule
+pub mod Skolemizing
+pub mod Solid
 pub mod Told
 pub mod Uses

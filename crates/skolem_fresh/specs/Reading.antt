@@ -9,6 +9,7 @@ use Rattle.fof_terms.specs.declared.term.Term.TheViews.{out-Term, outs-Var, outs
 use Rattle.fof_terms.specs.declared.term.Term.TheFolds.{fold-Term}
 use Rattle.skolem_fresh.specs.declared.just.Use.{Use}
 use Rattle.skolem_fresh.specs.declared.leaves.Leaf.{Leaf}
+use Rattle.skolem_fresh.specs.Leaves.{leaf}
 
 abbrev pub args_in : term.Term-F Term → List Term
 args_in (term.Var k) = []
@@ -67,6 +68,14 @@ abbrev pub read : ℕ → List Leaf → List Leaf → Option Use
 read s [] ms = None
 read s (l ∷ ls) [] = None
 read s (l ∷ ls) (m ∷ ms) = read_or (read s ls ms) (found_term l.depth l.term m.term) m.depth s
+
+-- the term, so many quantifiers further out
+abbrev pub outward : ℕ → Leaf → Leaf
+outward e l = leaf (l.depth - e) l.term
+
+-- The same where the second stands under so many quantifiers, which are outside of it.
+abbrev pub read_from : ℕ → ℕ → List Leaf → List Leaf → Option Use
+read_from e s ls ms = read s ls (map (outward e) ms)
 
 -- The equations of these words.
 pub found_term-Var : (n k : ℕ) (u : Term) → found_term n (Var k) u ≡ (if k == n then Some u else None)

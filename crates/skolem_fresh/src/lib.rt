@@ -12,8 +12,12 @@ mod only;
 mod opening;
 mod reading;
 mod renaming;
+mod replacing;
+mod skolem;
+mod skolemizing;
 mod telling;
 
 pub use choice::choice_step;
 pub use entries::choice_entries;
 pub use just::{SkolemJust, Use};
+pub use skolem::skolem_step;

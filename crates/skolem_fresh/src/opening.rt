@@ -121,7 +121,7 @@ fn next_form(
 }
 
 // Whether the term has the sort.
-fn is_of_sort(term: &Term, sig: &Signature, scope: &Scope<'_>, sort: SortId) -> bool
+pub(crate) fn is_of_sort(term: &Term, sig: &Signature, scope: &Scope<'_>, sort: SortId) -> bool
     ensures { IsTrue result ↔ (sort_of_term sig.now (scope_sorts scope.now) term.now ≡ Some sort) }
 {
     match sort_of(term, sig, scope) {

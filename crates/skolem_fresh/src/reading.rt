@@ -1,6 +1,6 @@
 // What stands in one formula for the variables of another of the same build.
 ghost use Rattle.std.specs.Prelude.{◌≡◌, ℕ, IfOk, map};
-ghost use Rattle.skolem_fresh.specs.Reading.{found_term, found_in, all_there, variable_of as variable_in, use_of as use_in, read as read_in};
+ghost use Rattle.skolem_fresh.specs.Reading.{found_term, found_in, all_there, variable_of as variable_in, use_of as use_in, read as read_in, read_from as read_from_in};
 
 use crate::just::Use;
 use crate::leaves::Leaf;
@@ -100,13 +100,27 @@ pub(crate) fn read(
 ) -> Result<Option<Use>, Memory>
     ensures { IfOk result (λ found. found ≡ read_in sort leaves.now others.now) }
 {
+    read_from(alloc, 0, sort, leaves, others)
+}
+
+// The same where the second stands under so many quantifiers, which are outside of it.
+pub(crate) fn read_from(
+    alloc: Global,
+    outer: u32,
+    sort: SortId,
+    leaves: &[Leaf],
+    others: &[Leaf],
+) -> Result<Option<Use>, Memory>
+    ensures { IfOk result (λ found. found ≡ read_from_in outer sort leaves.now others.now) }
+{
     for i in 0..leaves.len() {
         if i >= others.len() {
             return Ok(None);
         }
         let found = term_at(alloc, leaves[i].depth, &leaves[i].term, &others[i].term)?;
         if let Some(term) = found {
-            return use_of(alloc, &term, others[i].depth, sort);
+            let depth = others[i].depth.saturating_sub(outer);
+            return use_of(alloc, &term, depth, sort);
         }
     }
     Ok(None)

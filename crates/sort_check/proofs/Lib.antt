@@ -1,10 +1,12 @@
 pub mod Alike
+pub mod Bringing
 pub mod Closings
 pub mod Declaring
 pub mod FormSorts
 pub mod GivenLoops
 pub mod GivenSorts
 pub mod Inducing
+pub mod LineBringing
 pub mod LineLoops
 pub mod LineSorts
 pub mod Loops

@@ -117,7 +117,7 @@ whole v w a grows depth fits = record {
   sorted = record { scope_fits = record { few_variables = omega arith; sorts_exist = tt }; few_binders = omega (arith, depth); fits = fits };
 }
 
-counted_ok : (o : Outcome SortRule State Form) (a : Form) (w : Vocabulary) → without_count o ≡ Ok (a, w) → (t : State) × (o ≡ Ok (a, t)) × (t.vocabulary ≡ w)
+pub counted_ok : (o : Outcome SortRule State Form) (a : Form) (w : Vocabulary) → without_count o ≡ Ok (a, w) → (t : State) × (o ≡ Ok (a, t)) × (t.vocabulary ≡ w)
 counted_ok (Err x) a w e = absurd (cc)
 counted_ok (Ok p) a w e = at_ok {E = SortRule} (λ b u. (t : State) × (◌≡◌ {A = Outcome SortRule State Form} (Ok p) (Ok (b, t))) × (t.vocabulary ≡ u)) p.0 a p.1.vocabulary w e (p.1, refl, refl)
 
@@ -168,7 +168,7 @@ body_fits : (names : List Text) (l : Annotated) (b : Body) (v w : Vocabulary) (a
 body_fits names l (body.Logic f) v w a some e = formula_fits l.lang names f v w a some e
 body_fits names l (body.Typing t) v w a some e = absurd (cc)
 
-reading_ok : (conjectured : Bool) (o : Outcome SortRule Vocabulary Form) (a : Form) (t : Reading) → reading conjectured o ≡ Ok (a, t) → o ≡ Ok (a, t.vocabulary)
+pub reading_ok : (conjectured : Bool) (o : Outcome SortRule Vocabulary Form) (a : Form) (t : Reading) → reading conjectured o ≡ Ok (a, t) → o ≡ Ok (a, t.vocabulary)
 reading_ok conjectured (Err x) a t e = absurd (cc)
 reading_ok conjectured (Ok p) a t e = at_ok {E = SortRule} (λ b (u : Reading). ◌≡◌ {A = Outcome SortRule Vocabulary Form} (Ok p) (Ok (b, u.vocabulary))) p.0 a (record { vocabulary = p.1; conjectured = conjectured }) t e refl
 
@@ -179,7 +179,7 @@ line_form_fits kind names l s t a some e = by (is_single kind && (is_conjecture 
     by true k = absurd (cc)
     by false k = body_fits names l l.body s.vocabulary t.vocabulary a some (reading_ok (is_conjecture l.role || s.conjectured) (body_form names l l.body s.vocabulary) a t k)
 
-at_line_ok : {S A : Type 0} (l : Annotated) (o : Outcome SortRule S A) (x : A) (t : S) → at_line l o ≡ Ok (x, t) → o ≡ Ok (x, t)
+pub at_line_ok : {S A : Type 0} (l : Annotated) (o : Outcome SortRule S A) (x : A) (t : S) → at_line l o ≡ Ok (x, t) → o ≡ Ok (x, t)
 at_line_ok {S = S} {A = A} l (Ok p) x t e = at_ok {E = SortFault} (λ y u. ◌≡◌ {A = Outcome SortRule S A} (Ok p) (Ok (y, u))) p.0 x p.1 t e refl
 at_line_ok l (Err r) x t e = absurd (cc)
 
@@ -255,7 +255,7 @@ declared_grows s v w n fits e = by (list_any (differs s) v.symbols) e
     by false k = at (found_symbol v s.name s.kind (length s.args)) k
 
 -- sorts that are looked up leave the vocabulary as it is
-named_same : (sort : SortName) (v w : Vocabulary) (n : ℕ) → named_sort sort v ≡ Ok (n, w) → w ≡ v
+pub named_same : (sort : SortName) (v w : Vocabulary) (n : ℕ) → named_sort sort v ≡ Ok (n, w) → w ≡ v
 named_same name.Individual v w n e = at_ok {E = SortRule} (λ (m : ℕ) u. u ≡ v) 0 n v w e refl
 named_same name.Truth v w n e = absurd (cc)
 named_same (name.Word word) v w n e = by (found_sort v word) e
@@ -276,7 +276,7 @@ result_same name.Truth v w n e = at_ok {E = SortRule} (λ (m : ℕ) u. u ≡ v) 
 result_same name.Individual v w n e = at_ok {E = SortRule} (λ (m : ℕ) u. u ≡ v) 0 n v w e refl
 result_same (name.Word word) v w n e = named_same (name.Word word) v w n e
 
-symbol_same : (word : Text) (args : List SortName) (result : SortName) (v w : Vocabulary) (s : Symbol) → symbol_named word args result v ≡ Ok (s, w) → w ≡ v
+pub symbol_same : (word : Text) (args : List SortName) (result : SortName) (v w : Vocabulary) (s : Symbol) → symbol_named word args result v ≡ Ok (s, w) → w ≡ v
 symbol_same word args result v w s e =
     let parts = then_ok (each (λ p. named_sort) 0 args v) (λ sorts u. mapped (symbol_of word (result_kind result) sorts) (result_named result u)) s w e in
     let inner = mapped_ok (symbol_of word (result_kind result) parts.0) (result_named result parts.1) s w parts.3 in
@@ -323,7 +323,7 @@ fits_there word args result v w s e some =
     let same = symbol_same word args result v w s e in
     subst (λ (u : Vocabulary). IsDeclared (length u.sorts) s) (sym same) (symbol_there word args result v w s e (subst (λ (u : Vocabulary). 0 < length u.sorts) same some))
 
-declaring_ok : (names : List Text) (o : Outcome SortRule Vocabulary ℕ) (done : Unit {0}) (d : Declared) → declaring names o ≡ Ok (done, d) → (n : ℕ) × (o ≡ Ok (n, d.vocabulary))
+pub declaring_ok : (names : List Text) (o : Outcome SortRule Vocabulary ℕ) (done : Unit {0}) (d : Declared) → declaring names o ≡ Ok (done, d) → (n : ℕ) × (o ≡ Ok (n, d.vocabulary))
 declaring_ok names (Err x) done d e = absurd (cc)
 declaring_ok names (Ok p) done d e = at_ok {E = SortRule} (λ (k : Unit {0}) (u : Declared). (n : ℕ) × (◌≡◌ {A = Outcome SortRule Vocabulary ℕ} (Ok p) (Ok (n, u.vocabulary)))) tt done (record { vocabulary = p.1; names = names }) d e (p.0, refl)
 
@@ -357,7 +357,7 @@ type_lines_grow (i ∷ items) d e done k =
 
 -- ---- the whole text
 
-only_ok : (o : Outcome SortFault Reading (List Line)) (lines : List Line) (w : Vocabulary) → only_vocabulary o ≡ Ok (lines, w) → (t : Reading) × (o ≡ Ok (lines, t)) × (t.vocabulary ≡ w)
+pub only_ok : (o : Outcome SortFault Reading (List Line)) (lines : List Line) (w : Vocabulary) → only_vocabulary o ≡ Ok (lines, w) → (t : Reading) × (o ≡ Ok (lines, t)) × (t.vocabulary ≡ w)
 only_ok (Err x) lines w e = absurd (cc)
 only_ok (Ok p) lines w e = at_ok {E = SortFault} (λ ls u. (t : Reading) × (◌≡◌ {A = Outcome SortFault Reading (List Line)} (Ok p) (Ok (ls, t))) × (t.vocabulary ≡ u)) p.0 lines p.1.vocabulary w e (p.1, refl, refl)
 

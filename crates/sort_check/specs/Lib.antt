@@ -1,6 +1,7 @@
 pub mod Outcomes
 pub mod Symbols
 pub mod Reach
+pub mod Bringing
 pub mod Denotation
 pub mod Equations
 pub mod VariableEquations

@@ -1,8 +1,12 @@
 //! Laws of the definitions. Their bodies are empty: what they say is in their contracts.
-ghost use Rattle.std.specs.Prelude.{List};
+ghost use Rattle.std.specs.Prelude.{◌≡◌, Ok, List};
 ghost use Rattle.tptp_base.specs.declared.item.Item.{Item};
+ghost use Rattle.tptp_base.specs.Names.{names_of_items};
+ghost use Rattle.tptp_base.specs.Quotable.{AreQuotable};
 ghost use Rattle.fof_terms.specs.Vocabulary.{Vocabulary};
+ghost use Rattle.sort_check.specs.declared.line.Line.{Line};
 ghost use Rattle.sort_check.specs.declared.line.TextKind.{TextKind};
+ghost use Rattle.sort_check.specs.Bringing.{Brings};
 ghost use Rattle.sort_check.specs.Laws.{Answer, IsOne, HaveAnswer};
 ghost use Rattle.sort_check.specs.Texts.{denoted, Gives};
 
@@ -11,4 +15,11 @@ pub fn one_answer()
     ensures some { (items : List Item) (v : Vocabulary) (kind : TextKind) → HaveAnswer items v kind }
     ensures one { (items : List Item) (v : Vocabulary) (kind : TextKind) (answer other : Answer) (new later : Vocabulary) →
         Gives (denoted items v kind) answer new → Gives (denoted items v kind) other later → IsOne answer new other later }
+{}
+
+/// What a text brings to a signature it names: where its names can be written between quotes, those of the further sorts and
+/// symbols can. A further predicate has the result 0.
+pub fn named_by_the_text()
+    ensures { (items : List Item) (v w : Vocabulary) (kind : TextKind) (lines : List Line) →
+        AreQuotable (names_of_items items) → denoted items v kind ≡ Ok (lines, w) → Brings v w }
 {}

@@ -21,7 +21,7 @@ mod variables;
 pub use denotation::denote;
 pub use fault::{SortFault, SortRule};
 pub use giving::given;
-pub use law::one_answer;
+pub use law::{named_by_the_text, one_answer};
 pub use line::{GivenEntry, Line, TextKind};
 
 #[cfg(test)]

@@ -11,8 +11,8 @@ pub enum SplitJust {
         first: bool,
     },
     /// The line has names for parts of the parent, and these other parents say what the names stand for. The substitution
-    /// has the images of the line's variables, then those of the parts that the definitions name, the last definition
-    /// first, all of which stand for themselves, and then those of the parent's variables.
+    /// has the images of the variables of the parts, those of the last definition first, then of the line's variables, all
+    /// of which stand for themselves, and then of the parent's variables.
     Split {
         parent: u32,
         definitions: List<u32>,

@@ -3,14 +3,23 @@
 #![tactic(auto)]
 
 mod arguments;
+mod arms;
+mod covering;
 mod defining;
 mod definition;
 mod entries;
 mod just;
+mod names;
+mod proving;
 mod renaming;
 mod speaking;
+mod split;
+mod stages;
+mod together;
 mod valuing;
 
 pub use definition::definition_step;
 pub use entries::definition_entries;
 pub use just::SplitJust;
+pub use proving::split_entries;
+pub use split::split_step;

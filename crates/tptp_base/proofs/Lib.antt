@@ -1,3 +1,4 @@
 mod Lines
+pub mod Naming
 pub mod Reading
 pub mod Taken

@@ -14,6 +14,7 @@ pub mod ExactNames
 pub mod ExactAnnotations
 pub mod ExactItems
 pub mod SolidItems
+pub mod SpelledNames
 pub mod ExactFile
 pub mod AmongComments
 pub mod FirstFaults

@@ -95,7 +95,7 @@ of_map (y.map_of_one h k) = then (of_argument_sort h) (of_result_sort k)
 of_map (y.map_of_more h k l) = one refl (then (of_argument_sort h) (then (of_factors k) (one refl (of_result_sort l))))
 of_map (y.map_in_parentheses h) = one refl (ends (of_map h))
 
-of_shape : {d : ℕ} {s : Shape} {ts rest : Tokens} → IsShape d s ts rest → SolidTo ts rest
+pub of_shape : {d : ℕ} {s : Shape} {ts rest : Tokens} → IsShape d s ts rest → SolidTo ts rest
 of_shape (y.sort_of_sorts e) = one refl none
 of_shape (y.sort_of_constant h) = of_result_sort h
 of_shape (y.map h) = of_map h
@@ -108,7 +108,7 @@ of_variable : {typed : Bool} {d : ℕ} {x : BoundVar} {ts rest : Tokens} → IsB
 of_variable f.untyped_variable = one refl none
 of_variable (f.typed_variable e h) = one refl (one refl (of_argument_sort h))
 
-of_variables : {typed : Bool} {d : ℕ} {xs : List BoundVar} {ts rest : Tokens} → Listed (Sign m.Comma) d (IsBoundVariable typed d) xs ts rest → SolidTo ts rest
+pub of_variables : {typed : Bool} {d : ℕ} {xs : List BoundVar} {ts rest : Tokens} → Listed (Sign m.Comma) d (IsBoundVariable typed d) xs ts rest → SolidTo ts rest
 of_variables (last h) = of_variable h
 of_variables (more h k) = then (of_variable h) (of_variables k)
 
@@ -173,7 +173,7 @@ mutual
   of_generals (g.last_general h) = of_general h
   of_generals (g.more_general h k) = then (of_general h) (of_generals k)
 
-of_name : {x : Name} {ts rest : Tokens} → IsName x ts rest → SolidTo ts rest
+pub of_name : {x : Name} {ts rest : Tokens} → IsName x ts rest → SolidTo ts rest
 of_name (i.word_name {w = w} {n = n} e) = one (of_word w n e) none
 of_name (i.integer_name e) = one refl none
 
@@ -187,12 +187,12 @@ of_body (i.fof_body h) = of_formula h
 of_body (i.tff_body e h) = of_formula h
 of_body (i.type_body h) = of_typing h
 
-of_end : {s : Option GTerm} {xs : Option (List GTerm)} {ts rest : Tokens} → IsEnd s xs ts rest → SolidTo ts rest
+pub of_end : {s : Option GTerm} {xs : Option (List GTerm)} {ts rest : Tokens} → IsEnd s xs ts rest → SolidTo ts rest
 of_end i.no_source = one refl (one refl none)
 of_end (i.source h) = one refl (then (of_general h) (one refl none))
 of_end (i.source_and_info h k) = one refl (then (of_general h) (then (of_list k) (one refl none)))
 
-of_selection : {xs : Option (List Name)} {ts rest : Tokens} → IsSelection xs ts rest → SolidTo ts rest
+pub of_selection : {xs : Option (List Name)} {ts rest : Tokens} → IsSelection xs ts rest → SolidTo ts rest
 of_selection i.whole_file = one refl (one refl none)
 of_selection (i.selected h) = one refl (one refl (then (of_names h) (one refl (one refl none))))
 

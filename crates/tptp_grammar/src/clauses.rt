@@ -7,7 +7,7 @@ ghost use Rattle.tptp_grammar.specs.ReadClauses as spec;
 ghost use Rattle.tptp_grammar.specs.Outcomes.{Reads};
 
 use crate::cursor::Cursor;
-use crate::lists::in_front;
+use crate::lists::{in_front, short_list};
 use crate::stop::Stop;
 use crate::terms::{atom, basic};
 use std::alloc::Global;
@@ -67,7 +67,7 @@ fn literal(alloc: Global, tokens: &mut Cursor<'_>, room: usize) -> Result<Surfac
 fn literal_list(alloc: Global, tokens: &mut Cursor<'_>, room: usize) -> Result<List<Surface>, Stop>
     ensures { Reads (separated (is_mark Mark.Bar) (spec.literal room) tokens.old) result tokens.new }
 {
-    let mut found = List::new(alloc);
+    let mut found = short_list(alloc);
     found.push(literal(alloc, tokens, room)?)?;
     'members: while tokens.eat(Mark::Bar) {
         found.push(literal(alloc, tokens, room)?)?;

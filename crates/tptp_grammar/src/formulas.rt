@@ -8,7 +8,7 @@ ghost use Rattle.tptp_grammar.specs.ReadFormulas as spec;
 ghost use Rattle.tptp_grammar.specs.Outcomes.{Reads};
 
 use crate::cursor::Cursor;
-use crate::lists::in_front;
+use crate::lists::{in_front, short_list};
 use crate::sorts::argument_sort;
 use crate::stop::Stop;
 use crate::terms::basic;
@@ -66,7 +66,7 @@ fn variable_list(
 ) -> Result<List<BoundVar>, Stop>
     ensures { Reads (separated (is_mark Mark.Comma) (spec.bound_variable typed) tokens.old) result tokens.new }
 {
-    let mut found = List::new(alloc);
+    let mut found = short_list(alloc);
     found.push(bound_variable(alloc, tokens, typed)?)?;
     'members: while tokens.eat(Mark::Comma) {
         found.push(bound_variable(alloc, tokens, typed)?)?;
@@ -240,7 +240,7 @@ fn units(
 ) -> Result<List<Surface>, Stop>
     ensures { Reads (separated (is_mark mark) (spec.unit typed room) tokens.old) result tokens.new }
 {
-    let mut found = List::new(alloc);
+    let mut found = short_list(alloc);
     found.push(unit(alloc, tokens, typed, room)?)?;
     'members: while tokens.eat(mark) {
         found.push(unit(alloc, tokens, typed, room)?)?;

@@ -9,6 +9,7 @@ ghost use Rattle.tptp_grammar.specs.Outcomes.{Reads};
 use crate::clauses::clause;
 use crate::cursor::Cursor;
 use crate::formulas::formula;
+use crate::lists::short_list;
 use crate::stop::Stop;
 use crate::terms::term;
 use std::alloc::Global;
@@ -169,7 +170,7 @@ fn closed_list(alloc: Global, tokens: &mut Cursor<'_>, room: usize) -> Result<Li
 fn general_list(alloc: Global, tokens: &mut Cursor<'_>, room: usize) -> Result<List<GTerm>, Stop>
     ensures { Reads (separated (is_mark Mark.Comma) (spec.general room) tokens.old) result tokens.new }
 {
-    let mut found = List::new(alloc);
+    let mut found = short_list(alloc);
     found.push(general(alloc, tokens, room)?)?;
     'members: while tokens.eat(Mark::Comma) {
         found.push(general(alloc, tokens, room)?)?;

@@ -10,6 +10,7 @@ use crate::clauses::clause;
 use crate::cursor::Cursor;
 use crate::formulas::formula;
 use crate::general::{bracketed, general};
+use crate::lists::short_list;
 use crate::sorts::typing;
 use crate::stop::Stop;
 use crate::words::{is_integer, lang_of, role_of};
@@ -263,7 +264,7 @@ fn file_name(alloc: Global, tokens: &mut Cursor<'_>) -> Result<Text, Stop>
 fn names(alloc: Global, tokens: &mut Cursor<'_>) -> Result<List<Name>, Stop>
     ensures { Reads (separated (is_mark Mark.Comma) spec.name tokens.old) result tokens.new }
 {
-    let mut found = List::new(alloc);
+    let mut found = short_list(alloc);
     found.push(name(alloc, tokens)?)?;
     'members: while tokens.eat(Mark::Comma) {
         found.push(name(alloc, tokens)?)?;

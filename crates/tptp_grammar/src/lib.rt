@@ -17,7 +17,7 @@ mod terms;
 mod words;
 
 pub use fault::GrammarFault;
-pub use law::one_answer;
+pub use law::{names_are_quotable, one_answer};
 pub use reading::parse;
 
 #[cfg(test)]

@@ -6,7 +6,7 @@ ghost use Rattle.tptp_grammar.specs.ReadTypes as spec;
 ghost use Rattle.tptp_grammar.specs.Outcomes.{Reads};
 
 use crate::cursor::Cursor;
-use crate::lists::{in_front, one_of};
+use crate::lists::{in_front, one_of, short_list};
 use crate::stop::Stop;
 use std::alloc::Global;
 use tptp_base::{List, Shape, SortName, Text, Typing};
@@ -70,7 +70,7 @@ fn map_from(alloc: Global, tokens: &mut Cursor<'_>, sorts: List<SortName>) -> Re
 fn factors(alloc: Global, tokens: &mut Cursor<'_>) -> Result<List<SortName>, Stop>
     ensures { Reads (separated (is_mark Mark.Star) spec.argument_sort tokens.old) result tokens.new }
 {
-    let mut found = List::new(alloc);
+    let mut found = short_list(alloc);
     found.push(argument_sort(alloc, tokens)?)?;
     'members: while tokens.eat(Mark::Star) {
         found.push(argument_sort(alloc, tokens)?)?;

@@ -7,6 +7,7 @@ ghost use Rattle.tptp_grammar.specs.ReadTerms as spec;
 ghost use Rattle.tptp_grammar.specs.Outcomes.{Reads};
 
 use crate::cursor::Cursor;
+use crate::lists::short_list;
 use crate::stop::Stop;
 use std::alloc::Global;
 use tptp_base::{List, STerm, Surface, Text};
@@ -68,7 +69,7 @@ fn arguments(alloc: Global, tokens: &mut Cursor<'_>, room: usize) -> Result<List
 fn terms(alloc: Global, tokens: &mut Cursor<'_>, room: usize) -> Result<List<STerm>, Stop>
     ensures { Reads (separated (spec.is_mark Mark.Comma) (spec.term room) tokens.old) result tokens.new }
 {
-    let mut found = List::new(alloc);
+    let mut found = short_list(alloc);
     found.push(term(alloc, tokens, room)?)?;
     'members: while tokens.eat(Mark::Comma) {
         found.push(term(alloc, tokens, room)?)?;

@@ -2,6 +2,7 @@ pub mod Runs
 pub mod QuoteEnds
 pub mod CommentEnds
 pub mod MarkFronts
+pub mod Nameable
 pub mod NumberFronts
 pub mod Fronts
 pub mod NumberFits

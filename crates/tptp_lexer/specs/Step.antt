@@ -1,7 +1,7 @@
 -- What one step of the lexer does: it passes over a run of blanks, or takes the longest token at its place.
-use Rattle.std.specs.Prelude.{◌≡◌, ◌<◌, ◌≤◌, ℕ, List, ◌++◌, slice_range, Result, Ok, Err}
+use Rattle.std.specs.Prelude.{◌≡◌, ◌<◌, ◌≤◌, ℕ, true, List, ◌++◌, slice_range, slice_index, Result, Ok, Err}
 use Rattle.tptp_base.specs.declared.place.Place.{Place}
-use Rattle.tptp_base.specs.Place.{place_of}
+use Rattle.tptp_base.specs.Place.{place_of, is_line_feed}
 use Rattle.tptp_lexer.specs.declared.fault.LexFault.{LexFault}
 use Rattle.tptp_lexer.specs.declared.fault.LexFault.TheVariants.{Byte, Unfinished, Limit, Memory}
 use Rattle.tptp_lexer.specs.declared.style.Style.{Style}
@@ -16,6 +16,10 @@ Items = List (Token × Place)
 -- the text from one offset up to another
 abbrev pub rest_of : Text → Place → ℕ → Text
 rest_of text place end = slice_range text place.offset end
+
+-- No line feed stands from one offset up to another.
+abbrev pub IsOneLine : Text → ℕ → ℕ → Type 0
+IsOneLine text from to = (offset : ℕ) → from ≤ offset → offset < to → is_line_feed (slice_index text offset) ≡ true → ⊥
 
 -- The step led from one place to the next, and added what was taken.
 pub record Takes (style : Style) (text : Text) (end : ℕ) (place next : Place) (old new : Items) : Type 0 where

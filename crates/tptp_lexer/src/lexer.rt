@@ -5,11 +5,11 @@ ghost use Rattle.tptp_lexer.specs.declared.fault.LexFault.{LexFault};
 ghost use Rattle.tptp_lexer.specs.declared.token.Token.{Token};
 ghost use Rattle.tptp_lexer.specs.declared.token.Tokens.{Tokens};
 ghost use Rattle.tptp_lexer.specs.Answer.{IsWithin, Answers, IsOne, Gives, part};
-ghost use Rattle.tptp_lexer.specs.Step.{Stepped};
+ghost use Rattle.tptp_lexer.specs.Step.{Stepped, IsOneLine};
 ghost use Rattle.tptp_lexer.specs.Tokenized.{Tokenized, bare_items};
 ghost use Rattle.tptp_lexer.specs.Scan as scan;
 
-use crate::advance::place_behind;
+use crate::advance::advance;
 use crate::make::token_of;
 use crate::scan::{Front, Kind, front_of};
 use crate::{LexFault, Style, Token, Tokens};
@@ -42,27 +42,51 @@ pub fn tokens(
     if region.end - region.start > FILE_SIZE {
         return Err(LexFault::Limit(LimitName::FileSize));
     }
-    let mut items = List::new(alloc);
+    let mut items = room_for(alloc, region.end - region.start);
     let mut place = place_at(file, text, region.start);
+    let mut line_end = region.start;
     while place.offset < region.end {
-        place = step(alloc, text, region.end, style, place, &mut items)?;
+        place = step(
+            alloc,
+            text,
+            region.end,
+            style,
+            place,
+            &mut line_end,
+            &mut items,
+        )?;
     }
     Ok(Tokens { items, end: place })
 }
 
-// Passes over the blanks at a place, or takes the token there, and gives the place behind.
+// An empty list. Where memory allows, it has room for a token in every second byte, so that the list of a usual text does not
+// grow. The room that is not used is never touched.
+fn room_for(alloc: Global, bytes: u64) -> List<(Token, Place)>
+    ensures { result ≡ [] }
+{
+    match Vec::with_capacity(alloc, bytes as usize / 2) {
+        Ok(items) => List::from_vec(items),
+        Err(_) => List::new(alloc),
+    }
+}
+
+// Passes over the blanks at a place, or takes the token there, and gives the place behind. No line feed stands between the
+// place and `line_end`.
 fn step(
     alloc: Global,
     text: &[u8],
     end: u64,
     style: Style,
     place: Place,
+    line_end: &mut u64,
     items: &mut List<(Token, Place)>,
 ) -> Result<Place, LexFault>
     requires placed { place ≡ place_of place.file text.now place.offset }
     requires before { place.offset < end }
     requires within { end ≤ length text.now }
-    ensures { Stepped style text.now end place items.old items.new result }
+    requires line { IsOneLine text.now place.offset line_end.old }
+    ensures stepped { Stepped style text.now end place items.old items.new result }
+    ensures line { IfOk result (λ next. IsOneLine text.now next.offset line_end.new) }
 {
     let rest = &text[place.offset as usize..end as usize];
     let len = match front_of(style, rest) {
@@ -74,7 +98,8 @@ fn step(
         Front::Open => return Err(LexFault::Unfinished(place)),
         Front::Nothing => return Err(LexFault::Byte(place)),
     };
-    Ok(place_behind(text, place, place.offset + len as u64))
+    let to = place.offset + len as u64;
+    Ok(advance(text, place, to, end, line_end))
 }
 
 // Adds the token of a kind that is spelled so.

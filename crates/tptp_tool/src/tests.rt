@@ -1,7 +1,9 @@
 mod checking;
+mod naming;
 mod parsing;
 mod rewriting;
 mod rules;
+mod sorted;
 mod verifying;
 
 use super::run::{USAGE, run_tptp};

@@ -1,7 +1,7 @@
-ghost use Rattle.std.specs.Prelude.{◌≡◌, ◌≤◌, ◌^◌, ◌++◌, [], ◌∷◌, length, map, IfOk, true};
+ghost use Rattle.std.specs.Prelude.{◌≡◌, ◌≤◌, ◌^◌, ◌++◌, [], ◌∷◌, length, map, IfOk, IsTrue, None, true};
 ghost use Rattle.std.specs.List.{list_all};
 ghost use Rattle.unify_terms.specs.declared.pending.Pending.{Done};
-ghost use Rattle.unify_terms.specs.Unifiers.{AreSorted};
+ghost use Rattle.unify_terms.specs.Unifiers.{AreSorted, Unified};
 ghost use Rattle.unify_terms.specs.Chosen.{chosen_pairs};
 ghost use Rattle.unify_terms.specs.Goals.{asked, before, goal_sorted, SolvesGoal};
 ghost use Rattle.unify_terms.specs.Pending.{asked_pending, one_before, pending_sorted};
@@ -41,6 +41,7 @@ pub fn solve(
 {
     match meet(
         goal,
+        false,
         &Pending::Done,
         alloc,
         signature,
@@ -72,10 +73,11 @@ fn search(
 {
     match pending {
         Pending::Done => ended(alloc, signature, scope, chosen),
-        Pending::One(goal, rest) => meet(goal, &*rest, alloc, signature, scope, chosen),
+        Pending::One(goal, rest) => meet(goal, false, &*rest, alloc, signature, scope, chosen),
         Pending::Each(goals, at, rest) => match goals.get(*at) {
             Some(goal) => meet(
                 goal,
+                false,
                 &Pending::Each(goals, *at + 1, &*rest),
                 alloc,
                 signature,
@@ -107,10 +109,12 @@ fn ended(
     }
 }
 
-// The same with the goal before what is pending.
+// The same with the goal before what is pending. Where the goal was chosen and another one may be met in its place, a
+// failure is found before the rest is met; where there is no choice it shows at the next one, or in the end.
 #[cycle(search)]
 fn meet(
     goal: &Goal,
+    is_choice: bool,
     rest: &Pending<'_>,
     alloc: Global,
     signature: &Signature,
@@ -131,13 +135,30 @@ fn meet(
         Goal::Any(goals) => first_of(goals.as_slice(), &*rest, alloc, signature, scope, chosen),
         Goal::Same(pairs) => {
             let more = Chosen::Then(&*chosen, pairs.as_slice());
-            let hopeless = is_hopeless(alloc, signature, scope, &more)?;
+            let hopeless = fails_early(is_choice, alloc, signature, scope, &more)?;
             if hopeless {
                 return Ok(None);
             }
             search(&*rest, alloc, signature, scope, &more)
         }
     }
+}
+
+// Whether the pairs that were chosen have no unifier. This is looked for only where the last ones were a choice.
+fn fails_early(
+    is_choice: bool,
+    alloc: Global,
+    signature: &Signature,
+    scope: &Scope,
+    chosen: &Chosen<'_>,
+) -> Result<bool, Memory>
+    requires sorted { AreSorted signature.now scope.now.sorts (chosen_pairs chosen.now) }
+    ensures { IfOk result (λ answer. IsTrue answer → Unified signature.now scope.now.sorts scope.now.rigid (chosen_pairs chosen.now) None) }
+{
+    if !is_choice {
+        return Ok(false);
+    }
+    is_hopeless(alloc, signature, scope, chosen)
 }
 
 // The same with one of the goals before what is pending.
@@ -156,8 +177,11 @@ fn first_of(
     requires rest { pending_sorted signature.now scope.now.sorts rest.now ≡ true }
     ensures { IfOk result (λ answer. Searched signature.now scope.now (chosen_pairs chosen.now) (one_before (map asked goals.now) (asked_pending rest.now)) answer) }
 {
+    let is_choice = goals.len() > 1;
     for at in 0..goals.len() {
-        let found = meet(&goals[at], &*rest, alloc, signature, scope, chosen)?;
+        let found = meet(
+            &goals[at], is_choice, &*rest, alloc, signature, scope, chosen,
+        )?;
         match found {
             Some(found) => return Ok(Some(with_choice(found, at)?)),
             None => {}

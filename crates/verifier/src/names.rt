@@ -20,6 +20,7 @@ pub fn rule_name(rule: Rule) -> &'static [u8]
         Rule::Paramodulation => b"paramodulation",
         Rule::EqFactor => b"eqfactor",
         Rule::Rewrite => b"rewrite",
+        Rule::Split => b"split",
         Rule::Definition => b"definition",
         Rule::Choice => b"choice",
     }

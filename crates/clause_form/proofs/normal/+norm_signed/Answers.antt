@@ -10,11 +10,11 @@ use Rattle.clause_form.proofs.normal.+norm_signed.Goals as goal
 pub norm_signed-norm_signed-requires : goal.norm_signed-norm_signed-requires
 norm_signed-norm_signed-requires t c = (search (rules, the_lemmas), grind (arith, binder_depth_equations))
 
-pub norm_signed-norm_members-requires : goal.norm_signed-norm_members-requires
-norm_signed-norm_members-requires t c = (search (rules, the_lemmas), grind (arith, binder_depth_equations))
+pub norm_signed-norm_joined-requires : goal.norm_signed-norm_joined-requires
+norm_signed-norm_joined-requires t c = (search (rules, the_lemmas), grind (arith, binder_depth_equations))
 
-pub norm_signed-norm_members-requires-in-Or : goal.norm_signed-norm_members-requires-in-Or
-norm_signed-norm_members-requires-in-Or t c = (search (rules, the_lemmas), grind (arith, binder_depth_equations))
+pub norm_signed-norm_joined-requires-in-Or : goal.norm_signed-norm_joined-requires-in-Or
+norm_signed-norm_joined-requires-in-Or t c = (search (rules, the_lemmas), grind (arith, binder_depth_equations))
 
 pub norm_signed-norm_signed-requires-in-Imp : goal.norm_signed-norm_signed-requires-in-Imp
 norm_signed-norm_signed-requires-in-Imp t c = (search (rules, the_lemmas), grind (arith, binder_depth_equations))
@@ -40,20 +40,20 @@ norm_signed-norm_signed-requires-in-All t c = (search (rules, the_lemmas), grind
 pub norm_signed-norm_signed-requires-in-Ex : goal.norm_signed-norm_signed-requires-in-Ex
 norm_signed-norm_signed-requires-in-Ex t c = (search (rules, the_lemmas), grind (arith, binder_depth_equations))
 
-pub norm_members-norm_signed-requires : goal.norm_members-norm_signed-requires
-norm_members-norm_signed-requires t c =
+pub norm_joined-norm_signed-requires : goal.norm_joined-norm_signed-requires
+norm_joined-norm_signed-requires t c =
     let below = below_greatest binder_depth (2 ^ 32) c.args.forms.now c.requires in
     (search (rules, the_lemmas), search (rules, below))
 
 pub norm_signed-quantified-requires : goal.norm_signed-quantified-requires
 norm_signed-quantified-requires t c =
     let le = norm_depth c.get-in-All.result.now c.args.positive in
-    rw c.in_ok-norm_signed-in-All.ensures (grind (arith, binder_depth_equations, le))
+    rw c.in_ok-norm-in-All.ensures (grind (arith, binder_depth_equations, le))
 
 pub norm_signed-quantified-requires-in-Ex : goal.norm_signed-quantified-requires-in-Ex
 norm_signed-quantified-requires-in-Ex t c =
     let le = norm_depth c.get-in-Ex.result.now c.args.positive in
-    rw c.in_ok-norm_signed-in-Ex.ensures (grind (arith, binder_depth_equations, le))
+    rw c.in_ok-norm-in-Ex.ensures (grind (arith, binder_depth_equations, le))
 
 pub norm_signed-returns-in_ok-second-in-Imp : goal.norm_signed-returns-in_ok-second-in-Imp
 norm_signed-returns-in_ok-second-in-Imp t c =

@@ -1,6 +1,6 @@
-use Rattle.std.proofs.Common.{◌≤◌, List, length, reverse, refl, ap, ◌∙◌, arith, rules, Result}
+use Rattle.std.proofs.Common.{◌≤◌, List, [], ◌∷◌, length, length-append, reverse, refl, ap, ◌∙◌, arith, rules, Result}
 use Rattle.std.specs.Prelude.{string_bytes}
-use Rattle.std.proofs.lemmas.List.{reverse-reverse}
+use Rattle.std.proofs.lemmas.List.{length-reverse, reverse-reverse}
 use Rattle.std.specs.Option.{option_copied}
 use Rattle.tptp_base.specs.declared.item.Item.{Item}
 use Rattle.tptp_base.specs.declared.item.Item.TheVariants.{Comment, Formula}
@@ -10,6 +10,7 @@ use Rattle.include_resolve.specs.Path.{path_names, path_names-Inside}
 use Rattle.include_resolve.specs.Resolved.{Opens, Replaces, comment, formula}
 use Rattle.include_resolve.specs.Steps.{list_of, walk_of, Gives}
 use Rattle.include_resolve.proofs.Causing.{err_case, causes_of_selection}
+use Rattle.include_resolve.proofs.FewFiles.{added_few, text_few}
 use Rattle.include_resolve.proofs.Steps.{include_given, nowhere, refuses, text_fault, file_given, file_fails, progress_start, progress_on, progress_stops, progress_ends, item_added, room_inside}
 use Rattle.include_resolve.proofs.resolving.+open.Goals as goal
 
@@ -56,7 +57,8 @@ open_found-returns-in_err-items-clause-gives g t c =
 
 pub open_found-replace-requires : goal.open_found-replace-requires
 open_found-replace-requires g t c κs within =
-    (omega (arith, c.in_ok-check_path.ensures.room), (search rules, first_of (search (rules, room_inside), grind (arith, room_inside))))
+    let few = text_few c.args.opened.now c.take_text.new.opened _ c.args.found.read c.in_ok-items.items c.in_ok-items.ensures.taken c.requires.few_files in
+    (omega (arith, c.in_ok-check_path.ensures.room), (search rules, first_of (search (rules, room_inside, few), grind (arith, room_inside, few))))
 
 pub open_found-returns-in_err-items-2-clause-gives : goal.open_found-returns-in_err-items-2-clause-gives
 open_found-returns-in_err-items-2-clause-gives g t c =
@@ -100,6 +102,7 @@ replace-items-init g t c =
     record {
       progress = rw c.new-kept.ensures (progress_start told root path c.args.from.now c.args.items c.args.opened.now c.in_ok-left.left (ap reverse c.in_ok-left.ensures ∙ reverse-reverse c.args.items));
       budget = omega arith;
+      few_files = let count = ap length c.in_ok-left.ensures in omega (arith, count, length-reverse c.args.items);
       same_files = refl;
       more_absents = omega arith;
       more_faults = omega arith;
@@ -114,6 +117,10 @@ replace-items-preserved g t c =
       progress = progress_on told root path c.args.from.now c.args.items c.args.opened.now c.items.opened c.items.left c.pop.new.self c.items.kept c.in-Some.item c.items.invariant.progress c.in-Some.ensures c.take.new.opened c.take.new.kept
           (rw c.items.invariant.same_files at c.in_ok-take.ensures.adds);
       budget = c.in_ok-take.ensures.read;
+      few_files =
+          let added = added_few told root (walk_of path c.items.opened) c.args.from.now c.in-Some.item c.items.opened c.take.new.opened c.items.kept c.take.new.kept (rw c.items.invariant.same_files at c.in_ok-take.ensures.adds) in
+          let count = ap length c.in-Some.ensures in
+          omega (arith, added, count, length-append c.pop.new.self (c.in-Some.item ∷ []), c.items.invariant.few_files);
       same_files = c.in_ok-take.ensures.same_files ∙ c.items.invariant.same_files;
       more_absents = omega (arith, c.items.invariant.more_absents, c.in_ok-take.ensures.more_absents);
       more_faults = omega (arith, c.items.invariant.more_faults, c.in_ok-take.ensures.more_faults);

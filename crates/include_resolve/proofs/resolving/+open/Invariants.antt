@@ -24,6 +24,7 @@ abbrev pub invariant-replace-items : goal.invariant-replace-items
 invariant-replace-items g l = record {
   progress : Progress (g.S.Store.files l.initial.store) (option_copied l.level.root) (path_names l.level.path.now) l.from l.fn.items l.initial.opened l.opened l.left l.kept;
   budget : l.opened.read ≤ TOTAL_SIZE;
+  few_files : length l.opened.names + length l.left + l.initial.opened.read ≤ length l.initial.opened.names + length l.fn.items + l.opened.read;
   same_files : g.S.Store.files l.store ≡ g.S.Store.files l.initial.store;
   more_absents : g.S.Store.absents l.initial.store ≤ g.S.Store.absents l.store;
   more_faults : g.S.Store.faults l.initial.store ≤ g.S.Store.faults l.store;

@@ -6,6 +6,7 @@ use Rattle.include_resolve.specs.Path.{path_names-Outside}
 use Rattle.include_resolve.specs.Resolved.{Answers}
 use Rattle.include_resolve.proofs.Causing.{err_case}
 use Rattle.include_resolve.proofs.Counts.{problem_few}
+use Rattle.include_resolve.proofs.FewFiles.{problem_few_files}
 use Rattle.include_resolve.proofs.Steps.{answers_of, fault_answers}
 use Rattle.include_resolve.proofs.resolving.resolve.Goals as goal
 
@@ -33,3 +34,10 @@ returns-clause-few g c =
     let root = option_copied c.args.root in
     let given = rw (path_names-Outside, c.in_ok-first.ensures.ok, c.as_bytes.ensures.value) at c.in_ok-items.ensures.gives in
     problem_few told root c.args.name.now _ (answers_of told root c.args.name.now (record { names = c.new-none.result; read = 0 }) c.open.new.opened c.in_ok-items.items c.new-none.ensures refl given)
+
+pub returns-clause-few_files : goal.returns-clause-few_files
+returns-clause-few_files g c =
+    let told = g.S.Store.files c.args.store.now in
+    let root = option_copied c.args.root in
+    let given = rw (path_names-Outside, c.in_ok-first.ensures.ok, c.as_bytes.ensures.value) at c.in_ok-items.ensures.gives in
+    problem_few_files told root c.args.name.now _ (answers_of told root c.args.name.now (record { names = c.new-none.result; read = 0 }) c.open.new.opened c.in_ok-items.items c.new-none.ensures refl given)

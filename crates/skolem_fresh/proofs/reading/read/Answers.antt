@@ -1,5 +1,8 @@
-use Rattle.skolem_fresh.proofs.LoopsRead.{no_leaf_left}
+use Rattle.std.proofs.Common.{ap, ◌∙◌}
+use Rattle.skolem_fresh.specs.Reading.{read}
+use Rattle.skolem_fresh.proofs.Opened.{on_ok}
+use Rattle.skolem_fresh.proofs.Paired.{outward_none}
 use Rattle.skolem_fresh.proofs.reading.read.Goals as goal
 
-pub returns-then-i-others : goal.returns-then-i-others
-returns-then-i-others c = no_leaf_left c.args.sort c.loop-i.i c.args.leaves.now c.args.others.now c.if-i-others.true c.loop-i.invariant
+pub returns : goal.returns
+returns c = on_ok c.read_from.result (λ found h. h ∙ ap (read c.args.sort c.args.leaves.now) (outward_none c.args.others.now)) c.read_from.ensures

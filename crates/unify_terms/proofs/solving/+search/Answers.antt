@@ -106,8 +106,8 @@ first_of-returns t c =
     let all : NoneOf c.args.signature.now c.args.scope.now (chosen_pairs c.args.chosen.now) c.args.goals.now (asked_pending c.args.rest.now) (length c.args.goals.now) = λ k g h. c.loop-at.invariant k g (omega arith) in
     searched_nowhere c.args.signature.now c.args.scope.now (chosen_pairs c.args.chosen.now) c.args.goals.now (asked_pending c.args.rest.now) all
 
-pub meet-is_hopeless-requires : goal.meet-is_hopeless-requires
-meet-is_hopeless-requires t c =
+pub meet-fails_early-requires : goal.meet-fails_early-requires
+meet-fails_early-requires t c =
     let sorted = sym (ap (goal_sorted c.args.signature.now c.args.scope.now.sorts) c.in-Same.is ∙ goal_sorted-Same c.args.signature.now c.args.scope.now.sorts c.in-Same.pairs) ∙ c.requires.goal in
     let more_is = chosen_pairs-Then _ c.as_slice-in-Same.result ∙ ap (λ ps. chosen_pairs c.args.chosen.now ++ ps) c.as_slice-in-Same.ensures in
     record { sorted = subst (AreSorted c.args.signature.now c.args.scope.now.sorts) (sym more_is) (sorted_both c.args.signature.now c.args.scope.now.sorts (chosen_pairs c.args.chosen.now) c.in-Same.pairs c.requires.sorted sorted) }

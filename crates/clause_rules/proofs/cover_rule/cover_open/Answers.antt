@@ -1,0 +1,7 @@
+use Rattle.std.proofs.Common.{subst}
+use Rattle.clause_rules.specs.Screens.{NeverReached}
+use Rattle.clause_rules.proofs.Unreached.{not_reached}
+use Rattle.clause_rules.proofs.cover_rule.cover_open.Goals as goal
+
+pub returns-then-not-is_open : goal.returns-then-not-is_open
+returns-then-not-is_open c = not_reached c.args.sig.now c.args.norm.now c.args.line.now (subst (λ ls. NeverReached ls c.args.norm.now) c.as_slice.ensures (c.in_ok-is_open.ensures c.if-not-is_open.true))

@@ -1,6 +1,0 @@
-use Rattle.derive_kit.specs.Built.{ok_map}
-use Rattle.elaborate.proofs.Instances.{premise_of}
-use Rattle.elaborate.proofs.premises.instance_by.Goals as goal
-
-pub returns : goal.returns
-returns c = ok_map c.instance_of_part.result (λ made by. premise_of c.args.number c.in_ok-line.field-0 c.args.opened.now c.args.subst made c.in_ok-line.ensures by) c.instance_of_part.ensures

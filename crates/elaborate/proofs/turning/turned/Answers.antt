@@ -1,6 +1,0 @@
-use Rattle.fof_terms.specs.Scope.{scope_sorts}
-use Rattle.elaborate.proofs.TurnedSides.{side_reach}
-use Rattle.elaborate.proofs.turning.turned.Goals as goal
-
-pub lift_term-requires : goal.lift_term-requires
-lift_term-requires c = side_reach c.args.signature.now (scope_sorts c.args.scope.now) c.args.left.now c.args.right.now c.requires

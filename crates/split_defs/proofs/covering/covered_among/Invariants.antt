@@ -1,0 +1,6 @@
+use Rattle.std.proofs.Common.{ℕ, ◌<◌}
+use Rattle.split_defs.specs.SplitSearch.{NoCoverAt, forms_of}
+use Rattle.split_defs.proofs.covering.covered_among.Given as goal
+
+abbrev pub invariant-loop-n : goal.invariant-loop-n
+invariant-loop-n l = (a : ℕ) → a < l.n → NoCoverAt l.sig (forms_of l.parents) l.whole a

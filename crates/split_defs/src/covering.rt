@@ -1,0 +1,65 @@
+//! A parent that the line covers together with what its names stand for.
+ghost use Rattle.std.specs.Prelude.{◌≡◌, IfOk, Some};
+ghost use Rattle.clause_rules.specs.Settled.{IsFit};
+ghost use Rattle.clause_rules.specs.Steps.{AreReady, IsReady};
+ghost use Rattle.split_defs.specs.SplitSearch.{IsCoveredAmong, IsCovering, forms_of};
+
+use crate::names::number;
+use clause_form::{Clause, Parent, as_clause};
+use clause_rules::cover_clause;
+use fof_terms::{Form, Signature};
+use std::alloc::Global;
+use tptp_base::Memory;
+use unify_terms::Subst;
+
+/// A parent, by its number, and the substitution that covers it.
+#[derive(Drop)]
+pub struct Covered {
+    pub parent: u32,
+    pub subst: Subst,
+}
+
+/// A parent that is a clause, and a substitution that covers it; None exactly where there is none.
+pub fn covered_among(
+    alloc: Global,
+    sig: &Signature,
+    parents: &[Parent],
+    whole: &Clause,
+) -> Result<Option<Covered>, Memory>
+    requires parents { AreReady sig.now parents.now }
+    requires whole { IsFit sig.now whole.now }
+    ensures { IfOk result (IsCoveredAmong sig.now (forms_of parents.now) whole.now) }
+{
+    for n in 0..parents.len() {
+        let found = covering_of(alloc, sig, &parents[n].form, whole)?;
+        if let Some(subst) = found {
+            return covered_at(n, subst);
+        }
+    }
+    Ok(None)
+}
+
+// The parent of that number, with its substitution.
+fn covered_at(n: usize, subst: Subst) -> Result<Option<Covered>, Memory>
+    ensures { IfOk result (λ found. found ≡ Some (record { parent = n; subst = subst })) }
+{
+    let parent = number(n)?;
+    Ok(Some(Covered { parent, subst }))
+}
+
+// A substitution that covers the clause that the formula is.
+fn covering_of(
+    alloc: Global,
+    sig: &Signature,
+    form: &Form,
+    whole: &Clause,
+) -> Result<Option<Subst>, Memory>
+    requires form { IsReady sig.now form.now }
+    requires whole { IsFit sig.now whole.now }
+    ensures { IfOk result (IsCovering sig.now whole.now form.now) }
+{
+    match as_clause(alloc, form)? {
+        Some(clause) => cover_clause(alloc, sig, &clause, whole),
+        None => Ok(None),
+    }
+}

@@ -1,0 +1,2 @@
+cnf(a,axiom,p).
+cnf(b,axiom,~ p).
