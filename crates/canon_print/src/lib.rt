@@ -13,6 +13,3 @@ mod write;
 pub use law::{one_reading, one_text, read_again, read_only, reads_back};
 pub use printed::{print, print_formula, print_general, print_name};
 pub use write::write_name;
-
-#[cfg(test)]
-mod tests;

@@ -32,6 +32,3 @@ pub use sameness::{are_complementary, denies, is_trivial, same_atoms};
 pub use sizes::{clause_count, norm_size};
 pub use stripping::strip;
 pub use view::{as_clause, as_lit};
-
-#[cfg(test)]
-mod tests;

@@ -49,6 +49,3 @@ pub use replacing::replace_in_lits;
 pub use resolution_rule::resolution_step;
 pub use rewrite_rule::rewrite_step;
 pub use tautology_rule::tautology_step;
-
-#[cfg(test)]
-mod tests;

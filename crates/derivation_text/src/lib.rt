@@ -13,6 +13,3 @@ pub use derivation::Derivation;
 pub use fault::DerivationFault;
 pub use law::brought_by_the_derivation;
 pub use reading::read_derivation;
-
-#[cfg(test)]
-mod tests;

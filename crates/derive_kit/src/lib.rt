@@ -21,6 +21,3 @@ pub use nodes::{
 };
 pub use norms::{norm_back, norm_forth};
 pub use paths::path_proof;
-
-#[cfg(test)]
-mod tests;

@@ -27,6 +27,3 @@ pub use sorting::{
 pub use symbols::{symbols_of, symbols_of_all, symbols_of_term, symbols_of_terms};
 pub use term::{SymId, Term, copy_terms, weight};
 pub use variables::{has_in_one, has_in_term, has_in_terms, has_variable};
-
-#[cfg(test)]
-mod tests;

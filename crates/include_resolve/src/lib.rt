@@ -18,6 +18,3 @@ pub use fault::{IncludeFault, TextFault};
 pub use law::{all_includes_are_replaced, one_answer};
 pub use problem::{MAX_DEPTH, Problem, TOTAL_SIZE};
 pub use resolving::resolve;
-
-#[cfg(test)]
-mod tests;

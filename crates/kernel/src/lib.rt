@@ -17,6 +17,3 @@ pub use deduction::conclude;
 pub use entry::{AdmitFault, Decl, Entry};
 pub use proof::Proof;
 pub use theory::Theory;
-
-#[cfg(test)]
-mod tests;

@@ -23,6 +23,3 @@ pub use checking::{CheckFault, check_entries};
 pub use laws::{a_log_begins_a_log, entries_make_one_theory, one_text_is_of_one_log};
 pub use reader::{LogFault, MAX_NESTING, read_log};
 pub use write::{HEADER, write_entry, write_header};
-
-#[cfg(test)]
-mod tests;

@@ -23,6 +23,3 @@ pub use fault::{SortFault, SortRule};
 pub use giving::given;
 pub use law::{named_by_the_text, one_answer};
 pub use line::{GivenEntry, Line, TextKind};
-
-#[cfg(test)]
-mod tests;

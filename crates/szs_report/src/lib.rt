@@ -10,6 +10,3 @@ mod write;
 pub use answer::{LineAnswer, Verdict};
 pub use output::{claim, region};
 pub use write::{write_end, write_line};
-
-#[cfg(test)]
-mod tests;

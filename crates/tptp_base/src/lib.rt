@@ -42,6 +42,3 @@ pub use surface::{BinOp, BoundVar, Quant, STerm, SortName, Surface};
 
 /// A list of bytes.
 pub type Text = List<u8>;
-
-#[cfg(test)]
-mod tests;

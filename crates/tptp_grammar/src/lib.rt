@@ -19,6 +19,3 @@ mod words;
 pub use fault::GrammarFault;
 pub use law::{names_are_quotable, one_answer};
 pub use reading::parse;
-
-#[cfg(test)]
-mod tests;

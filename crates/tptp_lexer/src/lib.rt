@@ -19,6 +19,3 @@ pub use law::{one_answer, one_token_list};
 pub use lexer::tokens;
 pub use style::Style;
 pub use token::{Mark, Token, Tokens};
-
-#[cfg(test)]
-mod tests;

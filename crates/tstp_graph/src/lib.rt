@@ -20,6 +20,3 @@ mod word;
 pub use fault::GraphFault;
 pub use shape::{Graph, Node, Ref};
 pub use whole::graph;
-
-#[cfg(test)]
-mod tests;

@@ -24,6 +24,3 @@ pub use solving::{Solution, solve};
 pub use sorting::{are_sorted, is_sorted_goal};
 pub use substitution::{Subst, apply};
 pub use unification::unify;
-
-#[cfg(test)]
-mod tests;

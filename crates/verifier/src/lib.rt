@@ -25,6 +25,3 @@ pub use fault::RunFault;
 pub use laws::{a_good_derivation_is_accepted, a_run_speaks_of_its_lines, a_verified_run_refutes};
 pub use names::{answer_of, reason_name, rule_name};
 pub use run::run_lines;
-
-#[cfg(test)]
-mod tests;

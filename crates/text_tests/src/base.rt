@@ -1,7 +1,10 @@
-use super::*;
 use std::alloc::{AllocError, Global};
 use std::fs;
 use std::test::Fail;
+use tptp_base::{
+    LimitName, List, MemorySink, MemoryStore, Name, ReadFault, RealSink, RealStore, SinkFault,
+    SteadyStore, Text, place_at, put_all, read_whole,
+};
 
 fn text(alloc: Global, bytes: &[u8]) -> Result<Text, AllocError> {
     Text::from_slice(alloc, bytes)

@@ -2,8 +2,11 @@ ghost use Rattle.std.specs.Prelude.{◌≡◌, ◌≤◌, true};
 ghost use Rattle.clause_form.specs.Sizes.{norm_size_of};
 ghost use Rattle.derive_kit.specs.Placed.{SortedSomewhere};
 
-use super::*;
 use clause_form::{Path, clause_of_path, norm_size};
+use derive_kit::{
+    Part, and_e, cases, cut_under, hyp, imp_e, imp_i, instance_of, norm_back, norm_forth, or_i,
+    path_proof, rewrite_in,
+};
 use fof_terms::{Form, Kind, Signature, SortId, Symbol, Term, equal, well_sorted};
 use kernel::{Entry, Theory};
 use std::alloc::Global;
@@ -54,14 +57,16 @@ fn declare(
 }
 
 // The formula of a text in which the parts stand before what they are parts of: p and q, r of the constants c and d or
-// of a variable by its number, `e` the equation of c and d, & and | with two members, > an implication, ! a quantifier.
+// of a variable by its number, `e` the equation of c and d, ~ a negation, & and | with two members, > an implication, = an
+// equivalence, ! and ? a quantifier.
 fn form(alloc: Global, text: &str) -> Result<Boxed<Form>, Memory> {
     let mut stack = List::new(alloc);
     for byte in text.as_bytes() {
         let next = match *byte {
             b'p' => atom(alloc, 0)?,
             b'q' => atom(alloc, 1)?,
-            b'&' | b'|' | b'>' => connected(alloc, *byte, &mut stack)?,
+            b'&' | b'|' | b'>' | b'=' => connected(alloc, *byte, &mut stack)?,
+            b'~' => Boxed::new(alloc, Form::Not(stack.pop().ok_or(Memory)?))?,
             b'!' => Boxed::new(alloc, Form::All(0, stack.pop().ok_or(Memory)?))?,
             b'?' => Boxed::new(alloc, Form::Ex(0, stack.pop().ok_or(Memory)?))?,
             b'e' => Boxed::new(alloc, Form::Eq(term(alloc, b'c'), term(alloc, b'd')))?,
@@ -99,6 +104,9 @@ fn connected(
     let left = stack.pop().ok_or(Memory)?;
     if sign == b'>' {
         return Ok(Boxed::new(alloc, Form::Imp(left, right))?);
+    }
+    if sign == b'=' {
+        return Ok(Boxed::new(alloc, Form::Iff(left, right))?);
     }
     let mut members = List::new(alloc);
     members.push(left.into_inner())?;
@@ -276,6 +284,39 @@ fn clauses_of_paths(rt: HostRuntime) -> Result<(), Fail> {
         ("0?p|", "LULE", "0?p|0p|!>", false),
     ] {
         assert!(rt; leads(alloc, text, premise, way)? == want, "{text}");
+    }
+    Ok(())
+}
+
+// The formula's normal form by the formula, or that by its normal form, where it is well-sorted.
+fn turned(alloc: Global, text: &str, is_forth: bool) -> Result<Option<Part>, Fail> {
+    let whole = form(alloc, text)?;
+    if !is_sorted(&signature(alloc)?, whole.get()) {
+        return Ok(None);
+    }
+    let made = if is_forth {
+        norm_forth(alloc, whole.get())?
+    } else {
+        norm_back(alloc, whole.get())?
+    };
+    Ok(Some(imp_e(alloc, made, hyp(alloc, 0)?)?))
+}
+
+#[test]
+fn normal_forms_and_back(rt: HostRuntime) -> Result<(), Fail> {
+    let alloc = rt.alloc();
+    for (text, premise, whole, is_forth) in [
+        ("pq>", "pq>", "pq>p~q|>", true),
+        ("pq>", "p~q|", "p~q|pq>>", false),
+        ("pq=~", "pq=~", "pq=~pq~&p~q&|>", true),
+        ("pq=~", "pq~&p~q&|", "pq~&p~q&|pq=~>", false),
+        ("0!~", "0!~", "0!~0~?>", true),
+        ("0!~", "0~?", "0~?0!~>", false),
+        ("p?", "p?", "p?p>", true),
+        ("p?", "p", "pp?>", false),
+    ] {
+        let made = turned(alloc, text, is_forth)?.ok_or(Memory)?;
+        assert!(rt; shows(alloc, whole, premise, made)?, "{whole}");
     }
     Ok(())
 }

@@ -1,5 +1,8 @@
-use super::*;
 use clause_form::Parent;
+use clause_rules::{
+    Just, are_ready, cover_step, eqfactor_step, is_ready, norm_step, paramodulation_step,
+    recognise, resolution_step, rewrite_step, tautology_step,
+};
 use fof_terms::{Form, Kind, Signature, SymId, Symbol, Term};
 use std::alloc::Global;
 use std::test::Fail;

@@ -1,6 +1,6 @@
-use super::*;
 use fof_terms::{Form, Kind, Signature, Symbol};
 use kernel::{Decl, Entry, Proof, Theory};
+use proof_log::{CheckFault, HEADER, LogFault, check_entries, read_log, write_entry, write_header};
 use std::alloc::{AllocError, Global};
 use std::test::Fail;
 use tptp_base::{List, MemorySink, SinkFault, SteadySink, Text};

@@ -1,8 +1,8 @@
 ghost use Rattle.std.specs.Prelude.{◌≡◌};
 
-use super::*;
 use std::alloc::Global;
 use std::test::Fail;
+use szs_report::{LineAnswer, Verdict, claim, region, write_end, write_line};
 use tptp_base::{List, MemorySink, Name, Region, SinkFault, SteadySink, Text};
 
 const PROVER: &[u8] =

@@ -1,4 +1,6 @@
-use super::*;
+use clause_form::{
+    FormFault, as_clause, clause_count, close, is_trivial, node, norm, norm_size, strip,
+};
 use fof_terms::{Form, Term, equal};
 use std::alloc::Global;
 use std::test::Fail;

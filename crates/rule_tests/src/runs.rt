@@ -3,7 +3,6 @@ ghost use Rattle.std.specs.List.{All as Each};
 ghost use Rattle.clause_rules.specs.Steps.{IsReady};
 ghost use Rattle.tstp_graph.specs.Graphs.{IsOrdered};
 
-use super::*;
 use clause_rules::is_ready;
 use elaborate::{Reason, Rule};
 use fof_terms::{Form, Kind, Signature, Symbol, Term};
@@ -13,6 +12,7 @@ use std::test::Fail;
 use szs_report::Verdict;
 use tptp_base::{List, Memory, SteadySink, Text};
 use tstp_graph::{Graph, Node, Ref};
+use verifier::{Claim, LineAnswer, is_justified, run_lines, verdict};
 
 // The predicates p, which has number 0, and q.
 fn signature(alloc: Global) -> Result<Signature, Fail> {

@@ -1,7 +1,7 @@
-use super::*;
 use std::alloc::{AllocError, Global};
 use std::test::Fail;
 use tptp_base::{Place, Region, Text};
+use tptp_lexer::{LexFault, Mark, Style, Token, tokens};
 
 // A token as a letter for its kind and its text in brackets, or as the name of its mark.
 fn push_token(out: &mut String, token: &Token) -> Result<(), AllocError> {

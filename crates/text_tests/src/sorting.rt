@@ -1,5 +1,5 @@
-use super::*;
 use fof_terms::{Form, Signature, Term};
+use sort_check::{TextKind, denote};
 use std::alloc::{AllocError, Global};
 use std::test::Fail;
 use tptp_base::{

@@ -1,4 +1,4 @@
-use super::{DerivationFault, read_derivation};
+use derivation_text::{DerivationFault, read_derivation};
 use fof_terms::Signature;
 use std::test::Fail;
 use tptp_base::{List, Name, Text};

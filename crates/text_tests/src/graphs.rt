@@ -1,9 +1,9 @@
-use super::*;
 use std::alloc::Global;
 use std::test::Fail;
 use tptp_base::{
     Annotated, Body, Boxed, GTerm, Include, Item, Lang, List, Name, Place, Role, Surface, Text,
 };
+use tstp_graph::{Graph, GraphFault, Ref, graph};
 
 const PLACE: Place = Place {
     file: 0,

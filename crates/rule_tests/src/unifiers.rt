@@ -1,8 +1,8 @@
-use super::*;
 use fof_terms::{Kind, Signature, SortId, SymId, Symbol, Term, equal_term};
 use std::alloc::Global;
 use std::test::Fail;
 use tptp_base::{List, Memory};
+use unify_terms::{Goal, Pair, Scope, Subst, apply, are_sorted, is_sorted_goal, solve, unify};
 
 // Three sorts, and the symbols a and b of sort 0, f and g from sort 0 to sort 0, c of sort 1, h from sort 1 to sort 0
 // and m from sort 2 to sort 0. Sort 2 has no term without variables.

@@ -2,9 +2,9 @@
 // the first fault and its place.
 ghost use Rattle.std.specs.Prelude.{◌≤◌, length};
 
-use crate::{GrammarFault, parse};
 use std::alloc::{AllocError, Global};
 use tptp_base::{Annotated, BinOp, Body, GTerm, Item, Quant, Region, Shape, Surface};
+use tptp_grammar::{GrammarFault, parse};
 use tptp_lexer::{LexFault, Style, Tokens};
 
 // A kind, and how many parts there are of it.

@@ -1,5 +1,5 @@
-use super::*;
 use fof_terms::Signature;
+use kernel::{AdmitFault, Decl, Entry, Proof, Theory};
 use std::alloc::Global;
 use std::test::Fail;
 use tptp_base::{List, Text};

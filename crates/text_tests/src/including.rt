@@ -1,4 +1,4 @@
-use super::*;
+use include_resolve::resolve;
 use std::alloc::Global;
 use std::test::Fail;
 use tptp_base::{Item, List, Name, SteadyStore, Text};

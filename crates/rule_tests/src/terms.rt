@@ -1,7 +1,10 @@
 ghost use Rattle.std.specs.Prelude.{◌↔◌, IsTrue, length};
 ghost use Rattle.fof_terms.specs.Vocabulary.{IsDeclared};
 
-use super::*;
+use fof_terms::{
+    Form, Kind, Signature, SymId, Symbol, Term, equal, equal_term, instance_of_term, instantiate,
+    lift, lift_term, occurs, symbols_of, weight,
+};
 use std::alloc::Global;
 use std::test::Fail;
 use tptp_base::{Boxed, List, Text};
@@ -86,7 +89,7 @@ fn symbols_of_a_term_and_a_formula(rt: HostRuntime) -> Result<(), Fail> {
 }
 
 #[test]
-#[tactic(auto, using(crate::specs::Lift::lift_equations, crate::specs::Instance::instance_equations))]
+#[tactic(auto, using(fof_terms::specs::Lift::lift_equations, fof_terms::specs::Instance::instance_equations))]
 fn variables_move(rt: HostRuntime) -> Result<(), Fail> {
     let alloc = rt.alloc();
     let third = Term::Var(3);
@@ -108,7 +111,7 @@ fn variables_move(rt: HostRuntime) -> Result<(), Fail> {
 }
 
 #[test]
-#[tactic(auto, using(crate::specs::Lift::lift_equations, crate::specs::Instance::instance_equations))]
+#[tactic(auto, using(fof_terms::specs::Lift::lift_equations, fof_terms::specs::Instance::instance_equations))]
 fn bound_variables_stay(rt: HostRuntime) -> Result<(), Fail> {
     let alloc = rt.alloc();
     let form = Form::All(0, Boxed::new(alloc, Form::Eq(Term::Var(0), Term::Var(1)))?);

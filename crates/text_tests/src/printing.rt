@@ -1,4 +1,4 @@
-use super::*;
+use canon_print::{print, print_formula, print_general, write_name};
 use std::alloc::{AllocError, Global};
 use std::test::Fail;
 use tptp_base::{
@@ -137,9 +137,9 @@ fn a_name_is_written(rt: HostRuntime) -> Result<(), Fail> {
     assert_eq!(rt; sink.bytes(), b"'it\\'s'07a_B".as_slice());
     let mut faulty = MemorySink::new(alloc, List::from_slice(alloc, &[3])?);
     assert_eq!(rt;
-        write_name(&Name::Word(Text::from_slice(alloc, b"a b")?), &mut faulty),
+        write_name(&Name::Word(Text::from_slice(alloc, b"it's")?), &mut faulty),
         Err(SinkFault::Failed)
     );
-    assert_eq!(rt; faulty.bytes(), b"'a".as_slice());
+    assert_eq!(rt; faulty.bytes(), b"'it".as_slice());
     Ok(())
 }
