@@ -3,6 +3,7 @@ mod naming;
 mod parsing;
 mod rewriting;
 mod rules;
+mod skolem;
 mod sorted;
 mod verifying;
 
