@@ -25,7 +25,7 @@ pub struct Lines {
 }
 
 /// The order in which the lines of a derivation stand.
-#[derive(Clone, Copy, PartialEq)]
+#[derive(Clone, Copy)]
 pub enum Order {
     /// Each line stands behind those that it is from.
     Forward,

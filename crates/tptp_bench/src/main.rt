@@ -35,13 +35,7 @@ use tptp_base::{FILE_SIZE, RealSink, RealStore, Text, read_whole};
 fn main(rt: HostRuntime) -> Result<()> {
     let words = words_of(&rt)?;
     let job = read_job(&words).context("the words name no job")?;
-    if let Job::Log { lemmas } = job {
-        let mut log = RealSink::new(Some(io::writer(&rt)));
-        return logs::write_log(rt.alloc(), lemmas, &mut log);
-    }
-    let answer = answer(&rt, job)?;
-    println!(rt; "{answer}")?;
-    Ok(())
+    run(&rt, job)
 }
 
 // The words behind the program's name.
@@ -59,31 +53,34 @@ fn text_of<R: Files + AllocGlobal>(rt: &R, name: &str) -> Result<Text> {
     Ok(read_whole(rt.alloc(), &mut store, name, FILE_SIZE)?)
 }
 
-// What came of the job; nothing of a log, which is written as it is made.
-fn answer<R: Files + AllocGlobal>(rt: &R, job: Job) -> Result<String> {
+// Does the job, and prints what came of it.
+fn run<R: Files + Print + AllocGlobal>(rt: &R, job: Job) -> Result<()> {
     let alloc = rt.alloc();
-    let answer = match job {
+    match job {
         Job::Lex { file, times } => {
             let count = lexing::tokens_of(alloc, &text_of(rt, file)?, times)?;
-            format!(in alloc; "{count} tokens")
+            println!(rt; "{count} tokens")?;
         }
         Job::Text { file, times } => {
             let count = printing::bytes_of(alloc, &text_of(rt, file)?, times)?;
-            format!(in alloc; "{count} bytes")
+            println!(rt; "{count} bytes")?;
         }
-        Job::Log { .. } => Ok(String::new(alloc)),
+        Job::Log { lemmas } => {
+            let mut log = RealSink::new(Some(io::writer(rt)));
+            logs::write_log(alloc, lemmas, &mut log)?;
+        }
         Job::Graph { lines, times } => {
             let (count, first) = graphs::ordered(alloc, lines, times)?;
-            format!(in alloc; "{count} lines, the first at {first}")
+            println!(rt; "{count} lines, the first at {first}")?;
         }
         Job::Rules { step, times } => {
             let (parents, rule) = recognising::asked(alloc, step, times)?;
-            format!(in alloc; "{parents} parents, {rule}")
+            println!(rt; "{parents} parents, {rule}")?;
         }
         Job::Norm { task, times } => {
             let count = normal_forms::made(alloc, task, times)?;
-            format!(in alloc; "{count} nodes")
+            println!(rt; "{count} nodes")?;
         }
-    };
-    Ok(answer?)
+    }
+    Ok(())
 }
