@@ -4,10 +4,10 @@
 set -eu
 . "$(dirname "$0")/common.sh"
 tptp=$(program_of tptp_tool verify data/pq.p data/pq.s)
-maker=$(program_of log_bench 1)
+maker=$(program_of tptp_bench log 1)
 : > "$folder/empty.p"
-"$maker" 10000 > "$folder/few.log"
-"$maker" 100000 > "$folder/many.log"
+"$maker" log 10000 > "$folder/few.log"
+"$maker" log 100000 > "$folder/many.log"
 bytes=$(wc -c < "$folder/many.log")
 
 # Checks the log of this name.
@@ -17,7 +17,7 @@ check() {
 
 few=$(seconds check few)
 many=$(seconds check many)
-made=$(seconds "$maker" 100000)
+made=$(seconds "$maker" log 100000)
 memory=$(peak sh -c "\"$tptp\" check \"$folder/empty.p\" \"$folder/many.log\" || test \$? -eq 1")
 
 echo "log          $bytes bytes"

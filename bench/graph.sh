@@ -4,7 +4,7 @@
 # wanted.
 set -eu
 . "$(dirname "$0")/common.sh"
-program=$(program_of graph_bench 12 reverse 1)
+program=$(program_of tptp_bench graph 12 reverse 1)
 
 # The processor's seconds that a command takes.
 processor() {
@@ -14,8 +14,8 @@ processor() {
 
 # Those that one graph of so many lines takes, those to make the lines left out.
 graph() {
-    none=$(processor "$program" "$1" "$2" 0)
-    one=$(processor "$program" "$1" "$2" 1)
+    none=$(processor "$program" graph "$1" "$2" 0)
+    one=$(processor "$program" graph "$1" "$2" 1)
     awk "BEGIN { printf \"%.2f\", $one - $none }"
 }
 

@@ -3,4 +3,4 @@
 # and of `sha256sum` on the same text, all in one run.
 set -eu
 . "$(dirname "$0")/common.sh"
-measure_text lexer_bench
+measure_text lex

@@ -3,10 +3,10 @@
 # many times longer the second takes: about 10, since neither takes time in the size of the theory.
 set -eu
 . "$(dirname "$0")/common.sh"
-program=$(program_of log_bench 1)
+program=$(program_of tptp_bench log 1)
 
-small=$(seconds "$program" 10000)
-large=$(seconds "$program" 100000)
+small=$(seconds "$program" log 10000)
+large=$(seconds "$program" log 100000)
 
 echo "10,000 lemmas    $small s, $(calculate "10000 / $small") a second"
 echo "100,000 lemmas   $large s, $(calculate "100000 / $large") a second"

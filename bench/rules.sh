@@ -5,11 +5,11 @@
 # parents come last. Times are the processor's. Less than 10 ms a step of two parents is wanted.
 set -eu
 . "$(dirname "$0")/common.sh"
-program=$(program_of rules_bench decoy 1 1 1)
+program=$(program_of tptp_bench rules decoy 1 1 1)
 
 # The processor's seconds that so many steps of a kind take.
 processor() {
-    /usr/bin/time -f "%U %S" -o "$folder/processor" "$program" "$@" > "$folder/answer"
+    /usr/bin/time -f "%U %S" -o "$folder/processor" "$program" rules "$@" > "$folder/answer"
     awk '{ printf "%.2f", $1 + $2 }' "$folder/processor"
 }
 
@@ -19,7 +19,7 @@ steps() {
     all=$(processor "$1" "$2" "$3" "$4")
     one=$(calculate "1000 * ($all - $none) / $4")
     rate=$(calculate "$4 / ($all - $none + 0.001)")
-    echo "$(cat "$folder/answer"), $2 predicates: $one ms, $rate a second"
+    echo "$1, $2 predicates, $(cat "$folder/answer"): $one ms, $rate a second"
 }
 
 for predicates in 20 1; do

@@ -3,4 +3,4 @@
 # memory, and their time as a ratio to that of `wc -l` and of `sha256sum` on the same text, all in one run.
 set -eu
 . "$(dirname "$0")/common.sh"
-measure_text text_bench
+measure_text text

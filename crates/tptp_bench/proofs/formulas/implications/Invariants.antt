@@ -1,0 +1,6 @@
+use Rattle.std.proofs.Common.{◌≡◌}
+use Rattle.tptp_bench.specs.Formulas.{implications}
+use Rattle.tptp_bench.proofs.formulas.implications.Given as goal
+
+abbrev pub invariant-loop : goal.invariant-loop
+invariant-loop l = l.made ≡ implications l.counter
