@@ -114,6 +114,7 @@ fn witness_some(
     ensures { IfOk result (λ made. IsGone (Ex sort body.now) uses.now first entries.old entries.new made) }
 {
     let at = entries.len();
+    prove!(at < uses.len());
     let chosen = &uses[at];
     let Some(number) = first.checked_add(at as u64) else {
         return Err(Memory);

@@ -1,8 +1,12 @@
-use Rattle.std.proofs.Common.{arith, sym, ap, subst, refl, ◌≡◌, ◌<◌, ◌∙◌, ◌+◌, ◌∷◌, true, false, length, drop}
+use Rattle.std.proofs.Common.{arith, sym, ap, subst, refl, ◌≡◌, ◌<◌, ◌∙◌, ◌+◌, ◌∷◌, true, false, length, drop, get_or}
 use Rattle.fof_terms.specs.declared.form.Form.{And, Or, All}
+use Rattle.fof_terms.specs.Instance.{instance_of}
+use Rattle.clause_form.specs.Sizes.{norm_size_of}
 use Rattle.kernel.specs.declared.proof.Proof.{Hyp, OrE, ImpI}
-use Rattle.skolem_fresh.proofs.WalkCode.{node_size, all_size, one_size}
-use Rattle.skolem_proofs.specs.Witnessed.{cases}
+use Rattle.skolem_fresh.specs.Renamed.{renamed}
+use Rattle.skolem_fresh.specs.Uses.{value_of}
+use Rattle.skolem_fresh.proofs.WalkCode.{node_size, all_size, one_size, instance_size}
+use Rattle.skolem_proofs.specs.Witnessed.{cases, StepShows}
 use Rattle.skolem_proofs.proofs.Walked.{ok_both, atom_went, equation_went, negation_went, members_may, conjunction_went, disjunction_went, under_may, all_went, some_size, some_may, there_is, its_reach, its_room, next_may, some_went}
 use Rattle.skolem_proofs.proofs.Looped.{few_there, few_results, starts, one_goes, one_may, goes_on, numbered_on, ends}
 use Rattle.skolem_proofs.proofs.witnessing.+witness.Goals as goal
@@ -78,19 +82,52 @@ witness_all-witness-requires t c =
     (omega (arith, small, c.decreases), (v, scope, one_may c.args.forms.now c.loop-number.number c.index-forms-number.result v scope (drop (length c.args.entries.now) c.args.uses.now) (drop (length c.loop-number.entries) c.args.uses.now) c.loop-number-test.true c.index-forms-number.is m goes))
 
 pub witness_all-overflow_cast-number : goal.witness_all-overflow_cast-number
-witness_all-overflow_cast-number t c = few_there c.requires.0 c.requires.1 c.args.forms.now (drop (length c.args.entries.now) c.args.uses.now) c.loop-number.number c.loop-number-test.true c.requires.2
+witness_all-overflow_cast-number t c = omega (arith, few_there c.requires.0 c.requires.1 c.args.forms.now (drop (length c.args.entries.now) c.args.uses.now) c.loop-number.number c.loop-number-test.true c.requires.2)
 
 pub witness_all-loop-number-preserved : goal.witness_all-loop-number-preserved
 witness_all-loop-number-preserved t c v scope g =
     let s = c.loop-number.invariant v scope g in
     let goes = one_goes c.args.conjunction c.args.forms.now c.loop-number.number c.index-forms-number.result c.loop-number-test.true c.index-forms-number.is v scope g.taken g.after g.results c.args.uses.now (c.args.first + length c.args.entries.now) c.args.entries.now c.loop-number.entries c.loop-number.made c.loop-number.arms s in
-    goes_on c.args.conjunction c.args.forms.now c.loop-number.number c.index-forms-number.result c.loop-number-test.true c.index-forms-number.is v scope g.taken g.after g.results c.args.uses.now (c.args.first + length c.args.entries.now) c.args.entries.now c.loop-number.entries c.loop-number.made c.loop-number.arms s c.witness.new.entries c.in_ok-one.one.form c.in_ok-one.one.part c.push.new.self c.push-2.new.self c.loop-number.number c.into_inner.result c.in_ok-push.ensures.ok c.in_ok-push-2.ensures.ok
+    goes_on c.args.conjunction c.args.forms.now c.loop-number.number c.index-forms-number.result c.loop-number-test.true c.index-forms-number.is v scope g.taken g.after g.results c.args.uses.now (c.args.first + length c.args.entries.now) c.args.entries.now c.loop-number.entries c.loop-number.made c.loop-number.arms s c.witness.new.entries c.in_ok-one.one.form c.in_ok-one.one.part c.push.new.self c.push-in-loop-number.new.self c.loop-number.number c.into_inner.result c.in_ok-push.ensures.ok c.in_ok-push-2.ensures.ok
     (c.into_inner.ensures ∙ c.in_ok-arm.ensures) refl (c.args.first + length c.loop-number.entries) (numbered_on c.args.first c.args.entries.now c.loop-number.entries s.told s.gained) (c.in_ok-one.ensures v scope goes)
 
 pub witness_all-returns : goal.witness_all-returns
 witness_all-returns t c v scope g =
     ends c.args.conjunction c.args.forms.now c.loop-number.number c.loop-number-test.false v scope g.taken g.after (drop (length c.loop-number.entries) c.args.uses.now) g.results (c.args.first + length c.args.entries.now) c.args.entries.now c.loop-number.entries c.loop-number.made c.loop-number.arms (c.loop-number.invariant v scope g)
 
-pub witness_some-bounds-uses-at : goal.witness_some-bounds-uses-at
-witness_some-bounds-uses-at t c =
-    subst (λ k. k < length c.args.uses.now) (sym c.len-at.ensures) (there_is c.args.body.now c.args.sort c.requires.0 c.requires.1 c.args.uses.now c.args.entries.now c.requires.2.goes)
+pub witness_some-prove-unreachable-requires : goal.witness_some-prove-unreachable-requires
+witness_some-prove-unreachable-requires t c =
+    let lt = there_is c.args.body.now c.args.sort c.requires.0 c.requires.1 c.args.uses.now c.args.entries.now c.requires.2.goes in
+    omega (arith, lt, c.if-prove.true, c.len-at.ensures)
+
+pub witness_some-rename-requires : goal.witness_some-rename-requires
+witness_some-rename-requires t c =
+    let chosen = c.index-uses-at.result in
+    let room = its_room c.args.body.now c.args.sort c.requires.0 c.requires.1 c.args.uses.now c.args.entries.now chosen (c.index-uses-at.is ∙ ap (λ k. get_or c.args.uses.now k chosen) c.len-at.ensures) c.requires.2 in
+    let same : length c.as_slice.result.now ≡ length chosen.variables = ap length c.as_slice.ensures in
+    omega (arith, room, same)
+
+pub witness_some-next_of-requires : goal.witness_some-next_of-requires
+witness_some-next_of-requires t c =
+    let chosen = c.index-uses-at.result in
+    its_reach c.args.body.now c.args.sort c.requires.0 c.requires.1 c.args.uses.now c.args.entries.now chosen (c.index-uses-at.is ∙ ap (λ k. get_or c.args.uses.now k chosen) c.len-at.ensures) c.requires.2
+
+pub witness_some-witness-requires : goal.witness_some-witness-requires
+witness_some-witness-requires t c =
+    let chosen = c.index-uses-at.result in
+    let body = c.args.body.now in
+    let is_next : c.get.result.now ≡ instance_of body (value_of chosen) = c.get.ensures ∙ c.in_ok-next.ensures in
+    let size : norm_size_of c.get.result.now ≡ norm_size_of body = ap norm_size_of is_next ∙ instance_size (value_of chosen) body in
+    let is_told : c.in_ok-told.told ≡ renamed chosen.variables 1 body = c.in_ok-told.ensures ∙ ap (λ xs. renamed xs 1 body) c.as_slice.ensures in
+    (omega (arith, size, c.decreases), (c.requires.0, c.requires.1, next_may body c.args.sort c.requires.0 c.requires.1 c.args.uses.now c.args.entries.now chosen (c.index-uses-at.is ∙ ap (λ k. get_or c.args.uses.now k chosen) c.len-at.ensures) c.get.result.now is_next c.push.new.self c.in_ok-told.told is_told c.in_ok-push.ensures.ok c.requires.2))
+
+pub witness_some-returns : goal.witness_some-returns
+witness_some-returns t c v scope g =
+    let chosen = c.index-uses-at.result in
+    let body = c.args.body.now in
+    let is_next : c.get.result.now ≡ instance_of body (value_of chosen) = c.get.ensures ∙ c.in_ok-next.ensures in
+    let is_told : c.in_ok-told.told ≡ renamed chosen.variables 1 body = c.in_ok-told.ensures ∙ ap (λ xs. renamed xs 1 body) c.as_slice.ensures in
+    let number : c.in-Some.number ≡ c.args.first + length c.args.entries.now = c.in-Some.ensures.1 ∙ ap (λ k. c.args.first + k) c.len-at.ensures in
+    let shows : StepShows chosen.variables c.in-Some.number (Hyp 0) c.in_ok-step.step = subst (λ p. StepShows chosen.variables c.in-Some.number p c.in_ok-step.step) c.in_ok-hyp.ensures c.in_ok-step.ensures in
+    some_went body c.args.sort v scope c.args.uses.now c.args.entries.now chosen (c.index-uses-at.is ∙ ap (λ k. get_or c.args.uses.now k chosen) c.len-at.ensures) c.get.result.now is_next c.push.new.self c.in_ok-told.told is_told c.in_ok-push.ensures.ok g c.args.first c.in-Some.number c.witness.new.entries c.in_ok-inner.inner.form c.in_ok-inner.inner.part c.in_ok-step.step c.in_ok-imp_i.field-0 number shows
+    (c.in_ok-imp_i.ensures ∙ (rw (c.in_ok-new.ensures, c.in_ok-copy.ensures, c.in_ok-whole.ensures) refl)) (λ x. c.in_ok-inner.ensures v scope x)
