@@ -14,13 +14,16 @@ use Rattle.kernel.specs.declared.proof.Proof.{Proof}
 use Rattle.kernel.specs.declared.entry.Entry.TheVariants.{Lemma}
 use Rattle.clause_rules.specs.Answers.{Rule as Word, cover, Holds as Gives}
 use Rattle.elaborate.specs.declared.answer.Rule.{Rule}
+use Rattle.skolem_fresh.specs.Justified.{ShowsSkolem, skolem_shown}
+use Rattle.skolem_fresh.specs.SkolemRule.{IsSkolemStep}
+use Rattle.skolem_fresh.specs.declared.just.SkolemJust.{SkolemJust}
 use Rattle.split_defs.specs.DefinitionRule.{Defines, IsDefinitionStep}
 use Rattle.split_defs.specs.DefinitionSearch.{IsFoundDefinition}
 use Rattle.split_defs.specs.SplitRule.{IsSplitStep}
 use Rattle.split_defs.specs.SplitSearch.{ShowsSplit, forms_of, split_holds}
 use Rattle.split_defs.specs.declared.just.SplitJust.{SplitJust}
 use Rattle.kernel.specs.declared.entry.Entry.{Entry}
-use Rattle.elaborate.specs.declared.answer.Rule.TheVariants.{Split, Definition, Choice, Norm, Cover}
+use Rattle.elaborate.specs.declared.answer.Rule.TheVariants.{Split, Skolem, Definition, Choice, Norm, Cover}
 use Rattle.elaborate.specs.declared.answer.Reason.{Reason}
 use Rattle.elaborate.specs.declared.answer.Reason.TheVariants.{NotYet, Leaf}
 use Rattle.elaborate.specs.declared.answer.StepAnswer.TheVariants.{Accepted, Unverified}
@@ -98,6 +101,12 @@ pub split_found : (v : Vocabulary) (parents : List Parent) (line : Form) (o : Op
 split_found v parents line o just is m =
     split_holds v (forms_of parents) line just (subst (λ (x : Option SplitJust). MatchOption x (IsSplitStep v (forms_of parents) line → ⊥) (ShowsSplit v (forms_of parents) line)) is m)
 
+-- where functions are found for a parent's existential variables, the rule gives the line
+pub skolem_found : (t : Statements) (parents : List Parent) (line : Form) (o : Option SkolemJust) (just : SkolemJust) → o ≡ Some just
+    → MatchOption o (IsSkolemStep t (forms_of parents) line → ⊥) (ShowsSkolem t (forms_of parents) line) → IsSkolemStep t (forms_of parents) line
+skolem_found t parents line o just is m =
+    skolem_shown t (forms_of parents) line just (subst (λ (x : Option SkolemJust). MatchOption x (IsSkolemStep t (forms_of parents) line → ⊥) (ShowsSkolem t (forms_of parents) line)) is m)
+
 -- what no rule by shape gives
 module _ (t : Statements) (parents : List Parent) (line : Form) (none : IsNone shape_rules t parents line) where
   abbrev NotBy : Rule → Type 0
@@ -112,14 +121,17 @@ module _ (t : Statements) (parents : List Parent) (line : Form) (none : IsNone s
   pub step_split : (entries : List Entry) → Holds t parents line Split → Derives entries → IsStepAnswer t parents line (Accepted Split (numbers_of parents) entries)
   step_split entries holds derives = answered Split entries (inl (refl, holds)) derives
 
-  pub step_defined : (entries : List Entry) → NotBy Split → Holds t parents line Definition → IsDerivedFrom t [] entries line → IsStepAnswer t parents line (Accepted Definition (numbers_of parents) entries)
-  step_defined entries whole holds derives = answered Definition entries (inr (whole, inl (refl, holds))) (derived_weaker t (numbers_of parents) entries line derives)
+  pub step_skolem : (entries : List Entry) → NotBy Split → Holds t parents line Skolem → Derives entries → IsStepAnswer t parents line (Accepted Skolem (numbers_of parents) entries)
+  step_skolem entries whole holds derives = answered Skolem entries (inr (whole, inl (refl, holds))) derives
 
-  pub step_chosen : (entries : List Entry) → NotBy Split → NotBy Definition → Holds t parents line Choice → IsDerivedFrom t [] entries line → IsStepAnswer t parents line (Accepted Choice (numbers_of parents) entries)
-  step_chosen entries whole undefined holds derives = answered Choice entries (inr (whole, inr (undefined, inl (refl, holds)))) (derived_weaker t (numbers_of parents) entries line derives)
+  pub step_defined : (entries : List Entry) → NotBy Split → NotBy Skolem → Holds t parents line Definition → IsDerivedFrom t [] entries line → IsStepAnswer t parents line (Accepted Definition (numbers_of parents) entries)
+  step_defined entries whole unskolemized holds derives = answered Definition entries (inr (whole, inr (unskolemized, inl (refl, holds)))) (derived_weaker t (numbers_of parents) entries line derives)
 
-  pub step_unverified : NotBy Split → NotBy Definition → NotBy Choice → IsStepAnswer t parents line (Unverified NotYet)
-  step_unverified whole undefined unchosen = none_of_both t parents line shape_rules symbol_rules none (whole, (undefined, (unchosen, tt)))
+  pub step_chosen : (entries : List Entry) → NotBy Split → NotBy Skolem → NotBy Definition → Holds t parents line Choice → IsDerivedFrom t [] entries line → IsStepAnswer t parents line (Accepted Choice (numbers_of parents) entries)
+  step_chosen entries whole unskolemized undefined holds derives = answered Choice entries (inr (whole, inr (unskolemized, inr (undefined, inl (refl, holds))))) (derived_weaker t (numbers_of parents) entries line derives)
+
+  pub step_unverified : NotBy Split → NotBy Skolem → NotBy Definition → NotBy Choice → IsStepAnswer t parents line (Unverified NotYet)
+  step_unverified whole unskolemized undefined unchosen = none_of_both t parents line shape_rules symbol_rules none (whole, (unskolemized, (undefined, (unchosen, tt))))
 
 -- of one candidate alone
 alone_is : (c p : Parent) → Some c ≡ Some p → c ≡ p

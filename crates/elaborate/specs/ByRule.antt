@@ -5,11 +5,12 @@ use Rattle.kernel.specs.Statements.{Statements}
 use Rattle.clause_form.specs.declared.path.Parent.{Parent}
 use Rattle.clause_rules.specs.Answers.{norm, cover, tautology, resolution, paramodulation, eqfactor, rewrite, Holds as Gives}
 use Rattle.skolem_fresh.specs.ChoiceRule.{IsChoiceStep}
+use Rattle.skolem_fresh.specs.SkolemRule.{IsSkolemStep}
 use Rattle.split_defs.specs.DefinitionRule.{IsDefinitionStep}
 use Rattle.split_defs.specs.SplitRule.{IsSplitStep}
 use Rattle.split_defs.specs.SplitSearch.{forms_of}
 use Rattle.elaborate.specs.declared.answer.Rule.{Rule}
-use Rattle.elaborate.specs.declared.answer.Rule.TheVariants.{Norm, Cover, Tautology, Resolution, Paramodulation, EqFactor, Rewrite, Split, Definition, Choice}
+use Rattle.elaborate.specs.declared.answer.Rule.TheVariants.{Norm, Cover, Tautology, Resolution, Paramodulation, EqFactor, Rewrite, Split, Skolem, Definition, Choice}
 
 -- with the symbols of the theory, and its formulas as those in which a new symbol occurs nowhere, the rule gives the line
 -- from some of the parents
@@ -22,6 +23,7 @@ Holds t parents line Paramodulation = Gives t.vocabulary parents line paramodula
 Holds t parents line EqFactor = Gives t.vocabulary parents line eqfactor
 Holds t parents line Rewrite = Gives t.vocabulary parents line rewrite
 Holds t parents line Split = IsSplitStep t.vocabulary (forms_of parents) line
+Holds t parents line Skolem = IsSkolemStep t (forms_of parents) line
 Holds t parents line Definition = IsDefinitionStep t line
 Holds t parents line Choice = IsChoiceStep t line
 
@@ -31,7 +33,7 @@ shape_rules = Norm ∷ Cover ∷ Tautology ∷ Resolution ∷ Paramodulation ∷
 
 -- the rules by which names stand for parts of a line, or new symbols come in, in the order in which they are tried
 abbrev pub symbol_rules : List Rule
-symbol_rules = Split ∷ Definition ∷ Choice ∷ []
+symbol_rules = Split ∷ Skolem ∷ Definition ∷ Choice ∷ []
 
 -- the rules of steps that are built, in the order in which they are tried
 abbrev pub rules : List Rule

@@ -23,6 +23,8 @@ pub enum Rule {
     Rewrite,
     /// `split`: names stand in the line for parts of a parent, and other parents say what they stand for.
     Split,
+    /// `skolem`: new functions stand in the line for the existential variables of a parent.
+    Skolem,
     /// `definition`: the line says what a new symbol means.
     Definition,
     /// `choice`: the line says that new functions choose values, where there are any.

@@ -3,6 +3,7 @@ ghost use Rattle.std.specs.Prelude.{[], IfOk};
 ghost use Rattle.clause_rules.specs.Steps.{AreReady, IsReady};
 ghost use Rattle.derive_kit.specs.Derived.{AreOfTheory, numbers_of};
 ghost use Rattle.skolem_fresh.specs.ChoiceRule.{IsChoiceStep};
+ghost use Rattle.skolem_fresh.specs.SkolemRule.{IsSkolemStep};
 ghost use Rattle.split_defs.specs.DefinitionRule.{IsDefinitionStep};
 ghost use Rattle.split_defs.specs.SplitRule.{IsSplitStep};
 ghost use Rattle.split_defs.specs.SplitSearch.{forms_of};
@@ -11,7 +12,8 @@ ghost use Rattle.elaborate.specs.Proofs.{IsByEntries};
 use clause_form::Parent;
 use fof_terms::Form;
 use kernel::{Entry, Theory};
-use skolem_fresh::{choice_entries, choice_step};
+use skolem_fresh::{choice_entries, choice_step, skolem_step};
+use skolem_proofs::skolem_entries;
 use split_defs::{SplitJust, definition_entries, definition_step, split_entries, split_step};
 use std::alloc::Global;
 use tptp_base::{List, Memory};
@@ -31,6 +33,28 @@ pub fn split(
     match split_step(alloc, theory, parents, line)? {
         Some(just) => {
             let entries = split_entries(alloc, theory, &just, parents, line)?;
+            Ok(Some(entries))
+        }
+        None => Ok(None),
+    }
+}
+
+/// Entries of a line that puts new functions in place of a parent's existential variables; None exactly where it is no such
+/// line of any parent.
+pub fn skolemized(
+    alloc: Global,
+    theory: &Theory,
+    parents: &[Parent],
+    line: &Form,
+) -> Result<Option<List<Entry>>, Memory>
+    requires parents { AreOfTheory theory.now parents.now }
+    requires ready { AreReady theory.now.vocabulary parents.now }
+    requires line { IsReady theory.now.vocabulary line.now }
+    ensures { IfOk result (IsByEntries theory.now (numbers_of parents.now) line.now (IsSkolemStep theory.now (forms_of parents.now) line.now)) }
+{
+    match skolem_step(alloc, theory, parents, line)? {
+        Some(just) => {
+            let entries = skolem_entries(alloc, theory, &just, parents, line)?;
             Ok(Some(entries))
         }
         None => Ok(None),

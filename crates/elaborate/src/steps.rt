@@ -5,11 +5,11 @@ ghost use Rattle.clause_rules.specs.Steps.{AreReady, IsReady};
 ghost use Rattle.derive_kit.specs.Derived.{AreOfTheory, numbers_of};
 ghost use Rattle.elaborate.specs.Answers.{IsStepAnswer};
 ghost use Rattle.elaborate.specs.ByRule.{Holds, IsNone, shape_rules};
-ghost use Rattle.elaborate.specs.declared.answer.Rule.TheVariants.{Definition, Split};
+ghost use Rattle.elaborate.specs.declared.answer.Rule.TheVariants.{Definition, Skolem, Split};
 ghost use Rattle.elaborate.specs.Proofs.{IsFound};
 
 use crate::answer::{Reason, Rule, StepAnswer};
-use crate::naming::{chosen, defined, split};
+use crate::naming::{chosen, defined, skolemized, split};
 use clause_form::Parent;
 use clause_proofs::{
     by_cover, by_eqfactor, by_norm, by_paramodulation, by_resolution, by_rewrite, by_tautology,
@@ -58,11 +58,34 @@ fn by_symbols(
             let cites = numbers(alloc, parents)?;
             Ok(by_entries(Rule::Split, cites, entries))
         }
+        None => by_functions(alloc, theory, parents, line),
+    }
+}
+
+// The answer to a line that has no names for parts: whether it puts functions in place of a parent's existential variables.
+fn by_functions(
+    alloc: Global,
+    theory: &Theory,
+    parents: &[Parent],
+    line: &Form,
+) -> Result<StepAnswer, Memory>
+    requires parents { AreOfTheory theory.now parents.now }
+    requires ready { AreReady theory.now.vocabulary parents.now }
+    requires line { IsReady theory.now.vocabulary line.now }
+    requires no_shape { IsNone shape_rules theory.now parents.now line.now }
+    requires whole { Holds theory.now parents.now line.now Split → ⊥ }
+    ensures { IfOk result (IsStepAnswer theory.now parents.now line.now) }
+{
+    match skolemized(alloc, theory, parents, line)? {
+        Some(entries) => {
+            let cites = numbers(alloc, parents)?;
+            Ok(by_entries(Rule::Skolem, cites, entries))
+        }
         None => by_meaning(alloc, theory, parents, line),
     }
 }
 
-// The answer to a line that has no names for parts: whether it says what new symbols mean.
+// The answer to a line that is no parent's with functions: whether it says what new symbols mean.
 fn by_meaning(
     alloc: Global,
     theory: &Theory,
@@ -72,6 +95,7 @@ fn by_meaning(
     requires line { IsReady theory.now.vocabulary line.now }
     requires no_shape { IsNone shape_rules theory.now parents.now line.now }
     requires whole { Holds theory.now parents.now line.now Split → ⊥ }
+    requires unskolemized { Holds theory.now parents.now line.now Skolem → ⊥ }
     ensures { IfOk result (IsStepAnswer theory.now parents.now line.now) }
 {
     match defined(alloc, theory, line)? {
@@ -93,6 +117,7 @@ fn by_choice(
     requires line { IsReady theory.now.vocabulary line.now }
     requires no_shape { IsNone shape_rules theory.now parents.now line.now }
     requires whole { Holds theory.now parents.now line.now Split → ⊥ }
+    requires unskolemized { Holds theory.now parents.now line.now Skolem → ⊥ }
     requires undefined { Holds theory.now parents.now line.now Definition → ⊥ }
     ensures { IfOk result (IsStepAnswer theory.now parents.now line.now) }
 {

@@ -26,22 +26,11 @@ use Rattle.skolem_fresh.specs.Renamed.{renamed}
 use Rattle.skolem_fresh.specs.Uses.{value, value_of, functions_of, Fits}
 use Rattle.skolem_fresh.specs.ChoiceRule.{IsOpened}
 use Rattle.skolem_fresh.specs.Choosing.{IsWithin}
+use Rattle.skolem_fresh.specs.Entered.{added_by, formulas_told, Enters}
 use Rattle.skolem_fresh.specs.Told.{AreTold, AddedFrom, IsOpenable}
 use Rattle.skolem_fresh.proofs.Openable.{open_used, open_unused, opened_used, only_body, few_all}
 use Rattle.skolem_fresh.proofs.Occurring.{instance_occurs}
 use Rattle.skolem_fresh.proofs.Admitting.{symbol, at_symbol, choice_sorted, may_choose, renamed_occurs, for_all_occurs}
-
--- the formulas that the entries add
-abbrev pub added_by : Option Symbol → ℕ → Form → List Form → List Form
-added_by None f a rest = rest
-added_by (Some symbol) f a rest = choice f symbol a ∷ rest
-
-abbrev pub formulas_told : Vocabulary → List Entry → List Form
-formulas_told v [] = []
-formulas_told v (Choice f a ∷ rest) = added_by (slice_get v.symbols f) f a (formulas_told v rest)
-formulas_told v (Declare d ∷ rest) = formulas_told v rest
-formulas_told v (Lemma p ∷ rest) = formulas_told v rest
-formulas_told v (Name k a ∷ rest) = formulas_told v rest
 
 -- The symbols of values and of what is added.
 no_var_occurs : (k : ℕ) (xs : List ℕ) → list_any (occurs_in_term k) (map Var xs) ≡ false
@@ -56,21 +45,21 @@ or_false : (a : Bool) → (a || false) ≡ a
 or_false true = refl
 or_false false = refl
 
-value_occurs : (k f : ℕ) (xs : List ℕ) → occurs_in_term k (value f xs) ≡ (f == k)
+pub value_occurs : (k f : ℕ) (xs : List ℕ) → occurs_in_term k (value f xs) ≡ (f == k)
 value_occurs k f xs = rw (occurs_in_term-App, no_var_occurs k xs) (or_false (f == k))
 
 pub neither : (a b : Bool) → (a || b) ≡ false → (a ≡ false) × (b ≡ false)
 neither true b e = cc
 neither false b e = (refl, e)
 
-both_false : (a b : Bool) → a ≡ false → b ≡ false → (a || b) ≡ false
+pub both_false : (a b : Bool) → a ≡ false → b ≡ false → (a || b) ≡ false
 both_false a b e f = rw (e, f) refl
 
-no_and : (b c : Bool) → c ≡ false → (b && c) ≡ false
+pub no_and : (b c : Bool) → c ≡ false → (b && c) ≡ false
 no_and true c e = e
 no_and false c e = refl
 
-choice_occurs : (k f : ℕ) (symbol : Symbol) (a : Form) → (f == k) ≡ false → occurs_in k a ≡ false → occurs_in k (choice f symbol a) ≡ false
+pub choice_occurs : (k f : ℕ) (symbol : Symbol) (a : Form) → (f == k) ≡ false → occurs_in k a ≡ false → occurs_in k (choice f symbol a) ≡ false
 choice_occurs k f symbol a other off =
     let x = App f (variables (length symbol.args)) in
     let value : occurs_in_term k x ≡ false = occurs_in_term-App k f (variables (length symbol.args)) ∙ both_false (f == k) (list_any (occurs_in_term k) (variables (length symbol.args))) other (no_own_occurs k (length symbol.args)) in
@@ -89,20 +78,20 @@ AllFresh w uses = Each (λ (u : Use). IsFresh u.function w) uses
 abbrev pub AllAbsent : Form → List Use → Type 0
 AllAbsent a uses = Each (λ (u : Use). occurs_in u.function a ≡ false) uses
 
-fresh_after : (w : Statements) (f : ℕ) (a : Form) (symbol : Symbol) (uses : List Use) → Each (λ y. nat_eq f y ≡ false) (functions_of uses) → AllFresh w uses → AllAbsent a uses → AllFresh (with_formula w (choice f symbol a)) uses
+pub fresh_after : (w : Statements) (f : ℕ) (a : Form) (symbol : Symbol) (uses : List Use) → Each (λ y. nat_eq f y ≡ false) (functions_of uses) → AllFresh w uses → AllAbsent a uses → AllFresh (with_formula w (choice f symbol a)) uses
 fresh_after w f a symbol [] apart fresh absent = tt
 fresh_after w f a symbol (u ∷ uses) apart fresh absent =
     (All-push (λ b. occurs_in u.function b ≡ false) w.formulas (choice f symbol a) fresh.0 (choice_occurs u.function f symbol a apart.0 absent.0), fresh_after w f a symbol uses apart.1 fresh.1 absent.1)
 
-absent_told : (xs : List ℕ) (a : Form) (uses : List Use) → AllAbsent a uses → AllAbsent (renamed xs 1 a) uses
+pub absent_told : (xs : List ℕ) (a : Form) (uses : List Use) → AllAbsent a uses → AllAbsent (renamed xs 1 a) uses
 absent_told xs a [] h = tt
 absent_told xs a (u ∷ uses) h = (renamed_occurs u.function xs a 1 ∙ h.0, absent_told xs a uses h.1)
 
-absent_body : (s : ℕ) (a : Form) (uses : List Use) → AllAbsent (Ex s a) uses → AllAbsent a uses
+pub absent_body : (s : ℕ) (a : Form) (uses : List Use) → AllAbsent (Ex s a) uses → AllAbsent a uses
 absent_body s a [] h = tt
 absent_body s a (u ∷ uses) h = (sym (occurs_in-Ex u.function s a) ∙ h.0, absent_body s a uses h.1)
 
-absent_value : (f : ℕ) (xs : List ℕ) (a : Form) (uses : List Use) → Each (λ y. nat_eq f y ≡ false) (functions_of uses) → AllAbsent a uses → AllAbsent (instance_of a (value f xs)) uses
+pub absent_value : (f : ℕ) (xs : List ℕ) (a : Form) (uses : List Use) → Each (λ y. nat_eq f y ≡ false) (functions_of uses) → AllAbsent a uses → AllAbsent (instance_of a (value f xs)) uses
 absent_value f xs a [] apart h = tt
 absent_value f xs a (u ∷ uses) apart h =
     let x = value f xs in
@@ -115,7 +104,7 @@ absent_unused a (u ∷ uses) off h =
     (instance_occurs u.function (Var 0) a 0 ∙ both_false (occurs_in u.function a) (has_variable 0 a && occurs_in_term u.function (Var 0)) h.0 (no_and (has_variable 0 a) (occurs_in_term u.function (Var 0)) (occurs_in_term-Var u.function 0)), absent_unused a uses off h.1)
 
 -- what stands behind other formulas
-behind : (pre post : List Form) (a : Form) (n : ℕ) → length pre ≡ n → slice_get (pre ++ a ∷ post) n ≡ Some a
+pub behind : (pre post : List Form) (a : Form) (n : ℕ) → length pre ≡ n → slice_get (pre ++ a ∷ post) n ≡ Some a
 behind [] post a zero e = refl
 behind [] post a (suc n) e = absurd (omega arith)
 behind (b ∷ pre) post a zero e = absurd (omega arith)
@@ -126,12 +115,7 @@ one_longer [] a n e = let same : 0 ≡ n = e in rw (sym same) refl
 one_longer (b ∷ pre) a zero e = absurd (omega arith)
 one_longer (b ∷ pre) a (suc n) e = let rest = one_longer pre a n (omega arith) in omega arith
 
--- what the entries add, and where it then stands
-pub record Enters (w : Statements) (told : List Entry) : Type 0 where
-  pub admits : Admits w told (with_formulas w (formulas_told w.vocabulary told))
-  pub stands : (t : Statements) → t.vocabulary ≡ w.vocabulary → (pre post : List Form) → t.formulas ≡ pre ++ (formulas_told w.vocabulary told ++ post) → (n : ℕ) → length pre ≡ n → AddedFrom t n told
-
-enters_none : (w : Statements) → Enters w []
+pub enters_none : (w : Statements) → Enters w []
 enters_none w = record {
   admits = ap (λ (fs : List Form). record w { formulas = fs }) (append-nil w.formulas);
   stands = λ t e pre post f n g. tt;
@@ -144,7 +128,7 @@ module _ (w : Statements) (f : ℕ) (a : Form) (symbol : Symbol) (others : List 
   same_end : with_formulas (with_formula w (choice f symbol a)) (formulas_told w.vocabulary others) ≡ with_formulas w (formulas_told w.vocabulary (Choice f a ∷ others))
   same_end = ap (λ (fs : List Form). record w { formulas = fs }) (append_assoc w.formulas (choice f symbol a ∷ []) (formulas_told w.vocabulary others) ∙ ap (λ (fs : List Form). w.formulas ++ fs) (sym added_first))
 
-  enters_more : Enters w (Choice f a ∷ others)
+  pub enters_more : Enters w (Choice f a ∷ others)
   enters_more = record {
     admits = ((symbol, may), (with_formula w (choice f symbol a), (symbol, at, refl), subst (Admits (with_formula w (choice f symbol a)) others) same_end rest.admits));
     stands = λ t e pre post g n many.
@@ -207,7 +191,7 @@ module _ (j : ℕ) where
             whole ∙ (neither (occurs_in j body) (has_variable 0 body && occurs_in_term j (Var 0)) (sym (instance_occurs j (Var 0) body 0) ∙ next)).0
       ]
 
-  lacks_added : (v : Vocabulary) (f : ℕ) (a : Form) (r : Option Symbol) (rest : List Form) → (f == j) ≡ false → occurs_in j a ≡ false → Every (λ b. occurs_in j b ≡ false) rest → Every (λ b. occurs_in j b ≡ false) (added_by r f a rest)
+  pub lacks_added : (v : Vocabulary) (f : ℕ) (a : Form) (r : Option Symbol) (rest : List Form) → (f == j) ≡ false → occurs_in j a ≡ false → Every (λ b. occurs_in j b ≡ false) rest → Every (λ b. occurs_in j b ≡ false) (added_by r f a rest)
   lacks_added v f a None rest other off h = h
   lacks_added v f a (Some symbol) rest other off h = All-cons (λ b. occurs_in j b ≡ false) (choice f symbol a) rest (choice_occurs j f symbol a other off) h
 

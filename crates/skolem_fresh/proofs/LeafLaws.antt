@@ -27,7 +27,7 @@ or_none true b = refl
 or_none false true = refl
 or_none false false = refl
 
-any_append : {X : Type 0} (p : X → Bool) (xs ys : List X) → list_any p (xs ++ ys) ≡ (list_any p xs || list_any p ys)
+pub any_append : {X : Type 0} (p : X → Bool) (xs ys : List X) → list_any p (xs ++ ys) ≡ (list_any p xs || list_any p ys)
 any_append p [] ys = refl
 any_append p (x ∷ xs) ys = ap (λ b. p x || b) (any_append p xs ys) ∙ sym (or_assoc (p x) (list_any p xs) (list_any p ys))
 
@@ -94,11 +94,11 @@ stands n l = has_in_term (n + l.depth) l.term
 abbrev Stands : ℕ × ℕ → Form → Type 0
 Stands p a = has_variable (p.0 + p.1) a ≡ list_any (stands p.0) (leaves_of p.1 a)
 
-any_of_map : {X Y : Type 0} (p : Y → Bool) (f : X → Y) (xs : List X) → list_any p (map f xs) ≡ list_any (λ x. p (f x)) xs
+pub any_of_map : {X Y : Type 0} (p : Y → Bool) (f : X → Y) (xs : List X) → list_any p (map f xs) ≡ list_any (λ x. p (f x)) xs
 any_of_map p f [] = refl
 any_of_map p f (x ∷ xs) = ap (λ b. p (f x) || b) (any_of_map p f xs)
 
-any_flat : {X Y : Type 0} (p : X → Bool) (q : Y → Bool) (f : X → List Y) (xs : List X) → AllByRecursion (λ x. p x ≡ list_any q (f x)) xs → list_any p xs ≡ list_any q (flat_map f xs)
+pub any_flat : {X Y : Type 0} (p : X → Bool) (q : Y → Bool) (f : X → List Y) (xs : List X) → AllByRecursion (λ x. p x ≡ list_any q (f x)) xs → list_any p xs ≡ list_any q (flat_map f xs)
 any_flat p q f [] e = refl
 any_flat p q f (x ∷ xs) e = rw (flat_map-cons f x xs, any_append, e.0, any_flat p q f xs e.1) refl
 

@@ -157,7 +157,7 @@ module _ (v : Vocabulary) (scope : List ℕ) (s f : ℕ) (xs : List ℕ) (body :
       subst (IsInstance v scope (choice f symbol (renamed xs 1 body)) (map Var xs)) put_choice
       (all_instances v scope xs symbol.args (Imp (Ex symbol.result (renamed xs 1 body)) (instance_of (renamed xs 1 body) (App f (variables (length symbol.args))))) sorts)
 
-same_symbol : (x y : Symbol) (r : Option Symbol) → r ≡ Some x → r ≡ Some y → x ≡ y
+pub same_symbol : (x y : Symbol) (r : Option Symbol) → r ≡ Some x → r ≡ Some y → x ≡ y
 same_symbol x y r e f = cc
 
 -- what the code's parts show

@@ -59,14 +59,14 @@ module _ (v : Vocabulary) (parent norm result : Form) (uses : List Use) (has : H
       let many : length uses ≡ 0 = ap length empty in
       omega arith
 
-  is_solid : IsSolid norm
+  pub is_solid : IsSolid norm
   is_solid =
       elim (norm_done parent true) [
         | inl k ↦ absurd (no_uses k.0 (sym has.same ∙ k.1))
         | inr s ↦ subst IsSolid has.same s
       ]
 
-  terms_of : (made : Form) → made ≡ norm_of true result → leaves_of 0 made ≡ leaves_of 0 result ++ []
+  pub terms_of : (made : Form) → made ≡ norm_of true result → leaves_of 0 made ≡ leaves_of 0 result ++ []
   terms_of made e = ap (leaves_of 0) e ∙ (norm_stays result (solid_kept v [] uses norm result h is_solid)).1 0 ∙ sym (append-nil (leaves_of 0 result))
 
 one_norm : (a norm own : Form) → HasNorm a norm → HasNorm a own → norm ≡ own

@@ -25,12 +25,12 @@ use Rattle.skolem_fresh.specs.Uses.{value_of}
 use Rattle.skolem_fresh.proofs.Walking.{one_more, none_more, none_walked, node_walked, node_none, all_walked, all_none, some_walked, some_none, unreplaced}
 use Rattle.skolem_fresh.proofs.Opened.{within_value}
 
-taken_snoc : {X : Type 0} (xs : List X) (i : ℕ) (x : X) → i < length xs → x ≡ get_or xs i x → take (suc i) xs ≡ take i xs ++ x ∷ []
+pub taken_snoc : {X : Type 0} (xs : List X) (i : ℕ) (x : X) → i < length xs → x ≡ get_or xs i x → take (suc i) xs ≡ take i xs ++ x ∷ []
 taken_snoc [] i x h e = absurd (omega arith)
 taken_snoc (y ∷ xs) zero x h e = ap (λ z. z ∷ []) (sym e)
 taken_snoc (y ∷ xs) (suc i) x h e = ap (λ ys. y ∷ ys) (taken_snoc xs i x (omega arith) e)
 
-whole_from : {X : Type 0} (xs : List X) (i : ℕ) (x : X) → i < length xs → x ≡ get_or xs i x → xs ≡ take i xs ++ x ∷ drop (suc i) xs
+pub whole_from : {X : Type 0} (xs : List X) (i : ℕ) (x : X) → i < length xs → x ≡ get_or xs i x → xs ≡ take i xs ++ x ∷ drop (suc i) xs
 whole_from [] i x h e = absurd (omega arith)
 whole_from (y ∷ xs) zero x h e = ap (λ z. z ∷ xs) (sym e)
 whole_from (y ∷ xs) (suc i) x h e = ap (λ ys. y ∷ ys) (whole_from xs i x (omega arith) e)
@@ -166,7 +166,7 @@ sizes_walk f g w = form_induction _ (record {
   sizes_same h [] all = refl
   sizes_same h (a ∷ as_) all = rw (all.0, sizes_same h as_ all.1) refl
 
-instance_size : (x : Term) (a : Form) → norm_size_of (instance_of a x) ≡ norm_size_of a
+pub instance_size : (x : Term) (a : Form) → norm_size_of (instance_of a x) ≡ norm_size_of a
 instance_size x a = sizes_walk (instance_term x) (instance_at x) (placing x (λ d. d) (λ d. refl)) a 0
 
 pub next_size : (v : Vocabulary) (scope : List ℕ) (outer s : ℕ) (form body b0 : Form) (own : List Leaf) (old mid : List Use) (found : Option Form) (next boxed : Form) → form ≡ Ex s b0 → body ≡ b0 → found ≡ Some boxed → next ≡ boxed

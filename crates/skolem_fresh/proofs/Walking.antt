@@ -23,7 +23,7 @@ use Rattle.skolem_fresh.proofs.Skolemized.{SkolemizedIn, skolemized_in}
 
 module _ (v : Vocabulary) where
   -- Each of some formulas.
-  first_of : (scope : List ℕ) (uses : List Use) (a : Form) (as_ cs : List Form) → AreSkolemized v scope uses (a ∷ as_) cs
+  pub first_of : (scope : List ℕ) (uses : List Use) (a : Form) (as_ cs : List Form) → AreSkolemized v scope uses (a ∷ as_) cs
       → (us ws : List Use) × (b : Form) × (bs : List Form) × (uses ≡ us ++ ws) × (cs ≡ b ∷ bs) × IsSkolemized v scope us a b × AreSkolemized v scope ws as_ bs
   first_of scope uses a as_ cs h = go uses (a ∷ as_) cs h refl where
     go : (uses : List Use) (xs cs : List Form) → AreSkolemized v scope uses xs cs → xs ≡ a ∷ as_
@@ -169,7 +169,7 @@ module _ (v : Vocabulary) where
         w (some_solid as_ (node_solid g as_ s)) uses n.0 after n.2 (node_terms n.0 c after n.1 is)
 
   -- A universal quantifier.
-  all_in : (scope : List ℕ) (uses : List Use) (s : ℕ) (a c : Form) → IsSkolemized v scope uses (All s a) c → (d : Form) × (c ≡ All s d) × IsSkolemized v (s ∷ scope) uses a d
+  pub all_in : (scope : List ℕ) (uses : List Use) (s : ℕ) (a c : Form) → IsSkolemized v scope uses (All s a) c → (d : Form) × (c ≡ All s d) × IsSkolemized v (s ∷ scope) uses a d
   all_in scope uses s a c h = subst (λ y. SkolemizedIn v scope uses y (All s a) c) (outs-All s a) (skolemized_in v scope uses (All s a) c h)
 
   module _ (scope : List ℕ) (s : ℕ) (a : Form) (leaves left : List Leaf) (old new : List Use) where
@@ -195,7 +195,7 @@ module _ (v : Vocabulary) where
         w (quantifier_solid true s a h).1 uses n.0 after n.2 (all_terms n.0 c after n.1 is)
 
   -- An existential quantifier.
-  some_in : (scope : List ℕ) (uses : List Use) (s : ℕ) (a c : Form) → IsSkolemized v scope uses (Ex s a) c → (u : Use) × (rest : List Use) × (uses ≡ u ∷ rest) × MayReplace v scope u s a × IsSkolemized v scope rest (instance_of a (value_of u)) c
+  pub some_in : (scope : List ℕ) (uses : List Use) (s : ℕ) (a c : Form) → IsSkolemized v scope uses (Ex s a) c → (u : Use) × (rest : List Use) × (uses ≡ u ∷ rest) × MayReplace v scope u s a × IsSkolemized v scope rest (instance_of a (value_of u)) c
   some_in scope uses s a c h = subst (λ y. SkolemizedIn v scope uses y (Ex s a) c) (outs-Ex s a) (skolemized_in v scope uses (Ex s a) c h)
 
   module _ (scope : List ℕ) (outer s : ℕ) (body : Form) (leaves : List Leaf) (is_outer : outer ≡ length scope) where

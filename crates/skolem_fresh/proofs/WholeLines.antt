@@ -39,7 +39,8 @@ use Rattle.skolem_fresh.proofs.Distinct.{same_among}
 use Rattle.skolem_fresh.proofs.Opened.{leading_opened}
 use Rattle.skolem_fresh.proofs.Argued.{sorts_at, sort_is}
 use Rattle.skolem_fresh.proofs.Openable.{use_symbol}
-use Rattle.skolem_fresh.proofs.Entering.{formulas_told, enter, told_lacks, neither}
+use Rattle.skolem_fresh.specs.Entered.{formulas_told}
+use Rattle.skolem_fresh.proofs.Entering.{enter, told_lacks, neither}
 use Rattle.skolem_fresh.proofs.Admitting.{for_all_occurs}
 
 -- under a quantifier
@@ -83,7 +84,7 @@ variables_below v scope (x ∷ xs) (s ∷ args) e q h =
       | inr there ↦ variables_below v scope xs args parts.1 q there
     ]
 
-few_variables : (v : Vocabulary) (scope : List ℕ) (left : Form) (uses : List Use) → length scope ≤ 1000000000 → Each (Fits v scope) uses → Each (λ (u : Use). AreArguments u.variables left) uses → Each (λ (u : Use). length u.variables ≤ 1000000000) uses
+pub few_variables : (v : Vocabulary) (scope : List ℕ) (left : Form) (uses : List Use) → length scope ≤ 1000000000 → Each (Fits v scope) uses → Each (λ (u : Use). AreArguments u.variables left) uses → Each (λ (u : Use). length u.variables ≤ 1000000000) uses
 few_variables v scope left [] few fits args = tt
 few_variables v scope left (u ∷ uses) few fits args =
     let symbol = use_symbol v scope u fits.0 in

@@ -1,6 +1,7 @@
 pub mod Alike
 pub mod ChoiceRule
 pub mod Choosing
+pub mod Entered
 pub mod Heads
 pub mod Justified
 pub mod Leading

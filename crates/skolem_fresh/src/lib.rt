@@ -20,4 +20,7 @@ mod telling;
 pub use choice::choice_step;
 pub use entries::choice_entries;
 pub use just::{SkolemJust, Use};
+pub use opening::value_of;
+pub use renaming::rename;
 pub use skolem::skolem_step;
+pub use telling::chosen_part;

@@ -35,8 +35,8 @@ pub(crate) fn leading(form: &Form) -> u32
     }
 }
 
-// The function at its variables.
-pub(crate) fn value_of(alloc: Global, function: &Use) -> Result<Term, Memory>
+/// The function at its variables.
+pub fn value_of(alloc: Global, function: &Use) -> Result<Term, Memory>
     ensures { IfOk result (λ value. value ≡ value_in function.now) }
 {
     let mut args = List::new(alloc);

@@ -60,12 +60,7 @@ fn rename_terms(
 /// to.
 #[cycle(rename)]
 #[tactic(auto, using(crate::specs::Renamed::renamed_equations))]
-pub(crate) fn rename(
-    alloc: Global,
-    variables: &[u32],
-    form: &Form,
-    depth: u32,
-) -> Result<Form, Memory>
+pub fn rename(alloc: Global, variables: &[u32], form: &Form, depth: u32) -> Result<Form, Memory>
     requires { depth + binder_depth form.now + length variables.now < 2 ^ 32 }
     ensures { IfOk result (λ made. made ≡ renamed variables.now depth form.now) }
 {

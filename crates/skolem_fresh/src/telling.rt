@@ -130,8 +130,9 @@ fn next_of(alloc: Global, body: &Form, chosen: &Use) -> Result<Boxed<Form>, Memo
     Ok(Boxed::new(alloc, instantiate(alloc, body, &value)?)?)
 }
 
-// The same shown, by the theory's formula of that number, which says of the function that it chooses.
-fn chosen_part(alloc: Global, chosen: &Use, number: u64, part: Part) -> Result<Part, Memory>
+/// The right side of an implication whose left side the part shows. The theory's formula of that number says it for all
+/// arguments of a function, as an entry by which the function chooses adds it; it is taken at the function's variables.
+pub fn chosen_part(alloc: Global, chosen: &Use, number: u64, part: Part) -> Result<Part, Memory>
     ensures { IfOk result (λ made. (t : Statements) (v : Listed ℕ) (h : Listed Formula) (a b c : Formula) → Sorted t.vocabulary v a → slice_get t.formulas number ≡ Some a
         → IsInstance t.vocabulary v a (map Var chosen.now.variables) (Imp b c) → Proves t v h part b → Proves t v h made c) }
 {

@@ -10,13 +10,14 @@ use Rattle.clause_rules.specs.Answers.{Rule as Word, norm, cover, tautology, res
 use Rattle.clause_rules.specs.NormRule.{HasNorm}
 use Rattle.clause_rules.specs.Steps.{IsClauseAt, clauses_of}
 use Rattle.kernel.specs.Statements.{Statements}
-use Rattle.skolem_fresh.specs.Alike.{choice_alike}
+use Rattle.skolem_fresh.specs.Alike.{choice_alike, skolem_alike}
+use Rattle.skolem_fresh.specs.SkolemRule.{IsSkolemStep}
 use Rattle.split_defs.specs.DefinitionRule.{definition_alike}
 use Rattle.split_defs.specs.SplitRule.{IsSplitStep}
 use Rattle.split_defs.specs.SplitSearch.{forms_of}
 use Rattle.elaborate.specs.ByRule.{Holds, IsFirst, GivesAlone, GivesNowhere, IsFirstAlone}
 use Rattle.elaborate.specs.declared.answer.Rule.{Rule}
-use Rattle.elaborate.specs.declared.answer.Rule.TheVariants.{Norm, Cover, Tautology, Resolution, Paramodulation, EqFactor, Rewrite, Split, Definition, Choice}
+use Rattle.elaborate.specs.declared.answer.Rule.TheVariants.{Norm, Cover, Tautology, Resolution, Paramodulation, EqFactor, Rewrite, Split, Skolem, Definition, Choice}
 use Rattle.verifier.proofs.Symbols.{SameSymbols, other_way}
 
 -- both have the same formulas
@@ -165,6 +166,7 @@ holds_alike t u line Paramodulation ps qs same alike holds = shaped_alike t u li
 holds_alike t u line EqFactor ps qs same alike holds = shaped_alike t u line eqfactor ps qs same alike holds
 holds_alike t u line Rewrite ps qs same alike holds = shaped_alike t u line rewrite ps qs same alike holds
 holds_alike t u line Split ps qs same alike holds = subst (λ (v : Vocabulary). IsSplitStep v (forms_of qs) line) same.vocabulary (subst (λ (fs : List Form). IsSplitStep t.vocabulary fs line) alike holds)
+holds_alike t u line Skolem ps qs same alike holds = skolem_alike t u same.vocabulary same.forth (forms_of qs) line (subst (λ (fs : List Form). IsSkolemStep t fs line) alike holds)
 holds_alike t u line Definition ps qs same alike holds = definition_alike t u line same.vocabulary same.forth holds
 holds_alike t u line Choice ps qs same alike holds = choice_alike t u same.vocabulary same.forth line holds
 

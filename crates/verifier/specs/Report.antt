@@ -4,7 +4,7 @@ use Rattle.std.specs.Prelude.{◌≡◌, ℕ, ◌+◌, ◌<◌, Bool, true, fals
 use Rattle.tptp_base.specs.declared.name.Name.{Name}
 use Rattle.fof_terms.specs.declared.form.Form.{Form, Or}
 use Rattle.elaborate.specs.declared.answer.Rule.{Rule}
-use Rattle.elaborate.specs.declared.answer.Rule.TheVariants.{Norm, Cover, Tautology, Resolution, Paramodulation, EqFactor, Rewrite, Split, Definition, Choice}
+use Rattle.elaborate.specs.declared.answer.Rule.TheVariants.{Norm, Cover, Tautology, Resolution, Paramodulation, EqFactor, Rewrite, Split, Skolem, Definition, Choice}
 use Rattle.elaborate.specs.declared.answer.Reason.{Reason}
 use Rattle.elaborate.specs.declared.answer.Reason.TheVariants.{NotYet, Leaf}
 use Rattle.szs_report.specs.Report.{line_text, verdict_text}
@@ -27,6 +27,7 @@ rule_name Paramodulation = codes "paramodulation"
 rule_name EqFactor = codes "eqfactor"
 rule_name Rewrite = codes "rewrite"
 rule_name Split = codes "split"
+rule_name Skolem = codes "skolem"
 rule_name Definition = codes "definition"
 rule_name Choice = codes "choice"
 

@@ -21,6 +21,7 @@ pub fn rule_name(rule: Rule) -> &'static [u8]
         Rule::EqFactor => b"eqfactor",
         Rule::Rewrite => b"rewrite",
         Rule::Split => b"split",
+        Rule::Skolem => b"skolem",
         Rule::Definition => b"definition",
         Rule::Choice => b"choice",
     }

@@ -1,0 +1,4 @@
+pub mod Choosing
+pub mod Leading
+pub mod Witnessed
+pub mod Witnessing
