@@ -35,7 +35,7 @@ use Rattle.skolem_fresh.specs.Uses.{AreNew}
 use Rattle.skolem_fresh.proofs.Skolemized.{depth_kept}
 use Rattle.skolem_fresh.proofs.SkolemSteps.{norm_within}
 use Rattle.skolem_proofs.specs.declared.whole.Skolemized.{Skolemized}
-use Rattle.skolem_proofs.specs.Choosing.{AreAbsent, IsWitnessedBy}
+use Rattle.skolem_proofs.specs.Choosing.{AreAbsent, ChooseAndEnd, IsWitnessedBy}
 use Rattle.skolem_proofs.specs.Leading.{LeadsToLine}
 use Rattle.skolem_proofs.proofs.Lacking.{norm_lacks}
 use Rattle.skolem_proofs.proofs.Standing.{fits_kept, no_larger, are_others}
@@ -143,6 +143,9 @@ module _ (t : Statements) (parents : List Parent) (line : Form) (i : ℕ) (uses 
         module _ (n : ℕ) (made : Skolemized) (by : IsWitnessedBy uses norm n made) (lined : SortedTo 1000000000 t.vocabulary [] line) where
           pub form_made : made.form ≡ result
           form_made = by.form t.vocabulary [] result replaced
+
+          pub choose_and_end : (just : SkolemJust) (whole : Proof) (entries : List Entry) → just ≡ Skolem i uses → entries ≡ made.choices ++ Lemma whole ∷ [] → ChooseAndEnd just entries
+          choose_and_end just whole entries ej e = subst (λ j. ChooseAndEnd j entries) (sym ej) (made.choices, whole, e, by.choose t.vocabulary [] result replaced)
 
           module _ (all : AreOfTheory t parents) where
             stated : slice_get t.formulas p.number ≡ Some p.form
