@@ -1,5 +1,5 @@
 -- The proof shows that the formula implies what it is with the functions.
-use Rattle.std.specs.Prelude.{ℕ, ◌≡◌, ◌+◌, ◌≤◌, ◌<◌, Bool, true, false, List, [], ◌∷◌, ◌++◌, length, map, Some, slice_get, refl}
+use Rattle.std.specs.Prelude.{ℕ, ◌≡◌, ◌+◌, ◌≤◌, ◌<◌, true, false, List, [], ◌∷◌, ◌++◌, length, map, Some, slice_get, refl}
 use Rattle.std.specs.List.{AllByRecursion as Each}
 use Rattle.std.proofs.Common.{ap, sym, subst, ◌∙◌, arith, append_assoc, zero, suc}
 use Rattle.fof_terms.specs.declared.term.Term.{Var}
@@ -7,7 +7,7 @@ use Rattle.fof_terms.specs.declared.form.Form.{Form, And, Or, Imp, All, Ex}
 use Rattle.fof_terms.specs.Instance.{instance_of, instance_at, instance_term}
 use Rattle.fof_terms.specs.Lift.{greatest, lifted-All}
 use Rattle.fof_terms.specs.Moved.{closed_anywhere}
-use Rattle.fof_terms.specs.Scoped.{SortedTo, Sorted, raised, or_sorted, sorted_of_and, sorted_of_or, sorted_of_imp, sorted_of_all, all_sorted}
+use Rattle.fof_terms.specs.Scoped.{Sorted, raised, or_sorted, sorted_of_and, sorted_of_or, sorted_of_imp, sorted_of_all, all_sorted}
 use Rattle.fof_terms.specs.Sorts.{binder_depth, binder_depth-And, binder_depth-Or, binder_depth-All, binder_depth-Ex}
 use Rattle.fof_terms.specs.Vocabulary.{Vocabulary}
 use Rattle.fof_terms.specs.Walks.{placing, same_depth}
@@ -17,7 +17,7 @@ use Rattle.kernel.specs.Proves.{Proves, over, all_over}
 use Rattle.kernel.specs.Rules.{ProveAll, ProveEach}
 use Rattle.kernel.specs.Building.{shown_sorted, over_sorted, by_hyp, by_imp_i, by_imp_e, by_and_i, by_and_e, by_or_i, by_or_e, by_all_i, by_all_e_here}
 use Rattle.kernel.specs.Entries.{choice}
-use Rattle.kernel.specs.declared.proof.Proof.{Proof, Hyp, AndI, AndE, OrI, OrE, ImpI, ImpE, AllI, AllE}
+use Rattle.kernel.specs.declared.proof.Proof.{Proof, Hyp, AndE, ImpI, ImpE, AllI, AllE}
 use Rattle.kernel.specs.declared.entry.Entry.{Entry}
 use Rattle.kernel.specs.declared.entry.Entry.TheVariants.{Declare, Lemma, Name, Choice}
 use Rattle.skolem_fresh.specs.declared.just.Use.{Use}
@@ -31,7 +31,7 @@ use Rattle.skolem_fresh.proofs.Chosen.{arguments_only}
 use Rattle.skolem_fresh.proofs.Openable.{use_symbol, same_symbol, choice_instance}
 use Rattle.skolem_fresh.proofs.Skolemized.{depth_kept}
 use Rattle.skolem_proofs.specs.Choosing.{ChooseInTurn}
-use Rattle.skolem_proofs.specs.Witnessed.{arm, arms, cases, StepShows, IsWitnessed, AreWitnessed, itself, a_conjunction, a_disjunction, for_each, for_some, none, more}
+use Rattle.skolem_proofs.specs.Witnessed.{arms, cases, StepShows, IsWitnessed, AreWitnessed, itself, a_conjunction, a_disjunction, for_each, for_some, none, more}
 
 -- it is the formula with the functions
 module _ (v : Vocabulary) where

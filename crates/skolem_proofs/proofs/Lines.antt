@@ -1,5 +1,5 @@
 -- The entries of a line that puts functions in place of a parent's existential variables.
-use Rattle.std.specs.Prelude.{ℕ, ◌≡◌, ◌+◌, ◌<◌, ◌≤◌, ◌^◌, ◌==◌, true, false, nat_eq, List, [], ◌∷◌, ◌++◌, length, map, get_or, slice_get, Option, Some, None, refl}
+use Rattle.std.specs.Prelude.{ℕ, ◌≡◌, ◌<◌, ◌≤◌, true, false, List, [], ◌∷◌, ◌++◌, length, get_or, slice_get, Option, Some, refl}
 use Rattle.std.specs.List.{AllByRecursion as Each, All as Every}
 use Rattle.std.specs.Option.{option_map}
 use Rattle.std.proofs.Common.{ap, sym, subst, ◌∙◌, arith, append_assoc, zero, suc}
@@ -7,8 +7,8 @@ use Rattle.std.proofs.lemmas.List.{append-nil, length-map}
 use Rattle.std.proofs.lemmas.Option.{slice_get-map, slice_get-get_or, slice_get_within}
 use Rattle.fof_terms.specs.declared.form.Form.{Form, Imp}
 use Rattle.fof_terms.specs.Occurs.{occurs_in}
-use Rattle.fof_terms.specs.Sorts.{SortedTo, Sorted, binder_depth}
-use Rattle.fof_terms.specs.Scoped.{raised, sorted_of_imp}
+use Rattle.fof_terms.specs.Sorts.{SortedTo, Sorted}
+use Rattle.fof_terms.specs.Scoped.{raised}
 use Rattle.fof_terms.specs.Vocabulary.{Vocabulary}
 use Rattle.clause_form.specs.declared.path.Parent.{Parent}
 use Rattle.clause_form.specs.Norm.{norm_of}
@@ -16,7 +16,7 @@ use Rattle.clause_form.specs.NormSize.{norm_small}
 use Rattle.clause_form.specs.Sizes.{norm_size_of}
 use Rattle.kernel.specs.Statements.{Statements}
 use Rattle.kernel.specs.Proves.{Proves}
-use Rattle.kernel.specs.Building.{shown_sorted, by_line, by_imp_e}
+use Rattle.kernel.specs.Building.{by_line, by_imp_e}
 use Rattle.kernel.specs.Entries.{IsFresh, Admits, with_formula}
 use Rattle.kernel.specs.EntryLaws.{admits_more}
 use Rattle.kernel.specs.declared.proof.Proof.{Proof, Line, ImpE}

@@ -1,20 +1,17 @@
 -- The walk through a whole normal form.
-use Rattle.std.specs.Prelude.{ℕ, ◌≡◌, ◌+◌, ◌<◌, ◌≤◌, false, nat_eq, List, [], ◌∷◌, ◌++◌, length, drop, refl}
+use Rattle.std.specs.Prelude.{ℕ, ◌≡◌, ◌+◌, ◌≤◌, List, [], ◌++◌, length, drop}
 use Rattle.std.proofs.Common.{ap, sym, subst, ◌∙◌, arith}
 use Rattle.std.proofs.lemmas.List.{append-nil}
 use Rattle.fof_terms.specs.declared.form.Form.{Form, Imp}
-use Rattle.fof_terms.specs.Occurs.{occurs_in}
 use Rattle.fof_terms.specs.Vocabulary.{Vocabulary}
 use Rattle.clause_form.specs.SizeLaws.{depth_within_size}
 use Rattle.clause_form.specs.Sizes.{norm_size_of}
 use Rattle.kernel.specs.Proves.{Proves}
-use Rattle.kernel.specs.Statements.{Statements}
 use Rattle.kernel.specs.declared.entry.Entry.{Entry}
 use Rattle.kernel.specs.declared.proof.Proof.{Proof}
 use Rattle.skolem_fresh.specs.declared.just.Use.{Use}
 use Rattle.skolem_fresh.specs.Choosing.{IsWithin}
 use Rattle.skolem_fresh.specs.SkolemRule.{IsSkolemized}
-use Rattle.skolem_proofs.specs.declared.whole.Skolemized.{Skolemized}
 use Rattle.skolem_proofs.specs.Choosing.{IsWitnessedBy}
 use Rattle.skolem_proofs.specs.Witnessed.{IsWitnessed}
 use Rattle.skolem_proofs.specs.Witnessing.{Goes, MayGo, Went}
