@@ -1,8 +1,8 @@
 -- The entries of the functions are legal in turn, and what they add has no symbols but those of the formula and the functions.
-use Rattle.std.specs.Prelude.{ℕ, ◌≡◌, ◌+◌, ◌≤◌, ◌==◌, ◌||◌, ◌&&◌, Bool, true, false, nat_eq, List, [], ◌∷◌, ◌++◌, length, map, slice_get, Option, Some, None, refl}
+use Rattle.std.specs.Prelude.{ℕ, ◌≡◌, ◌+◌, ◌==◌, ◌&&◌, true, false, nat_eq, List, [], ◌∷◌, ◌++◌, length, slice_get, Option, Some, None, refl}
 use Rattle.std.specs.List.{AllByRecursion as Each, All as Every, IsDistinct, list_any}
-use Rattle.std.proofs.Common.{ap, sym, subst, ◌∙◌, arith, append_assoc, zero, suc}
-use Rattle.std.proofs.lemmas.List.{append-nil, length-append}
+use Rattle.std.proofs.Common.{ap, sym, subst, ◌∙◌, arith, append_assoc, suc}
+use Rattle.std.proofs.lemmas.List.{length-append}
 use Rattle.std.proofs.lemmas.List.Elements.{All-nil, All-append}
 use Rattle.std.proofs.lemmas.Map.Keys.{IsDistinct-head, IsDistinct-tail}
 use Rattle.fof_terms.specs.declared.form.Form.{Form, And, Or, All, Ex}
@@ -12,7 +12,7 @@ use Rattle.fof_terms.specs.Occurs.{occurs_in, occurs_in_term, occurs_in-And, occ
 use Rattle.fof_terms.specs.Variables.{has_variable}
 use Rattle.fof_terms.specs.Vocabulary.{Vocabulary}
 use Rattle.kernel.specs.Statements.{Statements}
-use Rattle.kernel.specs.Entries.{choice, IsFresh, Admits, with_formula}
+use Rattle.kernel.specs.Entries.{choice, Admits, with_formula}
 use Rattle.kernel.specs.EntryLaws.{admits_append}
 use Rattle.kernel.specs.declared.proof.Proof.{Proof}
 use Rattle.kernel.specs.declared.entry.Entry.{Entry}
@@ -23,7 +23,6 @@ use Rattle.skolem_fresh.specs.Choosing.{IsWithin}
 use Rattle.skolem_fresh.specs.Entered.{added_by, formulas_told, Enters}
 use Rattle.skolem_fresh.specs.Only.{only_has, only_has-Ex}
 use Rattle.skolem_fresh.specs.Renamed.{renamed}
-use Rattle.skolem_fresh.specs.SkolemRule.{MayReplace}
 use Rattle.skolem_fresh.specs.Told.{AddedFrom}
 use Rattle.skolem_fresh.specs.Uses.{value_of, functions_of}
 use Rattle.skolem_fresh.proofs.Admitting.{symbol, at_symbol, choice_sorted, may_choose, renamed_occurs}

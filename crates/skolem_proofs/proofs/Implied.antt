@@ -1,5 +1,5 @@
 -- The proof shows that the formula implies what it is with the functions.
-use Rattle.std.specs.Prelude.{ℕ, ◌≡◌, ◌+◌, ◌≤◌, ◌<◌, Bool, true, false, List, [], ◌∷◌, ◌++◌, length, map, Some, slice_get, refl}
+use Rattle.std.specs.Prelude.{ℕ, ◌≡◌, ◌+◌, ◌≤◌, ◌<◌, true, false, List, [], ◌∷◌, ◌++◌, length, map, Some, slice_get, refl}
 use Rattle.std.specs.List.{AllByRecursion as Each}
 use Rattle.std.proofs.Common.{ap, sym, subst, ◌∙◌, arith, append_assoc, zero, suc}
 use Rattle.fof_terms.specs.declared.term.Term.{Var}
@@ -7,7 +7,7 @@ use Rattle.fof_terms.specs.declared.form.Form.{Form, And, Or, Imp, All, Ex}
 use Rattle.fof_terms.specs.Instance.{instance_of, instance_at, instance_term}
 use Rattle.fof_terms.specs.Lift.{greatest, lifted-All}
 use Rattle.fof_terms.specs.Moved.{closed_anywhere}
-use Rattle.fof_terms.specs.Scoped.{SortedTo, Sorted, raised, or_sorted, sorted_of_and, sorted_of_or, sorted_of_imp, sorted_of_all, all_sorted}
+use Rattle.fof_terms.specs.Scoped.{Sorted, raised, or_sorted, sorted_of_and, sorted_of_or, sorted_of_imp, sorted_of_all, all_sorted}
 use Rattle.fof_terms.specs.Sorts.{binder_depth, binder_depth-And, binder_depth-Or, binder_depth-All, binder_depth-Ex}
 use Rattle.fof_terms.specs.Vocabulary.{Vocabulary}
 use Rattle.fof_terms.specs.Walks.{placing, same_depth}
@@ -17,7 +17,7 @@ use Rattle.kernel.specs.Proves.{Proves, over, all_over}
 use Rattle.kernel.specs.Rules.{ProveAll, ProveEach}
 use Rattle.kernel.specs.Building.{shown_sorted, over_sorted, by_hyp, by_imp_i, by_imp_e, by_and_i, by_and_e, by_or_i, by_or_e, by_all_i, by_all_e_here}
 use Rattle.kernel.specs.Entries.{choice}
-use Rattle.kernel.specs.declared.proof.Proof.{Proof, Hyp, AndI, AndE, OrI, OrE, ImpI, ImpE, AllI, AllE}
+use Rattle.kernel.specs.declared.proof.Proof.{Proof, Hyp, AndE, ImpI, ImpE, AllI, AllE}
 use Rattle.kernel.specs.declared.entry.Entry.{Entry}
 use Rattle.kernel.specs.declared.entry.Entry.TheVariants.{Declare, Lemma, Name, Choice}
 use Rattle.skolem_fresh.specs.declared.just.Use.{Use}
@@ -30,7 +30,8 @@ use Rattle.skolem_fresh.specs.Uses.{value_of}
 use Rattle.skolem_fresh.proofs.Chosen.{arguments_only}
 use Rattle.skolem_fresh.proofs.Openable.{use_symbol, same_symbol, choice_instance}
 use Rattle.skolem_fresh.proofs.Skolemized.{depth_kept}
-use Rattle.skolem_proofs.specs.Witnessed.{arm, arms, cases, StepShows, IsWitnessed, AreWitnessed, itself, a_conjunction, a_disjunction, for_each, for_some, none, more}
+use Rattle.skolem_proofs.specs.Choosing.{ChooseInTurn}
+use Rattle.skolem_proofs.specs.Witnessed.{arms, cases, StepShows, IsWitnessed, AreWitnessed, itself, a_conjunction, a_disjunction, for_each, for_some, none, more}
 
 -- it is the formula with the functions
 module _ (v : Vocabulary) where
@@ -46,6 +47,29 @@ module _ (v : Vocabulary) where
     all_skolemized scope n uses as_ bs told ps (none sc m) = rule.none sc
     all_skolemized scope n uses as_ bs told ps (more sc m first rest c d cs ds ts os q qs w ws) =
         rule.more sc first rest c d cs ds (as_skolemized sc m first c d ts q w) (all_skolemized sc (m + length ts) rest cs ds os qs ws)
+
+-- each function has its entry
+choose_both : (first rest : List Use) (told others : List Entry) → ChooseInTurn first told → ChooseInTurn rest others → ChooseInTurn (first ++ rest) (told ++ others)
+choose_both [] rest [] others h g = g
+choose_both [] rest (e ∷ told) others h g = absurd h
+choose_both (u ∷ first) rest [] others h g = absurd h
+choose_both (u ∷ first) rest (Choice f a ∷ told) others h g = (h.0, choose_both first rest told others h.1 g)
+choose_both (u ∷ first) rest (Declare d ∷ told) others h g = absurd h
+choose_both (u ∷ first) rest (Lemma p ∷ told) others h g = absurd h
+choose_both (u ∷ first) rest (Name k a ∷ told) others h g = absurd h
+
+module _ (v : Vocabulary) where
+  mutual
+    pub choose_in_turn : (scope : List ℕ) (n : ℕ) (uses : List Use) (a b : Form) (told : List Entry) (p : Proof) → IsWitnessed v scope n uses a b told p → ChooseInTurn uses told
+    choose_in_turn scope n uses a b told p (itself sc m c k) = tt
+    choose_in_turn scope n uses a b told p (a_conjunction sc m us as_ bs ts ps w) = all_choose sc m us as_ bs ts ps w
+    choose_in_turn scope n uses a b told p (a_disjunction sc m us as_ bs ts ps w) = all_choose sc m us as_ bs ts ps w
+    choose_in_turn scope n uses a b told p (for_each sc m us s c d ts q w) = choose_in_turn (s ∷ sc) m us c d ts q w
+    choose_in_turn scope n uses a b told p (for_some sc m u us s c d ts step q may shows w) = (refl, choose_in_turn sc (m + 1) us (instance_of c (value_of u)) d ts q w)
+
+    all_choose : (scope : List ℕ) (n : ℕ) (uses : List Use) (as_ bs : List Form) (told : List Entry) (ps : List Proof) → AreWitnessed v scope n uses as_ bs told ps → ChooseInTurn uses told
+    all_choose scope n uses as_ bs told ps (none sc m) = tt
+    all_choose scope n uses as_ bs told ps (more sc m first rest c d cs ds ts os q qs w ws) = choose_both first rest ts os (choose_in_turn sc m first c d ts q w) (all_choose sc (m + length ts) rest cs ds os qs ws)
 
 -- more variables further out
 module _ (v : Vocabulary) (back : List ℕ) where

@@ -1,7 +1,7 @@
 -- A symbol that is not in a formula is not in its normal form.
-use Rattle.std.specs.Prelude.{ℕ, ◌≡◌, ◌||◌, ◌&&◌, Bool, true, false, not, List, [], ◌∷◌, map, refl}
+use Rattle.std.specs.Prelude.{ℕ, ◌≡◌, ◌&&◌, Bool, true, false, not, List, [], ◌∷◌, map, refl}
 use Rattle.std.specs.List.{AllByRecursion as Each, list_any}
-use Rattle.std.proofs.Common.{ap, sym, subst, ◌∙◌, inl, inr, ◌⊎◌}
+use Rattle.std.proofs.Common.{sym, subst, ◌∙◌, inl, inr, ◌⊎◌}
 use Rattle.fof_terms.specs.declared.term.Term.{Var}
 use Rattle.fof_terms.specs.declared.form.Form.{Form}
 use Rattle.fof_terms.specs.Induction.{form_induction}

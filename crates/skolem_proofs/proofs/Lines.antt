@@ -1,5 +1,5 @@
 -- The entries of a line that puts functions in place of a parent's existential variables.
-use Rattle.std.specs.Prelude.{ℕ, ◌≡◌, ◌+◌, ◌<◌, ◌≤◌, ◌^◌, ◌==◌, true, false, nat_eq, List, [], ◌∷◌, ◌++◌, length, map, get_or, slice_get, Option, Some, None, refl}
+use Rattle.std.specs.Prelude.{ℕ, ◌≡◌, ◌<◌, ◌≤◌, true, false, List, [], ◌∷◌, ◌++◌, length, get_or, slice_get, Option, Some, refl}
 use Rattle.std.specs.List.{AllByRecursion as Each, All as Every}
 use Rattle.std.specs.Option.{option_map}
 use Rattle.std.proofs.Common.{ap, sym, subst, ◌∙◌, arith, append_assoc, zero, suc}
@@ -7,8 +7,8 @@ use Rattle.std.proofs.lemmas.List.{append-nil, length-map}
 use Rattle.std.proofs.lemmas.Option.{slice_get-map, slice_get-get_or, slice_get_within}
 use Rattle.fof_terms.specs.declared.form.Form.{Form, Imp}
 use Rattle.fof_terms.specs.Occurs.{occurs_in}
-use Rattle.fof_terms.specs.Sorts.{SortedTo, Sorted, binder_depth}
-use Rattle.fof_terms.specs.Scoped.{raised, sorted_of_imp}
+use Rattle.fof_terms.specs.Sorts.{SortedTo, Sorted}
+use Rattle.fof_terms.specs.Scoped.{raised}
 use Rattle.fof_terms.specs.Vocabulary.{Vocabulary}
 use Rattle.clause_form.specs.declared.path.Parent.{Parent}
 use Rattle.clause_form.specs.Norm.{norm_of}
@@ -16,7 +16,7 @@ use Rattle.clause_form.specs.NormSize.{norm_small}
 use Rattle.clause_form.specs.Sizes.{norm_size_of}
 use Rattle.kernel.specs.Statements.{Statements}
 use Rattle.kernel.specs.Proves.{Proves}
-use Rattle.kernel.specs.Building.{shown_sorted, by_line, by_imp_e}
+use Rattle.kernel.specs.Building.{by_line, by_imp_e}
 use Rattle.kernel.specs.Entries.{IsFresh, Admits, with_formula}
 use Rattle.kernel.specs.EntryLaws.{admits_more}
 use Rattle.kernel.specs.declared.proof.Proof.{Proof, Line, ImpE}
@@ -35,7 +35,7 @@ use Rattle.skolem_fresh.specs.Uses.{AreNew}
 use Rattle.skolem_fresh.proofs.Skolemized.{depth_kept}
 use Rattle.skolem_fresh.proofs.SkolemSteps.{norm_within}
 use Rattle.skolem_proofs.specs.declared.whole.Skolemized.{Skolemized}
-use Rattle.skolem_proofs.specs.Choosing.{AreAbsent, IsWitnessedBy}
+use Rattle.skolem_proofs.specs.Choosing.{AreAbsent, ChooseAndEnd, IsWitnessedBy}
 use Rattle.skolem_proofs.specs.Leading.{LeadsToLine}
 use Rattle.skolem_proofs.proofs.Lacking.{norm_lacks}
 use Rattle.skolem_proofs.proofs.Standing.{fits_kept, no_larger, are_others}
@@ -143,6 +143,9 @@ module _ (t : Statements) (parents : List Parent) (line : Form) (i : ℕ) (uses 
         module _ (n : ℕ) (made : Skolemized) (by : IsWitnessedBy uses norm n made) (lined : SortedTo 1000000000 t.vocabulary [] line) where
           pub form_made : made.form ≡ result
           form_made = by.form t.vocabulary [] result replaced
+
+          pub choose_and_end : (just : SkolemJust) (whole : Proof) (entries : List Entry) → just ≡ Skolem i uses → entries ≡ made.choices ++ Lemma whole ∷ [] → ChooseAndEnd just entries
+          choose_and_end just whole entries ej e = subst (λ j. ChooseAndEnd j entries) (sym ej) (made.choices, whole, e, by.choose t.vocabulary [] result replaced)
 
           module _ (all : AreOfTheory t parents) where
             stated : slice_get t.formulas p.number ≡ Some p.form

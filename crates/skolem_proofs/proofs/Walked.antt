@@ -1,33 +1,31 @@
 -- The walk through a formula, as code meets its steps.
-use Rattle.std.specs.Prelude.{ℕ, ◌≡◌, ◌+◌, ◌-◌, ◌<◌, ◌≤◌, ◌^◌, Bool, true, false, List, [], ◌∷◌, ◌++◌, length, map, sum, take, drop, get_or, Some, slice_get, Result, Ok, Err, IfOk, refl}
-use Rattle.std.specs.List.{AllByRecursion as Each, remove}
-use Rattle.std.proofs.Common.{ap, sym, subst, ◌∙◌, arith, append_assoc, zero, suc, add-one}
+use Rattle.std.specs.Prelude.{ℕ, ◌≡◌, ◌+◌, ◌<◌, ◌^◌, Bool, true, false, List, [], ◌∷◌, ◌++◌, length, map, sum, drop, get_or, Some, slice_get, Result, Ok, Err, IfOk, refl}
+use Rattle.std.proofs.Common.{ap, sym, subst, ◌∙◌, arith, append_assoc, zero, suc}
 use Rattle.std.proofs.lemmas.List.{append-nil, length-append}
 use Rattle.fof_terms.specs.declared.term.Term.{Term}
-use Rattle.fof_terms.specs.declared.form.Form.{Form, Atom, Eq, Not, And, Or, Imp, Iff, All, Ex}
-use Rattle.fof_terms.specs.declared.form.Form.TheViews.{outs-Atom, outs-Eq, outs-Not, outs-Imp, outs-Iff}
+use Rattle.fof_terms.specs.declared.form.Form.{Form, Atom, Eq, Not, And, Or, All, Ex}
+use Rattle.fof_terms.specs.declared.form.Form.TheViews.{outs-Atom, outs-Eq, outs-Not}
 use Rattle.fof_terms.specs.Instance.{instance_of, instance_reach}
-use Rattle.fof_terms.specs.Sorts.{binder_depth, sort_of_term}
+use Rattle.fof_terms.specs.Sorts.{binder_depth}
 use Rattle.fof_terms.specs.Vocabulary.{Vocabulary}
 use Rattle.clause_form.specs.Norm.{node}
 use Rattle.clause_form.specs.Sizes.{norm_size_of, norm_size_of-All, norm_size_of-Ex}
 use Rattle.kernel.specs.declared.entry.Entry.{Entry}
 use Rattle.kernel.specs.declared.entry.Entry.TheVariants.{Choice}
-use Rattle.kernel.specs.declared.proof.Proof.{Proof, Hyp, AndI, AndE, OrI, OrE, ImpI, ImpE, AllI, AllE}
+use Rattle.kernel.specs.declared.proof.Proof.{Proof, Hyp, AndI, OrE, ImpI, ImpE, AllI, AllE}
 use Rattle.fof_terms.specs.declared.term.Term.{Var}
 use Rattle.skolem_fresh.specs.declared.just.Use.{Use}
 use Rattle.skolem_fresh.specs.Choosing.{IsWithin}
 use Rattle.skolem_fresh.specs.Renamed.{renamed}
-use Rattle.skolem_fresh.specs.SkolemRule.{MayReplace, IsSkolemized, AreSkolemized}
-use Rattle.skolem_fresh.specs.SkolemRule as rule
+use Rattle.skolem_fresh.specs.SkolemRule.{MayReplace, IsSkolemized}
 use Rattle.skolem_fresh.specs.Uses.{value_of}
 use Rattle.skolem_fresh.proofs.Chosen.{within_all}
 use Rattle.skolem_fresh.proofs.Opened.{body_room, within_value, value_reaches}
 use Rattle.skolem_fresh.proofs.Skolemized.{SkolemizedIn, skolemized_in}
-use Rattle.skolem_fresh.proofs.WalkCode.{taken_snoc, whole_from, node_size, members_within, one_size, each_at, instance_size}
-use Rattle.skolem_fresh.proofs.Walking.{first_of, none_of, node_in, all_in, some_in}
+use Rattle.skolem_fresh.proofs.WalkCode.{node_size, members_within, instance_size}
+use Rattle.skolem_fresh.proofs.Walking.{none_of, node_in, all_in, some_in}
 use Rattle.skolem_fresh.proofs.WholeLines.{few_variables}
-use Rattle.skolem_proofs.specs.Witnessed.{arm, arms, cases, StepShows, IsWitnessed, AreWitnessed, itself, a_conjunction, a_disjunction, for_each, for_some, none, more}
+use Rattle.skolem_proofs.specs.Witnessed.{arms, cases, StepShows, IsWitnessed, AreWitnessed, itself, a_conjunction, a_disjunction, for_each, for_some, none, more}
 use Rattle.skolem_proofs.specs.Witnessing.{Goes, MayGo, Went, AllGo, MayAllGo, WentSoFar}
 
 -- the first of what is left of a list

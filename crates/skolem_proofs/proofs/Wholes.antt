@@ -1,25 +1,22 @@
 -- The walk through a whole normal form.
-use Rattle.std.specs.Prelude.{ℕ, ◌≡◌, ◌+◌, ◌<◌, ◌≤◌, false, nat_eq, List, [], ◌∷◌, ◌++◌, length, drop, refl}
+use Rattle.std.specs.Prelude.{ℕ, ◌≡◌, ◌+◌, ◌≤◌, List, [], ◌++◌, length, drop}
 use Rattle.std.proofs.Common.{ap, sym, subst, ◌∙◌, arith}
 use Rattle.std.proofs.lemmas.List.{append-nil}
 use Rattle.fof_terms.specs.declared.form.Form.{Form, Imp}
-use Rattle.fof_terms.specs.Occurs.{occurs_in}
 use Rattle.fof_terms.specs.Vocabulary.{Vocabulary}
 use Rattle.clause_form.specs.SizeLaws.{depth_within_size}
 use Rattle.clause_form.specs.Sizes.{norm_size_of}
 use Rattle.kernel.specs.Proves.{Proves}
-use Rattle.kernel.specs.Statements.{Statements}
 use Rattle.kernel.specs.declared.entry.Entry.{Entry}
 use Rattle.kernel.specs.declared.proof.Proof.{Proof}
 use Rattle.skolem_fresh.specs.declared.just.Use.{Use}
 use Rattle.skolem_fresh.specs.Choosing.{IsWithin}
 use Rattle.skolem_fresh.specs.SkolemRule.{IsSkolemized}
-use Rattle.skolem_proofs.specs.declared.whole.Skolemized.{Skolemized}
 use Rattle.skolem_proofs.specs.Choosing.{IsWitnessedBy}
 use Rattle.skolem_proofs.specs.Witnessed.{IsWitnessed}
 use Rattle.skolem_proofs.specs.Witnessing.{Goes, MayGo, Went}
 use Rattle.skolem_proofs.proofs.Admitted.{enters, told_lacks}
-use Rattle.skolem_proofs.proofs.Implied.{implies, wider}
+use Rattle.skolem_proofs.proofs.Implied.{implies, choose_in_turn, wider}
 
 module _ (uses : List Use) (norm : Form) (start : List Entry) (es : start ≡ []) where
   abbrev all : List Use
@@ -47,6 +44,7 @@ module _ (uses : List Use) (norm : Form) (start : List Entry) (es : start ≡ []
     pub witnessed : IsWitnessedBy uses norm first (record { form = form; choices = new; proof = part })
     witnessed = record {
       form = λ v scope b h. (is_made v scope b h).1;
+      choose = λ v scope b h. choose_in_turn v scope first uses norm form new part (is_made v scope b h).0;
       enter = λ t scope b h within fresh absent. enters t scope first uses norm form new part (is_made t.vocabulary scope b h).0 within fresh.distinct fresh.fresh absent;
       speaks = λ v scope b h k off others. told_lacks k v scope first uses norm form new part (is_made v scope b h).0 off others;
       shows = λ t scope back h b made few sorted added.

@@ -8,6 +8,7 @@ ghost use Rattle.derive_kit.specs.Derived.{AreOfTheory, IsDerivedFrom, numbers_o
 ghost use Rattle.derive_kit.specs.Placed.{SortedSomewhere};
 ghost use Rattle.skolem_fresh.specs.Justified.{ShowsSkolem};
 ghost use Rattle.skolem_fresh.specs.SkolemRule.{forms_of};
+ghost use Rattle.skolem_proofs.specs.Choosing.{ChooseAndEnd};
 ghost use Rattle.skolem_proofs.specs.Leading.{LeadsToLine};
 
 use crate::whole::{Skolemized, skolem_proof};
@@ -33,7 +34,8 @@ pub fn skolem_entries(
     requires ready { Each (λ (p : Stated). SortedTo 1000000000 theory.now.vocabulary [] p.form) parents.now }
     requires line { SortedTo 1000000000 theory.now.vocabulary [] line.now }
     requires shows { ShowsSkolem theory.now (forms_of parents.now) line.now just.now }
-    ensures { IfOk result (λ entries. IsDerivedFrom theory.now (numbers_of parents.now) entries line.now) }
+    ensures derives { IfOk result (λ entries. IsDerivedFrom theory.now (numbers_of parents.now) entries line.now) }
+    ensures choose { IfOk result (ChooseAndEnd just.now) }
 {
     let SkolemJust::Skolem { parent, uses } = just else {
         return Err(Memory);

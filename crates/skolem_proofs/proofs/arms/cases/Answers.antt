@@ -1,5 +1,5 @@
-use Rattle.std.proofs.Common.{arith, refl, sym, ap, subst, ◌∙◌, ◌≡◌, ◌<◌, length}
-use Rattle.skolem_proofs.proofs.Looped.{cases_next, cases_done}
+use Rattle.std.proofs.Common.{refl, sym, subst, ◌∙◌, ◌<◌, length}
+use Rattle.skolem_proofs.proofs.Looped.{cases_next}
 use Rattle.skolem_proofs.proofs.arms.cases.Goals as goal
 
 pub loop-number-preserved : goal.loop-number-preserved

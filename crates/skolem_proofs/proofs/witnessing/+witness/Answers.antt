@@ -1,4 +1,4 @@
-use Rattle.std.proofs.Common.{arith, sym, ap, subst, refl, ◌≡◌, ◌<◌, ◌∙◌, ◌+◌, ◌∷◌, true, false, length, drop, get_or}
+use Rattle.std.proofs.Common.{arith, ap, subst, refl, ◌≡◌, ◌∙◌, ◌+◌, ◌∷◌, true, false, length, drop, get_or}
 use Rattle.fof_terms.specs.declared.form.Form.{And, Or, All}
 use Rattle.fof_terms.specs.Instance.{instance_of}
 use Rattle.clause_form.specs.Sizes.{norm_size_of}
