@@ -33,9 +33,9 @@ pub record IsLogOf (limit : ℕ) (text : List ℕ) (entries : List Entry) : Type
   pub is : log_text entries ≡ text
   pub within : Within limit (nested_log entries)
 
--- The entries can be read back from their text: each of them stands in logs, and no tree in them is nested too deep.
-abbrev pub CanBeRead : ℕ → List Entry → Type 0
-CanBeRead limit entries = AreLogged entries × Within limit (nested_log entries)
+-- No tree in the entries is nested deeper than the limit.
+abbrev pub NestWithin : ℕ → List Entry → Type 0
+NestWithin limit entries = Within limit (nested_log entries)
 
 -- What each answer tells of the text. Want of memory tells nothing.
 abbrev pub Tells : ℕ → List ℕ → LogFault → Type 0

@@ -9,9 +9,10 @@ use Rattle.kernel.specs.Statements.{Statements}
 use Rattle.kernel.specs.Entries.{Legal, After, Admits}
 use Rattle.kernel.specs.EntryLaws.{admits_more}
 use Rattle.kernel.specs.declared.entry.Entry.{Entry}
-use Rattle.proof_log.specs.Entries.{entry_text}
+use Rattle.proof_log.specs.Entries.{AreNumbersInRange, HaveNumbersInRange, entry_text}
 use Rattle.verifier.specs.Logged.{CanAdmit, LogsSome, entries_text}
 use Rattle.proof_log.proofs.OneTheory.{one_after}
+use Rattle.verifier.proofs.Logs.{range_both}
 
 -- Some entries are added and logged, and the rest is legal in turn after them.
 pub record IsAdding (t0 : Statements) (all : List Entry) (t : Statements) (done rest : List Entry) (log_old log_now : Option (List ℕ)) : Type 0 where
@@ -19,9 +20,10 @@ pub record IsAdding (t0 : Statements) (all : List Entry) (t : Statements) (done 
   pub admitted : Admits t0 done t
   pub can : CanAdmit t rest
   pub taken : Takes log_old log_now (entries_text done)
+  pub in_range : HaveNumbersInRange done
 
 pub adding_none : (t : Statements) (all : List Entry) (log : Option (List ℕ)) → CanAdmit t all → IsAdding t all t [] all log log
-adding_none t all log can = record { whole = refl; admitted = refl; can = can; taken = takes_nothing log }
+adding_none t all log can = record { whole = refl; admitted = refl; can = can; taken = takes_nothing log; in_range = tt }
 
 pub adding_legal : (t0 : Statements) (all : List Entry) (t : Statements) (done now rest : List Entry) (e : Entry) (log_old log_now : Option (List ℕ)) → now ≡ e ∷ rest → IsAdding t0 all t done now log_old log_now → Legal t e
 adding_legal t0 all t done now rest e log_old log_now here so_far =
@@ -31,8 +33,8 @@ text_more : (done : List Entry) (e : Entry) → entries_text (done ++ e ∷ []) 
 text_more done e = flat_map-append entry_text done (e ∷ []) ∙ ap (λ (text : List ℕ). entries_text done ++ text) (append-nil (entry_text e))
 
 pub adding_more : (t0 : Statements) (all : List Entry) (t new : Statements) (done longer now rest : List Entry) (e : Entry) (log_old log_now log_new : Option (List ℕ)) → now ≡ e ∷ rest → longer ≡ done ++ e ∷ [] → IsAdding t0 all t done now log_old log_now
-    → After t e new → Takes log_now log_new (entry_text e) → IsAdding t0 all new longer rest log_old log_new
-adding_more t0 all t new done longer now rest e log_old log_now log_new here added so_far after taken =
+    → After t e new → Takes log_now log_new (entry_text e) → AreNumbersInRange e → IsAdding t0 all new longer rest log_old log_new
+adding_more t0 all t new done longer now rest e log_old log_now log_new here added so_far after taken fits =
     let before : IsAdding t0 all t done (e ∷ rest) log_old log_now = subst (λ (es : List Entry). IsAdding t0 all t done es log_old log_now) here so_far in
     let can : CanAdmit t (e ∷ rest) = before.can in
     let same : can.1.1.0 ≡ new = one_after t e can.1.1.0 new can.1.1.1 after in
@@ -41,6 +43,7 @@ adding_more t0 all t new done longer now rest e log_old log_now log_new here add
       admitted = admits_more t0 t new done e before.admitted can.1.0 after;
       can = (can.0, subst (λ (x : Statements). Admits x rest can.0) same can.1.1.2);
       taken = takes_both log_old log_now log_new (entries_text done) (entry_text e) before.taken taken ∙ ap (λ (text : List ℕ). append_known log_old text) (sym (text_more done e));
+      in_range = range_both done (e ∷ []) before.in_range (fits, tt);
     })
 
 -- the text of the next entry is cut
@@ -56,10 +59,10 @@ adding_cut t0 all t done now rest e log_old log_now log_new here so_far cut =
       taken = subst (TakesPrefix log_old log_new) (sym (text_more done e)) (takes_then_prefix log_old log_now log_new (entries_text done) (entry_text e) before.taken cut);
     }
 
-pub adding_all : (t0 : Statements) (all : List Entry) (t : Statements) (done rest : List Entry) (log_old log_now : Option (List ℕ)) → rest ≡ [] → IsAdding t0 all t done rest log_old log_now → Admits t0 all t × Takes log_old log_now (entries_text all)
+pub adding_all : (t0 : Statements) (all : List Entry) (t : Statements) (done rest : List Entry) (log_old log_now : Option (List ℕ)) → rest ≡ [] → IsAdding t0 all t done rest log_old log_now → Admits t0 all t × Takes log_old log_now (entries_text all) × HaveNumbersInRange all
 adding_all t0 all t done rest log_old log_now none so_far =
     let same : done ≡ all = sym (append-nil done) ∙ ap (λ (es : List Entry). done ++ es) (sym none) ∙ so_far.whole in
-    (subst (λ (es : List Entry). Admits t0 es t) same so_far.admitted, subst (λ (es : List Entry). Takes log_old log_now (entries_text es)) same so_far.taken)
+    (subst (λ (es : List Entry). Admits t0 es t) same so_far.admitted, subst (λ (es : List Entry). Takes log_old log_now (entries_text es)) same so_far.taken, subst HaveNumbersInRange same so_far.in_range)
 
 -- the entry at a place
 pub entry_here : (es : List Entry) (i : ℕ) (e : Entry) → i < length es → e ≡ get_or es i e → drop i es ≡ e ∷ drop (i + 1) es

@@ -14,3 +14,4 @@ pub mod Slots
 pub mod Speaking
 pub mod Symbols
 pub mod Turns
+pub mod Writing

@@ -61,12 +61,13 @@ skips_line d p place line found log there found_is none = record {
   entries = [];
   is = subst (λ (ps : Option (List Parent)). IsAnswered d.given p place line ps Skipped [] p) (sym none ∙ found_is) (refl, refl);
   taken = takes_nothing log;
+  in_range = tt;
 }
 
 -- a line whose answer is taken
 pub takes_line : (d : Derivation) (p : Progress) (place : ℕ) (line : Line) (parents : List Parent) (answer : StepAnswer) (said : LineAnswer) (new : Progress) (log_old log_new : Option (List ℕ)) → IsLineAt d place line → parents_of d.given d.forms p.numbers line.node.parents ≡ Some parents
     → Answers p.theory d.given line parents answer → TakesAnswer answer p place said new log_old log_new → AnswersLine d p place said new log_old log_new
-takes_line d p place line parents (step.Accepted rule cites entries) said new log_old log_new there known answers (said_is, admits, new_is, taken) =
+takes_line d p place line parents (step.Accepted rule cites entries) said new log_old log_new there known answers (said_is, admits, new_is, taken, fits) =
     let is : IsAnswered d.given p place line (Some parents) (Accepted rule cites) entries new = (answers, (new.theory, admits, new_is)) in
     record {
       line = line;
@@ -74,6 +75,7 @@ takes_line d p place line parents (step.Accepted rule cites entries) said new lo
       entries = entries;
       is = subst (λ (ps : Option (List Parent)). IsAnswered d.given p place line ps said entries new) (sym known) (subst (λ (s : LineAnswer). IsAnswered d.given p place line (Some parents) s entries new) (sym said_is) is);
       taken = taken;
+      in_range = fits;
     }
 takes_line d p place line parents (step.Unverified reason) said new log_old log_new there known answers (said_is, new_is, log_is) =
     let is : IsAnswered d.given p place line (Some parents) (Unverified reason) [] new = (answers, refl, new_is) in
@@ -83,12 +85,13 @@ takes_line d p place line parents (step.Unverified reason) said new log_old log_
       entries = [];
       is = subst (λ (ps : Option (List Parent)). IsAnswered d.given p place line ps said [] new) (sym known) (subst (λ (s : LineAnswer). IsAnswered d.given p place line (Some parents) s [] new) (sym said_is) is);
       taken = subst (λ (log : Option (List ℕ)). Takes log_old log []) (sym log_is) (takes_nothing log_old);
+      in_range = tt;
     }
 
 -- and what is known then
 pub takes_knows : (d : Derivation) (p : Progress) (place : ℕ) (line : Line) (parents : List Parent) (answer : StepAnswer) (said : LineAnswer) (new : Progress) (log_old log_new : Option (List ℕ)) → IsLineAt d place line
     → Answers p.theory d.given line parents answer → Knows d p → TakesAnswer answer p place said new log_old log_new → Knows d new
-takes_knows d p place line parents (step.Accepted rule cites entries) said new log_old log_new there answers knows (said_is, admits, new_is, taken) =
+takes_knows d p place line parents (step.Accepted rule cites entries) said new log_old log_new there answers knows (said_is, admits, new_is, taken, fits) =
     subst (Knows d) (sym new_is)
     (knows_more d p knows place line.form new.theory there.form (accepted_theory line.node.leaf p.theory new.theory d.given line.node.cited parents line.form rule cites entries answers admits))
 takes_knows d p place line parents (step.Unverified reason) said new log_old log_new there answers knows (said_is, new_is, log_is) = subst (Knows d) (sym new_is) knows

@@ -19,7 +19,7 @@ use Rattle.szs_report.specs.declared.answer.Verdict.{Verdict}
 use Rattle.szs_report.specs.declared.answer.Verdict.TheVariants.{Failed, NoFalse, BadClaim, Verified}
 use Rattle.std.proofs.lemmas.List.{append-nil}
 use Rattle.tptp_base.specs.Sink.{Takes, TakesPrefix}
-use Rattle.proof_log.specs.Entries.{entry_text}
+use Rattle.proof_log.specs.Entries.{AreNumbersInRange, entry_text}
 use Rattle.verifier.specs.Closing.{Closes, ClosesLog, IsVerified}
 use Rattle.verifier.specs.Logged.{LogsSome}
 use Rattle.verifier.specs.Lines.{Derivation, Line, parents_of}
@@ -94,12 +94,12 @@ run_refutes t start before d order answers entries end verdict last first run ve
 -- ---- the last entry
 
 -- the lemma that is logged where all is verified
-pub last_closes : (verdict : Verdict) (t : Statements) (number : ℕ) (old new : Option (List ℕ)) → IsVerified verdict → slice_get t.formulas number ≡ Some (Or []) → Takes old new (entry_text (Lemma (Cited number))) → ClosesLog verdict t old new
-last_closes (Failed unverified skipped lines) t number old new verified at taken = absurd verified
-last_closes NoFalse t number old new verified at taken = absurd verified
-last_closes (BadClaim word) t number old new verified at taken = absurd verified
-last_closes (Verified word problem lines) t number old new verified at taken =
-    (Lemma (Cited number) ∷ [], (Cited number, line_shows t number at, refl), subst (Takes old new) (sym (append-nil (entry_text (Lemma (Cited number))))) taken)
+pub last_closes : (verdict : Verdict) (t : Statements) (number : ℕ) (old new : Option (List ℕ)) → IsVerified verdict → slice_get t.formulas number ≡ Some (Or []) → Takes old new (entry_text (Lemma (Cited number))) → AreNumbersInRange (Lemma (Cited number)) → ClosesLog verdict t old new
+last_closes (Failed unverified skipped lines) t number old new verified at taken fits = absurd verified
+last_closes NoFalse t number old new verified at taken fits = absurd verified
+last_closes (BadClaim word) t number old new verified at taken fits = absurd verified
+last_closes (Verified word problem lines) t number old new verified at taken fits =
+    (Lemma (Cited number) ∷ [], (Cited number, line_shows t number at, refl), subst (Takes old new) (sym (append-nil (entry_text (Lemma (Cited number))))) taken, (fits, tt))
 
 -- the last entry is cut
 pub last_cut : (t : Statements) (number : ℕ) (old new : Option (List ℕ)) → slice_get t.formulas number ≡ Some (Or []) → TakesPrefix old new (entry_text (Lemma (Cited number))) → LogsSome t old new

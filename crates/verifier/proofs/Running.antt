@@ -8,6 +8,7 @@ use Rattle.kernel.specs.Statements.{Statements}
 use Rattle.kernel.specs.Entries.{Admits}
 use Rattle.kernel.specs.EntryLaws.{admits_append}
 use Rattle.kernel.specs.declared.entry.Entry.{Entry}
+use Rattle.proof_log.specs.Entries.{HaveNumbersInRange}
 use Rattle.clause_form.specs.declared.path.Parent.{Parent}
 use Rattle.tstp_graph.specs.declared.shape.Node.{Node}
 use Rattle.tstp_graph.specs.Order.{is_taken, TakesInTurn}
@@ -18,7 +19,7 @@ use Rattle.verifier.specs.Run.{Progress, IsAnswered, AnswersPlace, AreAnswered, 
 use Rattle.verifier.specs.Taking.{AnswersLine}
 use Rattle.verifier.specs.declared.answer.LineAnswer.{LineAnswer}
 use Rattle.verifier.specs.declared.answer.LineAnswer.TheVariants.{Accepted, Unverified, Skipped}
-use Rattle.verifier.proofs.Logs.{takes_more_entries, logs_more}
+use Rattle.verifier.proofs.Logs.{range_both, takes_more_entries, logs_more}
 use Rattle.verifier.proofs.Slots.{set_here, set_elsewhere}
 use Rattle.verifier.proofs.Turns.{HasTurn, turn_of, taken_last, taken_still, taken_apart}
 
@@ -54,6 +55,7 @@ pub record IsRunning (d : Derivation) (start : Progress) (order : List ℕ) (now
   pub legal : Admits start.theory entries now.theory
   pub goes_on : (final : List LineAnswer) → AgreeOn done final answers → (later : List Entry) (end : Progress) → AreAnswered d final now rest later end → AreAnswered d final start order (entries ++ later) end
   pub taken : Takes log_old log_now (entries_text entries)
+  pub in_range : HaveNumbersInRange entries
 
 pub running_none : (d : Derivation) (start : Progress) (order : List ℕ) (answers : List LineAnswer) (log : Option (List ℕ)) → TakesInTurn d.nodes [] order → length answers ≡ length d.nodes → IsRunning d start order start answers [] order log log
 running_none d start order answers log turns count = record {
@@ -63,6 +65,7 @@ running_none d start order answers log turns count = record {
   legal = refl;
   goes_on = λ final agree later end are. are;
   taken = takes_nothing log;
+  in_range = tt;
 }
 
 -- the place that has its turn
@@ -102,6 +105,7 @@ running_more d start order now new answers more done longer here rest place answ
             (later, refl, are),
           ));
       taken = takes_more_entries log_old log_now log_new before.entries answered.entries before.taken answered.taken;
+      in_range = range_both before.entries answered.entries before.in_range answered.in_range;
     }))
 
 -- the log is cut behind the lines so far
@@ -119,6 +123,7 @@ running_all d t order end numbers answers done rest log_old log_now none so_far 
         answered = subst (λ (es : List Entry). AreAnswered d answers (begun t d) order es (progress_of end numbers)) (append-nil all.entries) (all.goes_on answers (λ k taken. refl) [] (progress_of end numbers) (refl, refl));
       };
       taken = all.taken;
+      in_range = all.in_range;
     }
 
 -- ---- the places in an order

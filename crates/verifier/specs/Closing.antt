@@ -8,6 +8,7 @@ use Rattle.kernel.specs.Proves.{Proves}
 use Rattle.kernel.specs.declared.proof.Proof.{Proof}
 use Rattle.kernel.specs.declared.entry.Entry.{Entry}
 use Rattle.kernel.specs.declared.entry.Entry.TheVariants.{Lemma}
+use Rattle.proof_log.specs.Entries.{HaveNumbersInRange}
 use Rattle.szs_report.specs.declared.answer.Verdict.{Verdict}
 use Rattle.szs_report.specs.declared.answer.Verdict.TheVariants.{Failed, NoFalse, BadClaim, Verified}
 use Rattle.verifier.specs.Logged.{entries_text}
@@ -26,6 +27,6 @@ Closes (Failed unverified skipped lines) t entries = entries ≡ []
 Closes NoFalse t entries = entries ≡ []
 Closes (BadClaim word) t entries = entries ≡ []
 
--- the log takes the last entries for a verdict
+-- the log takes the last entries for a verdict, whose numbers fit their types
 abbrev pub ClosesLog : Verdict → Statements → Option (List ℕ) → Option (List ℕ) → Type 0
-ClosesLog verdict t old new = (entries : List Entry) × Closes verdict t entries × Takes old new (entries_text entries)
+ClosesLog verdict t old new = (entries : List Entry) × Closes verdict t entries × Takes old new (entries_text entries) × HaveNumbersInRange entries

@@ -6,7 +6,7 @@ use Rattle.tptp_base.specs.Sink.{Takes, TakesPrefix}
 use Rattle.kernel.specs.Statements.{Statements}
 use Rattle.kernel.specs.Entries.{Admits}
 use Rattle.kernel.specs.declared.entry.Entry.{Entry}
-use Rattle.proof_log.specs.Entries.{entry_text}
+use Rattle.proof_log.specs.Entries.{HaveNumbersInRange, entry_text}
 use Rattle.verifier.specs.Lines.{Derivation}
 use Rattle.verifier.specs.Run.{IsRun}
 use Rattle.verifier.specs.declared.answer.LineAnswer.{LineAnswer}
@@ -25,8 +25,9 @@ pub record LogsSome (t : Statements) (old new : Option (List ℕ)) : Type 0 wher
   pub legal : Admits t entries theory
   pub taken : TakesPrefix old new (entries_text entries)
 
--- the lines are run in this order, and the log has taken the entries of all answers
+-- the lines are run in this order, and the log has taken the entries of all answers, whose numbers fit their types
 pub record LogsRun (start : Statements) (d : Derivation) (order : List ℕ) (answers : List LineAnswer) (end : Statements) (old new : Option (List ℕ)) : Type 0 where
   pub entries : List Entry
   pub run : IsRun start d order answers entries end
   pub taken : Takes old new (entries_text entries)
+  pub in_range : HaveNumbersInRange entries

@@ -5,6 +5,7 @@ use Rattle.fof_terms.specs.declared.form.Form.{Form}
 use Rattle.kernel.specs.Statements.{Statements}
 use Rattle.kernel.specs.Entries.{Admits}
 use Rattle.kernel.specs.declared.entry.Entry.{Entry}
+use Rattle.proof_log.specs.Entries.{HaveNumbersInRange}
 use Rattle.derive_kit.specs.Derived.{with_formulas}
 use Rattle.elaborate.specs.declared.answer.StepAnswer.{StepAnswer}
 use Rattle.elaborate.specs.declared.answer.StepAnswer.TheVariants as step
@@ -27,7 +28,7 @@ CanTake t answer = (form : Form) × Adds t form answer
 -- number of the last formula
 abbrev pub TakesAnswer : StepAnswer → Progress → ℕ → LineAnswer → Progress → Option (List ℕ) → Option (List ℕ) → Type 0
 TakesAnswer (step.Accepted rule cites entries) old place answer new log_old log_new =
-    (answer ≡ Accepted rule cites) × Admits old.theory entries new.theory × (new ≡ with_line old place new.theory) × Takes log_old log_new (entries_text entries)
+    (answer ≡ Accepted rule cites) × Admits old.theory entries new.theory × (new ≡ with_line old place new.theory) × Takes log_old log_new (entries_text entries) × HaveNumbersInRange entries
 TakesAnswer (step.Unverified reason) old place answer new log_old log_new = (answer ≡ Unverified reason) × (new ≡ old) × (log_new ≡ log_old)
 
 -- the line at this place is answered, and the entries of the answer are logged
@@ -37,3 +38,4 @@ pub record AnswersLine (d : Derivation) (old : Progress) (place : ℕ) (answer :
   pub entries : List Entry
   pub is : IsAnswered d.given old place line (parents_of d.given d.forms old.numbers line.node.parents) answer entries new
   pub taken : Takes log_old log_new (entries_text entries)
+  pub in_range : HaveNumbersInRange entries

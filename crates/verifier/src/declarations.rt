@@ -5,6 +5,7 @@ ghost use Rattle.tptp_base.specs.Sink.{Takes};
 ghost use Rattle.kernel.specs.Entries.{Admits};
 ghost use Rattle.kernel.specs.declared.entry.Entry.TheVariants.{Declare};
 ghost use Rattle.kernel.specs.declared.entry.Decl.TheVariants as decl;
+ghost use Rattle.proof_log.specs.Entries.{HaveNumbersInRange};
 ghost use Rattle.verifier.specs.Declarations;
 ghost use Rattle.verifier.specs.Faults.{HasCause};
 ghost use Rattle.verifier.specs.Logged.{CanAdmit, LogsSome, entries_text};
@@ -30,6 +31,7 @@ pub fn declare<K: Sink>(
     requires { CanAdmit theory.old (Declarations.declarations theory.old.vocabulary signature.now) }
     ensures admits { OnOk result (Admits theory.old (Declarations.declarations theory.old.vocabulary signature.now) theory.new) }
     ensures logged { OnOk result (Takes (K.taken log.old) (K.taken log.new) (entries_text (Declarations.declarations theory.old.vocabulary signature.now))) }
+    ensures in_range { OnOk result (HaveNumbersInRange (Declarations.declarations theory.old.vocabulary signature.now)) }
     ensures cut { OnErr result (LogsSome theory.old (K.taken log.old) (K.taken log.new)) }
     ensures cause { IfErr result (λ fault. HasCause fault (Rose (K.faults log.old) (K.faults log.new))) }
     ensures more_faults { K.faults log.old ≤ K.faults log.new }

@@ -3,7 +3,7 @@ ghost use Rattle.std.specs.Prelude.{◌≡◌, ◌≤◌, IfErr, OnOk, OnErr};
 ghost use Rattle.tptp_base.specs.Count.{Rose};
 ghost use Rattle.tptp_base.specs.Sink.{Takes, TakesPrefix};
 ghost use Rattle.kernel.specs.Entries.{Legal, After, Admits};
-ghost use Rattle.proof_log.specs.Entries.{entry_text};
+ghost use Rattle.proof_log.specs.Entries.{AreNumbersInRange, HaveNumbersInRange, entry_text};
 ghost use Rattle.verifier.specs.Faults.{HasCause};
 ghost use Rattle.verifier.specs.Logged.{CanAdmit, LogsSome, entries_text};
 
@@ -23,6 +23,7 @@ pub fn add_entries<K: Sink>(
     requires { CanAdmit theory.old entries.now }
     ensures admits { OnOk result (Admits theory.old entries.now theory.new) }
     ensures logged { OnOk result (Takes (K.taken log.old) (K.taken log.new) (entries_text entries.now)) }
+    ensures in_range { OnOk result (HaveNumbersInRange entries.now) }
     ensures cut { OnErr result (LogsSome theory.old (K.taken log.old) (K.taken log.new)) }
     ensures cause { IfErr result (λ fault. HasCause fault (Rose (K.faults log.old) (K.faults log.new))) }
     ensures more_faults { K.faults log.old ≤ K.faults log.new }
@@ -43,6 +44,7 @@ fn add_entry<K: Sink>(
     requires { Legal theory.old entry.now }
     ensures after { OnOk result (After theory.old entry.now theory.new) }
     ensures logged { OnOk result (Takes (K.taken log.old) (K.taken log.new) (entry_text entry.now)) }
+    ensures in_range { OnOk result (AreNumbersInRange entry.now) }
     ensures cut { OnErr result (TakesPrefix (K.taken log.old) (K.taken log.new) (entry_text entry.now)) }
     ensures cause { IfErr result (λ fault. HasCause fault (Rose (K.faults log.old) (K.faults log.new))) }
     ensures more_faults { K.faults log.old ≤ K.faults log.new }

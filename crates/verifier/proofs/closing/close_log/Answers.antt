@@ -13,4 +13,4 @@ returns-in_err-write_entry-in-Verified-clause-cut g c =
 pub returns-in_ok-write_entry-in-Verified-clause-closes :
     goal.returns-in_ok-write_entry-in-Verified-clause-closes
 returns-in_ok-write_entry-in-Verified-clause-closes g c =
-    last_closes c.args.verdict.now c.args.theory.now c.in-Some.number _ _ (subst IsVerified (sym c.in-Verified.is) tt) c.in-Some.ensures c.in_ok-write_entry-in-Verified.ensures.ok
+    last_closes c.args.verdict.now c.args.theory.now c.in-Some.number _ _ (subst IsVerified (sym c.in-Verified.is) tt) c.in-Some.ensures c.in_ok-write_entry-in-Verified.ensures.ok c.in_ok-write_entry-in-Verified.ensures.in_range
