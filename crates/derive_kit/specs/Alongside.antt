@@ -1,17 +1,15 @@
 -- From a formula to the closed clause that a path reaches in it.
-use Rattle.std.specs.Prelude.{ℕ, ◌+◌, ◌-◌, ◌≡◌, ◌<◌, ◌≤◌, Bool, true, false, List, [], ◌∷◌, ◌++◌, length, map, take, drop, get_or, Option, Some, None, slice_get, refl}
-use Rattle.std.specs.List.{AllByRecursion}
+use Rattle.std.specs.Prelude.{ℕ, ◌+◌, ◌≡◌, ◌<◌, Bool, true, false, List, [], ◌∷◌, ◌++◌, length, map, Some, slice_get, refl}
 use Rattle.std.specs.Option.{option_map}
 use Rattle.std.proofs.Common.{ap, sym, subst, ◌∙◌, arith, zero, suc}
 use Rattle.std.proofs.lemmas.Option.{slice_get-map}
 use Rattle.std.proofs.lemmas.List.{length-map, length-append}
-use Rattle.fof_terms.specs.declared.term.Term.{Term, Var}
-use Rattle.fof_terms.specs.declared.form.Form.{Form, Atom, Eq, Not, And, Or, Imp, All}
+use Rattle.fof_terms.specs.declared.term.Term.{Var}
+use Rattle.fof_terms.specs.declared.form.Form.{Form, And, Or, Imp, All}
 use Rattle.fof_terms.specs.Vocabulary.{Vocabulary}
 use Rattle.fof_terms.specs.Lift.{greatest, lifted, lifted-All}
-use Rattle.fof_terms.specs.Sorts.{binder_depth, binder_depth-Atom, binder_depth-Eq, binder_depth-Not, binder_depth-And, binder_depth-Or, binder_depth-All, is_sorted}
-use Rattle.fof_terms.specs.Scoped.{IsScope, SortedTo, Sorted, raised, member_of, all_sorted, sorted_of_and, sorted_of_or, sorted_of_all}
-use Rattle.clause_form.specs.declared.path.Path.{Path, Leaf, Pick, Each, Under}
+use Rattle.fof_terms.specs.Sorts.{binder_depth, binder_depth-Atom, binder_depth-Eq, binder_depth-Not, binder_depth-And, binder_depth-Or, binder_depth-All}
+use Rattle.fof_terms.specs.Scoped.{SortedTo, Sorted, raised, member_of, all_sorted, sorted_of_and, sorted_of_or, sorted_of_all}
 use Rattle.clause_form.specs.declared.clause.AtomOf.{AtomOf}
 use Rattle.clause_form.specs.declared.clause.AtomOf.TheVariants.{Pred, Eq as Equation, True, False}
 use Rattle.clause_form.specs.declared.clause.Lit.{Lit}
@@ -20,10 +18,9 @@ use Rattle.clause_form.specs.ClauseView.{form_of_atom, signed_form, form_of_lit,
 use Rattle.clause_form.specs.Covers.{in_lit}
 use Rattle.clause_form.specs.Norm.{alone}
 use Rattle.clause_form.specs.Beside.{moved, all_sorts, Rest, part_lits}
-use Rattle.clause_form.specs.Reached.{around, around_append, around_length, whole_moved, Suits}
+use Rattle.clause_form.specs.Reached.{around, around_append, whole_moved, Suits}
 use Rattle.kernel.specs.Statements.{Statements}
 use Rattle.kernel.specs.Proves.{Proves, over, all_over}
-use Rattle.kernel.specs.Rules.{ProveEach}
 use Rattle.kernel.specs.Building.{shown_sorted, over_sorted, by_hyp, by_imp_i, by_imp_e, by_and_e, by_or_i, by_or_e, by_all_i, by_all_e_here}
 use Rattle.kernel.specs.declared.proof.Proof.{Proof, Hyp, AndE, OrI, OrE, ImpI, ImpE, AllI, AllE}
 use Rattle.derive_kit.specs.Steps.{Between, first, right_sorted}

@@ -16,3 +16,4 @@ pub mod Recursion
 pub mod Routes
 pub mod Settled
 pub mod Steps
+pub mod Turned

@@ -2,7 +2,7 @@
 use Rattle.std.specs.Prelude.{ℕ, ◌+◌, ◌-◌, ◌≡◌, ◌<◌, ◌≤◌, List, [], ◌∷◌, length, slice_get, Some, refl}
 use Rattle.std.specs.List.{AllByRecursion}
 use Rattle.std.proofs.Common.{ap, sym, subst, ◌∙◌, arith, inl, inr, zero, suc}
-use Rattle.fof_terms.specs.declared.term.Term.{Term, Var}
+use Rattle.fof_terms.specs.declared.term.Term.{Var}
 use Rattle.fof_terms.specs.declared.form.Form.{Form, All}
 use Rattle.fof_terms.specs.Vocabulary.{Vocabulary}
 use Rattle.fof_terms.specs.Lift.{lifted, lifted_term, lifted-All}

@@ -20,7 +20,7 @@ use Rattle.clause_form.specs.Found.{IsRoomy, AreFound, roomy_or, over_room}
 use Rattle.fof_terms.specs.Scoped.{Sorted}
 use Rattle.kernel.specs.Statements.{Statements}
 use Rattle.kernel.specs.Proves.{Proves}
-use Rattle.kernel.specs.declared.proof.Proof.{Proof, Hyp, OrI, OrE, ImpI, AllI, AllE}
+use Rattle.kernel.specs.declared.proof.Proof.{Proof, Hyp, OrI, OrE, ImpI, AllE}
 use Rattle.derive_kit.specs.Steps.{Between, same_shows}
 use Rattle.derive_kit.specs.Joining.{numbered}
 use Rattle.derive_kit.specs.Links.{PartsFrom, parts_more}
@@ -28,7 +28,7 @@ use Rattle.derive_kit.specs.Norms.{small_member}
 use Rattle.derive_kit.specs.Placed.{SortedSomewhere}
 use Rattle.derive_kit.specs.Places.{at_index}
 use Rattle.derive_kit.specs.Numbering.{near}
-use Rattle.derive_kit.specs.Alongside.{chosen, by_segment, member_tree, pick_tree, under_tree, each_tree, member_shows, ArmAt, each_shows, pick_shows, under_shows}
+use Rattle.derive_kit.specs.Alongside.{chosen, by_segment, member_tree, pick_tree, under_tree, member_shows, ArmAt, pick_shows, under_shows}
 
 -- the proof leads from the formula to the closed clause
 abbrev pub Leads : Form → Proof → Clause → Type 0

@@ -55,6 +55,29 @@ pub(crate) fn not_step(
     then(alloc, forth, twice, norm, outer, part)
 }
 
+// Between a formula and the normal form of another one's negation, by the part between the formula's negation and the other
+// one, which goes the other way, and that between the other one's negation and its normal form.
+pub(crate) fn denied_step(
+    alloc: Global,
+    forth: bool,
+    form: &Form,
+    other: &Form,
+    part: Part,
+    last: Part,
+) -> Result<Part, Memory>
+    requires { norm_size_of other.now ≤ 100000 }
+    ensures { IfOk result (λ made. (n : ℕ) → Between (not forth) n part (Not form.now) other.now → Between forth n last (Not other.now) (norm_of false other.now)
+        → Between forth n made form.now (norm_of false other.now)) }
+{
+    let first = denied(alloc, copy(alloc, form)?)?;
+    let turned = between_denied(alloc, forth, first, copy(alloc, other)?, part)?;
+    let norm = Boxed::new(alloc, norm_signed(alloc, other, false)?)?;
+    let twice = denied(alloc, denied(alloc, copy(alloc, form)?)?)?;
+    let inner = then(alloc, forth, twice, copy(alloc, norm.get())?, turned, last)?;
+    let outer = twice_denied(alloc, !forth, form)?;
+    then(alloc, forth, copy(alloc, form)?, norm, outer, inner)
+}
+
 // Between a node, or under minus its negation, and its normal form, by the members' parts.
 pub(crate) fn node_step(
     alloc: Global,

@@ -4,6 +4,7 @@
 
 mod bounds;
 mod builders;
+mod chains;
 mod connecting;
 mod connectives;
 mod joins;

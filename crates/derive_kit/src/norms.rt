@@ -1,24 +1,23 @@
-ghost use Rattle.std.specs.Prelude.{◌≡◌, ◌≤◌, ◌<◌, ◌^◌, ℕ, List, IfOk, true, length};
-ghost use Rattle.clause_form.specs.Norm.{node as node_of, signed as signed_of, norm_of};
+ghost use Rattle.std.specs.Prelude.{◌≡◌, ◌≤◌, ◌<◌, ◌^◌, ℕ, List, IfOk, false, true, not, length};
+ghost use Rattle.clause_form.specs.Norm.{node as node_of, quantifier as quantifier_of, norm_of};
 ghost use Rattle.clause_form.specs.Sizes.{norm_size_of};
-ghost use Rattle.fof_terms.specs.declared.form.Form.{Form as Formula, Imp};
-ghost use Rattle.fof_terms.specs.Sorts.{Sorted, binder_depth};
+ghost use Rattle.fof_terms.specs.declared.form.Form.{Form as Formula, Imp, Not};
+ghost use Rattle.fof_terms.specs.Sorts.{Sorted};
 ghost use Rattle.kernel.specs.Proves.{Proves};
 ghost use Rattle.kernel.specs.Statements.{Statements};
-ghost use Rattle.derive_kit.specs.Steps.{Between};
-ghost use Rattle.derive_kit.specs.Links.{Arms};
 ghost use Rattle.derive_kit.specs.Placed.{IsPlaced, SortedSomewhere};
+ghost use Rattle.derive_kit.specs.Recursion.{IsStep};
 
 use crate::bounds::quantified_step;
+use crate::chains::chain;
 use crate::connecting::{
-    back_step, iff_step, imp_step, is_normal, literal, node_step, not_step, sides_step,
+    back_step, denied_step, iff_step, imp_step, is_normal, literal, node_step, not_step, sides_step,
 };
 use crate::links::{Way, arm};
 use crate::nodes::Part;
 use crate::steps::{copy, same};
 use clause_form::{norm_all, norm_signed};
-use fof_terms::Form;
-use kernel::Proof;
+use fof_terms::{Form, SortId, equal};
 use std::alloc::Global;
 use tptp_base::{Boxed, List, Memory};
 
@@ -29,7 +28,7 @@ pub fn norm_forth(alloc: Global, form: &Form) -> Result<Part, Memory>
     ensures { IfOk result (λ proof. (t : Statements) (v : List ℕ) (h : List Formula) → length v ≤ 1000000000 → Sorted t.vocabulary v form.now
         → Proves t v h proof (Imp form.now (norm_of true form.now))) }
 {
-    between(alloc, form, true, true)
+    whole_step(alloc, form, true)
 }
 
 /// Imp from the formula's normal form to the formula.
@@ -39,7 +38,49 @@ pub fn norm_back(alloc: Global, form: &Form) -> Result<Part, Memory>
     ensures { IfOk result (λ proof. (t : Statements) (v : List ℕ) (h : List Formula) → length v ≤ 1000000000 → Sorted t.vocabulary v form.now
         → Proves t v h proof (Imp (norm_of true form.now) form.now)) }
 {
-    between(alloc, form, true, false)
+    whole_step(alloc, form, false)
+}
+
+// Between the formula and its normal form. The members of disjunctions inside each other are joined level by level, and
+// each joining names the whole disjunction for each of its members; those of conjunctions are not named. So where the
+// formula has many disjunctions inside each other, and its negation few, the way is by the negation's normal form.
+fn whole_step(alloc: Global, form: &Form, forth: bool) -> Result<Part, Memory>
+    requires size { norm_size_of form.now ≤ 100000 }
+    requires placed { IsPlaced form.now }
+    ensures { IfOk result (λ made. IsStep true forth form.now made) }
+{
+    let few = chain(form, false, 0).saturating_add(8);
+    if chain(form, true, 0) > few {
+        let denied = Boxed::new(alloc, norm_signed(alloc, form, false)?)?;
+        if denies(alloc, denied.get(), form)? {
+            return by_negation(alloc, forth, form, denied.get());
+        }
+    }
+    between(alloc, form, true, forth)
+}
+
+// Whether the normal form of the first formula's negation is that of the second formula.
+fn denies(alloc: Global, denied: &Form, form: &Form) -> Result<bool, Memory>
+    requires first { norm_size_of denied.now ≤ 100000 }
+    requires second { norm_size_of form.now ≤ 100000 }
+    ensures { IfOk result (λ found. found ≡ true → norm_of false denied.now ≡ norm_of true form.now) }
+{
+    let one = Boxed::new(alloc, norm_signed(alloc, denied, false)?)?;
+    let other = Boxed::new(alloc, norm_signed(alloc, form, true)?)?;
+    Ok(equal(one.get(), other.get()))
+}
+
+// Between the formula and its normal form, by that of its negation.
+fn by_negation(alloc: Global, forth: bool, form: &Form, denied: &Form) -> Result<Part, Memory>
+    requires size { norm_size_of form.now ≤ 100000 }
+    requires placed { IsPlaced form.now }
+    requires denied { denied.now ≡ norm_of false form.now }
+    requires same { norm_of false denied.now ≡ norm_of true form.now }
+    ensures { IfOk result (λ made. IsStep true forth form.now made) }
+{
+    let part = between(alloc, form, false, !forth)?;
+    let last = between(alloc, denied, false, forth)?;
+    denied_step(alloc, forth, form, denied, part, last)
 }
 
 // Between the formula, or under minus its negation, and its normal form.
@@ -47,7 +88,7 @@ pub fn norm_back(alloc: Global, form: &Form) -> Result<Part, Memory>
 fn between(alloc: Global, form: &Form, positive: bool, forth: bool) -> Result<Part, Memory>
     requires size { norm_size_of form.now ≤ 100000 }
     requires placed { IsPlaced form.now }
-    ensures { IfOk result (λ made. Between forth (binder_depth form.now) made (signed_of positive form.now) (norm_of positive form.now)) }
+    ensures { IfOk result (λ made. IsStep positive forth form.now made) }
 {
     if positive {
         if is_normal(alloc, form)? {
@@ -57,111 +98,93 @@ fn between(alloc: Global, form: &Form, positive: bool, forth: bool) -> Result<Pa
     match form {
         Form::Atom(_, _) => literal(alloc, form, positive),
         Form::Eq(_, _) => literal(alloc, form, positive),
-        Form::Not(body) => {
-            let part = between(alloc, body.get(), !positive, forth)?;
-            not_step(alloc, positive, forth, body.get(), part)
-        }
-        Form::And(members) => {
-            let way = Way {
-                conjunction: true,
-                positive,
-                forth,
-            };
-            let parts = parts_of(alloc, way, members.as_slice())?;
-            node_step(alloc, way, members.as_slice(), parts)
-        }
-        Form::Or(members) => {
-            let way = Way {
-                conjunction: false,
-                positive,
-                forth,
-            };
-            let parts = parts_of(alloc, way, members.as_slice())?;
-            node_step(alloc, way, members.as_slice(), parts)
-        }
+        Form::Not(body) => of_negation(alloc, positive, forth, body.get()),
+        Form::And(members) => of_members(alloc, true, positive, forth, members.as_slice()),
+        Form::Or(members) => of_members(alloc, false, positive, forth, members.as_slice()),
         Form::Imp(left, right) => {
-            let first = between(alloc, left.get(), !positive, forth)?;
-            let second = between(alloc, right.get(), positive, forth)?;
-            imp_step(
-                alloc,
-                positive,
-                forth,
-                left.get(),
-                right.get(),
-                first,
-                second,
-            )
+            let left = left.get();
+            let right = right.get();
+            let first = between(alloc, left, !positive, forth)?;
+            let second = between(alloc, right, positive, forth)?;
+            imp_step(alloc, positive, forth, left, right, first, second)
         }
         Form::Iff(left, right) => {
-            let first = between(alloc, left.get(), !positive, forth)?;
-            let second = between(alloc, right.get(), positive, forth)?;
-            let one = sides_step(
-                alloc,
-                positive,
-                forth,
-                left.get(),
-                right.get(),
-                first,
-                second,
-            )?;
-            let third = between(alloc, left.get(), positive, forth)?;
-            let fourth = between(alloc, right.get(), !positive, forth)?;
-            let other = back_step(
-                alloc,
-                positive,
-                forth,
-                left.get(),
-                right.get(),
-                third,
-                fourth,
-            )?;
-            iff_step(alloc, positive, forth, left.get(), right.get(), one, other)
+            let left = left.get();
+            let right = right.get();
+            let first = between(alloc, left, !positive, forth)?;
+            let second = between(alloc, right, positive, forth)?;
+            let one = sides_step(alloc, positive, forth, left, right, first, second)?;
+            let third = between(alloc, left, positive, forth)?;
+            let fourth = between(alloc, right, !positive, forth)?;
+            let other = back_step(alloc, positive, forth, left, right, third, fourth)?;
+            iff_step(alloc, positive, forth, left, right, one, other)
         }
-        Form::All(sort, body) => {
-            let way = Way {
-                conjunction: true,
-                positive,
-                forth,
-            };
-            let part = between(alloc, body.get(), positive, forth)?;
-            let norm = Boxed::new(alloc, norm_signed(alloc, body.get(), positive)?)?;
-            quantified_step(alloc, way, *sort, body.get(), norm.get(), part)
-        }
-        Form::Ex(sort, body) => {
-            let way = Way {
-                conjunction: false,
-                positive,
-                forth,
-            };
-            let part = between(alloc, body.get(), positive, forth)?;
-            let norm = Boxed::new(alloc, norm_signed(alloc, body.get(), positive)?)?;
-            quantified_step(alloc, way, *sort, body.get(), norm.get(), part)
-        }
+        Form::All(sort, body) => of_quantifier(alloc, true, positive, forth, *sort, body.get()),
+        Form::Ex(sort, body) => of_quantifier(alloc, false, positive, forth, *sort, body.get()),
     }
 }
 
-// The proofs for the members.
+// The same of the negation of a formula.
 #[cycle(between)]
-fn parts_of(alloc: Global, way: Way, forms: &[Form]) -> Result<List<Proof>, Memory>
-    requires size { norm_size_of (node_of way.conjunction forms.now) ≤ 100000 }
-    requires placed { IsPlaced (node_of way.conjunction forms.now) }
-    ensures { IfOk result (λ parts. Arms way.conjunction way.positive way.forth (binder_depth (node_of way.conjunction forms.now)) forms.now forms.now parts) }
+fn of_negation(alloc: Global, positive: bool, forth: bool, body: &Form) -> Result<Part, Memory>
+    requires size { norm_size_of body.now ≤ 100000 }
+    requires placed { IsPlaced body.now }
+    ensures { IfOk result (λ made. IsStep positive forth (Not body.now) made) }
 {
-    let norms = norm_all(alloc, forms, way.positive)?;
+    let part = between(alloc, body, !positive, forth)?;
+    not_step(alloc, positive, forth, body, part)
+}
+
+// The same of a conjunction, or else of a disjunction.
+#[cycle(between)]
+fn of_members(
+    alloc: Global,
+    conjunction: bool,
+    positive: bool,
+    forth: bool,
+    forms: &[Form],
+) -> Result<Part, Memory>
+    requires size { norm_size_of (node_of conjunction forms.now) ≤ 100000 }
+    requires placed { IsPlaced (node_of conjunction forms.now) }
+    ensures { IfOk result (λ made. IsStep positive forth (node_of conjunction forms.now) made) }
+{
+    let way = Way {
+        conjunction,
+        positive,
+        forth,
+    };
+    let norms = norm_all(alloc, forms, positive)?;
     let mut parts = List::new(alloc);
     for number in 0..forms.len() {
         let form = &forms[number];
-        let part = between(alloc, form, way.positive, way.forth)?;
-        let arm = arm(
-            alloc,
-            way,
-            forms,
-            norms.as_slice(),
-            number as u32,
-            form,
-            part,
-        )?;
+        let part = between(alloc, form, positive, forth)?;
+        let norms = norms.as_slice();
+        let arm = arm(alloc, way, forms, norms, number as u32, form, part)?;
         parts.push(arm.into_inner())?;
     }
-    Ok(parts)
+    node_step(alloc, way, forms, parts)
+}
+
+// The same of a universal quantifier, or else of an existential one.
+#[cycle(between)]
+fn of_quantifier(
+    alloc: Global,
+    conjunction: bool,
+    positive: bool,
+    forth: bool,
+    sort: SortId,
+    body: &Form,
+) -> Result<Part, Memory>
+    requires size { norm_size_of body.now ≤ 100000 }
+    requires placed { IsPlaced (quantifier_of conjunction sort body.now) }
+    ensures { IfOk result (λ made. IsStep positive forth (quantifier_of conjunction sort body.now) made) }
+{
+    let way = Way {
+        conjunction,
+        positive,
+        forth,
+    };
+    let part = between(alloc, body, positive, forth)?;
+    let norm = Boxed::new(alloc, norm_signed(alloc, body, positive)?)?;
+    quantified_step(alloc, way, sort, body, norm.get(), part)
 }

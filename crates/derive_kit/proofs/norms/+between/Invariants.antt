@@ -4,5 +4,5 @@ use Rattle.fof_terms.specs.Sorts.{binder_depth}
 use Rattle.derive_kit.specs.Links.{PartsFrom, Arm}
 use Rattle.derive_kit.proofs.norms.+between.Given as goal
 
-abbrev pub invariant-parts_of-loop-number : goal.invariant-parts_of-loop-number
-invariant-parts_of-loop-number l = PartsFrom (Arm l.way.conjunction l.way.positive l.way.forth (binder_depth (node l.way.conjunction l.forms)) l.forms) 0 (take l.number l.forms) l.parts
+abbrev pub invariant-of_members-loop-number : goal.invariant-of_members-loop-number
+invariant-of_members-loop-number l = PartsFrom (Arm l.conjunction l.positive l.forth (binder_depth (node l.conjunction l.forms)) l.forms) 0 (take l.number l.forms) l.parts

@@ -1,10 +1,10 @@
-use Rattle.std.proofs.Common.{rules, arith, refl, ap, sym, map, ◌∙◌}
+use Rattle.std.proofs.Common.{rules, arith, refl, ap, map, ◌∙◌}
 use Rattle.fof_terms.specs.declared.form.Form.TheViews.{the_lemmas}
 use Rattle.clause_form.specs.ClauseView.{form_of_lit}
-use Rattle.clause_form.specs.Found.{roomy_member, roomy_body, roomy_lent}
+use Rattle.clause_form.specs.Found.{roomy_member, roomy_body}
 use Rattle.derive_kit.specs.Built.{ok_map}
 use Rattle.derive_kit.specs.Places.{at_index}
-use Rattle.derive_kit.specs.Routes.{along_leaf, along_pick, along_under, along_each, same_path, itself_shows, few_paths, arm_next, arms_end, pick_small, under_small, each_small, each_small_lent, each_roomy, arms_start, arm_rooms, over_here, found_here}
+use Rattle.derive_kit.specs.Routes.{along_leaf, along_pick, along_under, along_each, itself_shows, few_paths, arm_next, pick_small, under_small, each_small, each_roomy, arms_start, arm_rooms, over_here, found_here}
 use Rattle.derive_kit.proofs.paths.+along.Goals as goal
 
 pub along-along-requires : goal.along-along-requires

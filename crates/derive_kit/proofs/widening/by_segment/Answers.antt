@@ -1,4 +1,4 @@
-use Rattle.std.proofs.Common.{◌∙◌, sym}
+use Rattle.std.proofs.Common.{◌∙◌}
 use Rattle.derive_kit.specs.Built.{ok_map}
 use Rattle.derive_kit.specs.Routes.{segment_one, segment_several}
 use Rattle.derive_kit.proofs.widening.by_segment.Goals as goal

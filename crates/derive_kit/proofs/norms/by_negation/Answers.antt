@@ -1,0 +1,16 @@
+use Rattle.derive_kit.specs.Built.{ok_map}
+use Rattle.derive_kit.specs.Turned.{denied_small, denied_placed, turned_done}
+use Rattle.derive_kit.proofs.norms.by_negation.Goals as goal
+
+pub between-requires-2-clause-size : goal.between-requires-2-clause-size
+between-requires-2-clause-size c = denied_small c.args.form.now c.args.denied.now c.requires.denied c.requires.size
+
+pub between-requires-2-clause-placed : goal.between-requires-2-clause-placed
+between-requires-2-clause-placed c = denied_placed c.args.form.now c.args.denied.now c.requires.denied c.args.forth c.in_ok-part.part c.in_ok-part.ensures c.requires.placed
+
+pub returns : goal.returns
+returns c =
+    ok_map c.denied_step.result (λ made f. turned_done c.args.form.now c.args.denied.now c.requires.denied c.args.forth c.in_ok-part.part c.in_ok-part.ensures c.in_ok-last.last made c.requires.same c.in_ok-last.ensures f) c.denied_step.ensures
+
+pub denied_step-requires : goal.denied_step-requires
+denied_step-requires c = denied_small c.args.form.now c.args.denied.now c.requires.denied c.requires.size
