@@ -4,9 +4,9 @@
 
 mod bounds;
 mod builders;
-mod chains;
 mod connecting;
 mod connectives;
+mod effort;
 mod joins;
 mod links;
 mod nodes;

@@ -9,10 +9,10 @@ ghost use Rattle.derive_kit.specs.Placed.{IsPlaced, SortedSomewhere};
 ghost use Rattle.derive_kit.specs.Recursion.{IsStep};
 
 use crate::bounds::quantified_step;
-use crate::chains::chain;
 use crate::connecting::{
     back_step, denied_step, iff_step, imp_step, is_normal, literal, node_step, not_step, sides_step,
 };
+use crate::effort::is_shorter_denied;
 use crate::links::{Way, arm};
 use crate::nodes::Part;
 use crate::steps::{copy, same};
@@ -42,15 +42,14 @@ pub fn norm_back(alloc: Global, form: &Form) -> Result<Part, Memory>
 }
 
 // Between the formula and its normal form. The members of disjunctions inside each other are joined level by level, and
-// each joining names the whole disjunction for each of its members; those of conjunctions are not named. So where the
-// formula has many disjunctions inside each other, and its negation few, the way is by the negation's normal form.
+// each joining names the whole disjunction for each of its members; a conjunction is not named. So where the formula has many
+// disjunctions inside each other, and its negation few, the way is by the negation's normal form.
 fn whole_step(alloc: Global, form: &Form, forth: bool) -> Result<Part, Memory>
     requires size { norm_size_of form.now ≤ 100000 }
     requires placed { IsPlaced form.now }
     ensures { IfOk result (λ made. IsStep true forth form.now made) }
 {
-    let few = chain(form, false, 0).saturating_add(8);
-    if chain(form, true, 0) > few {
+    if is_shorter_denied(form) {
         let denied = Boxed::new(alloc, norm_signed(alloc, form, false)?)?;
         if denies(alloc, denied.get(), form)? {
             return by_negation(alloc, forth, form, denied.get());
