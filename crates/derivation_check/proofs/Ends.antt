@@ -7,7 +7,8 @@ use Rattle.kernel.specs.Statements.{Statements}
 use Rattle.kernel.specs.Entries.{Admits, Refutes, with_formula}
 use Rattle.kernel.specs.EntryLaws.{admits_append}
 use Rattle.kernel.specs.declared.entry.Entry.{Entry}
-use Rattle.proof_log.specs.Entries.{log_text}
+use Rattle.proof_log.specs.Entries.{AreLogged, log_text}
+use Rattle.sort_check.specs.Bringing.{Brings}
 use Rattle.tstp_graph.specs.Order.{is_taken, first_left, TakesInTurn}
 use Rattle.szs_report.specs.declared.answer.Verdict.{Verdict}
 use Rattle.szs_report.specs.declared.answer.Verdict.TheVariants.{Failed, NoFalse, BadClaim, Verified}
@@ -19,6 +20,7 @@ use Rattle.verifier.specs.Report.{AreAccepted, HasFalse, IsVerdict}
 use Rattle.verifier.specs.declared.answer.LineAnswer.{LineAnswer}
 use Rattle.verifier.specs.declared.claim.Claim.{Claim}
 use Rattle.verifier.specs.declared.fault.RunFault.{RunFault}
+use Rattle.verifier.proofs.Logs.{range_both}
 use Rattle.verifier.proofs.Refuting.{falsehood_stands, closed_refutes}
 use Rattle.verifier.proofs.Goodness.{good_accepted}
 use Rattle.derivation_check.specs.Cases.{Asked, claim_by, lines_over, widened}
@@ -26,6 +28,7 @@ use Rattle.derivation_check.specs.Checks.{Checks, is_verified}
 use Rattle.derivation_check.specs.GoodCases.{IsGoodCase}
 use Rattle.derivation_check.specs.Logs.{Closed, ChecksWithLog, LogsRuns, TakesSomeOfLog}
 use Rattle.derivation_check.specs.declared.checking.Report.{Report}
+use Rattle.derivation_check.proofs.Logged.{check_logged}
 use Rattle.derivation_check.proofs.LogTexts.{log_all, log_cut, log_more}
 use Rattle.derivation_check.proofs.Runs.{runs_admit}
 
@@ -71,6 +74,7 @@ module _ (t : Statements) (d : Derivation) (w : Vocabulary) (answers : List Line
         first_that_applies = closed.first_that_applies;
         last = closed.last;
         closes = closed.closes;
+        in_range = range_both ran.entries closed.last ran.in_range closed.in_range;
         verified_is = closed.verified;
         report_is = closed.text;
         log_is = refl;
@@ -91,13 +95,16 @@ module _ (t : Statements) (d : Derivation) (w : Vocabulary) (answers : List Line
 
 -- ---- laws
 
+check_refutes : (asked : Asked) (t : Statements) (d : Derivation) (w : Vocabulary) (report log : List ℕ) (c : Checks asked t d w true report log) → Refutes t (c.entries ++ c.last)
+check_refutes asked t d w report log c = closed_refutes t c.end c.entries c.last c.verdict (runs_admit t d w c.answers c.entries c.end c.runs) (verified_sure c.verdict c.verified_is) c.closes
+
 -- a verified derivation refutes
 pub refutes : (asked : Asked) (t : Statements) (d : Derivation) (w : Vocabulary) (report log : List ℕ) → Checks asked t d w true report log → (entries : List Entry) × (log ≡ log_text entries) × Refutes t entries
-refutes asked t d w report log c = (
-  c.entries ++ c.last,
-  c.log_is,
-  closed_refutes t c.end c.entries c.last c.verdict (runs_admit t d w c.answers c.entries c.end c.runs) (verified_sure c.verdict c.verified_is) c.closes,
-)
+refutes asked t d w report log c = (c.entries ++ c.last, c.log_is, check_refutes asked t d w report log c)
+
+-- and its log can be read back, where it names what it brings
+pub refutes_logged : (asked : Asked) (t : Statements) (d : Derivation) (w : Vocabulary) (report log : List ℕ) → Checks asked t d w true report log → Brings t.vocabulary w → (entries : List Entry) × (log ≡ log_text entries) × Refutes t entries × AreLogged entries
+refutes_logged asked t d w report log c brings = (c.entries ++ c.last, c.log_is, check_refutes asked t d w report log c, check_logged asked t d w true report log c brings)
 
 -- a good derivation with a justified claim has no other verdict
 good_verdict : (claim : Claim) (problem : List ℕ) (forms : List Form) (answers : List LineAnswer) (verdict : Verdict) → AreAccepted answers → HasFalse forms → IsJustified claim → IsVerdict claim problem forms answers verdict → is_verified verdict ≡ true

@@ -1,5 +1,6 @@
 pub mod Declared
 pub mod Ends
+pub mod Logged
 pub mod LogTexts
 pub mod Reports
 pub mod Runs

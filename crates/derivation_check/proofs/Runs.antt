@@ -9,13 +9,14 @@ use Rattle.kernel.specs.Statements.{Statements}
 use Rattle.kernel.specs.Entries.{Admits}
 use Rattle.kernel.specs.EntryLaws.{admits_append}
 use Rattle.kernel.specs.declared.entry.Entry.{Entry}
-use Rattle.proof_log.specs.Entries.{log_text}
+use Rattle.proof_log.specs.Entries.{HaveNumbersInRange, log_text}
 use Rattle.sort_check.specs.Sorting.{Extends, IsSentence}
 use Rattle.clause_rules.specs.Steps.{IsReady}
 use Rattle.derivation_text.specs.declared.derivation.Derivation.{Derivation}
 use Rattle.verifier.specs.Declarations.{declarations}
 use Rattle.verifier.specs.Logged.{LogsRun, LogsSome}
 use Rattle.verifier.specs.declared.answer.LineAnswer.{LineAnswer}
+use Rattle.verifier.proofs.Logs.{range_both}
 use Rattle.verifier.proofs.Refuting.{run_admits}
 use Rattle.derivation_check.specs.Cases.{lines_over, widened}
 use Rattle.derivation_check.specs.Checks.{Runs}
@@ -28,14 +29,15 @@ given_ready t u w is extends all = subst (λ (x : Statements). All (IsReady x.vo
 
 module _ (t : Statements) (d : Derivation) (w : Vocabulary) where
   -- the lines are run behind the declarations
-  pub runs : (u : Statements) (answers : List LineAnswer) (end : Statements) (old mid new : Option (List ℕ)) → u ≡ widened t w → Admits t (declarations t.vocabulary w) (widened t w) → Takes old mid (log_text (declarations t.vocabulary w))
+  pub runs : (u : Statements) (answers : List LineAnswer) (end : Statements) (old mid new : Option (List ℕ)) → u ≡ widened t w → Admits t (declarations t.vocabulary w) (widened t w) → Takes old mid (log_text (declarations t.vocabulary w)) → HaveNumbersInRange (declarations t.vocabulary w)
       → LogsRun u (record { given = u.formulas; nodes = d.graph.nodes; forms = d.forms }) d.graph.order answers end mid new → LogsRuns t d w answers end old new
-  runs u answers end old mid new is declared taken run =
+  runs u answers end old mid new is declared taken in_range run =
       let own : LogsRun (widened t w) (lines_over t d) d.graph.order answers end mid new =
       subst (λ (x : Statements). LogsRun x (record { given = x.formulas; nodes = d.graph.nodes; forms = d.forms }) d.graph.order answers end mid new) is run in record {
         entries = declarations t.vocabulary w ++ own.entries;
         runs = record { own = own.entries; declared = declared; run = own.run; entries_are = refl };
         taken = log_more old mid new (declarations t.vocabulary w) own.entries taken own.taken;
+        in_range = range_both (declarations t.vocabulary w) own.entries in_range own.in_range;
       }
 
   -- all its entries are legal in turn

@@ -6,7 +6,7 @@ use Rattle.fof_terms.specs.Vocabulary.{Vocabulary}
 use Rattle.kernel.specs.Statements.{Statements}
 use Rattle.kernel.specs.Entries.{Admits}
 use Rattle.kernel.specs.declared.entry.Entry.{Entry}
-use Rattle.proof_log.specs.Entries.{log_text}
+use Rattle.proof_log.specs.Entries.{HaveNumbersInRange, log_text}
 use Rattle.szs_report.specs.declared.answer.Verdict.{Verdict}
 use Rattle.szs_report.specs.declared.answer.Verdict.TheVariants.{Failed, NoFalse, BadClaim, Verified}
 use Rattle.derivation_text.specs.declared.derivation.Derivation.{Derivation}
@@ -31,7 +31,7 @@ pub record Runs (t : Statements) (d : Derivation) (w : Vocabulary) (answers : Li
   pub run : IsRun (widened t w) (lines_over t d) d.graph.order answers own end
   pub entries_are : entries ≡ declarations t.vocabulary w ++ own
 
--- The report on the run, and its log.
+-- The report on the run, and its log. The numbers in its entries fit their types.
 pub record Checks (asked : Asked) (t : Statements) (d : Derivation) (w : Vocabulary) (verified : Bool) (report log : List ℕ) : Type 0 where
   pub answers : List LineAnswer
   pub entries : List Entry
@@ -41,6 +41,7 @@ pub record Checks (asked : Asked) (t : Statements) (d : Derivation) (w : Vocabul
   pub first_that_applies : IsVerdict (claim_by asked answers) asked.problem d.forms answers verdict
   pub last : List Entry
   pub closes : Closes verdict end last
+  pub in_range : HaveNumbersInRange (entries ++ last)
   pub verified_is : verified ≡ is_verified verdict
   pub report_is : report ≡ report_text d.names answers verdict
   pub log_is : log ≡ log_text (entries ++ last)

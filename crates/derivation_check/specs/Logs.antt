@@ -7,7 +7,7 @@ use Rattle.fof_terms.specs.Vocabulary.{Vocabulary}
 use Rattle.kernel.specs.Statements.{Statements}
 use Rattle.kernel.specs.Entries.{Admits}
 use Rattle.kernel.specs.declared.entry.Entry.{Entry}
-use Rattle.proof_log.specs.Entries.{log_text}
+use Rattle.proof_log.specs.Entries.{HaveNumbersInRange, log_text}
 use Rattle.derivation_text.specs.declared.derivation.Derivation.{Derivation}
 use Rattle.verifier.specs.declared.answer.LineAnswer.{LineAnswer}
 use Rattle.verifier.specs.Closing.{Closes}
@@ -21,11 +21,12 @@ use Rattle.derivation_check.specs.declared.checking.Report.{Report}
 abbrev pub TakesSomeOfLog : Statements → Option (List ℕ) → Option (List ℕ) → Type 0
 TakesSomeOfLog t old new = (new ≡ old) ⊎ ((entries : List Entry) × (u : Statements) × Admits t entries u × TakesPrefix old new (log_text entries))
 
--- The lines are run, and the log has taken their entries.
+-- The lines are run, and the log has taken their entries, whose numbers fit their types.
 pub record LogsRuns (t : Statements) (d : Derivation) (w : Vocabulary) (answers : List LineAnswer) (end : Statements) (old new : Option (List ℕ)) : Type 0 where
   pub entries : List Entry
   pub runs : Runs t d w answers entries end
   pub taken : Takes old new (log_text entries)
+  pub in_range : HaveNumbersInRange entries
 
 -- The report on lines with these answers is made, and the log has taken the last entries.
 pub record Closed (asked : Asked) (d : Derivation) (answers : List LineAnswer) (end : Statements) (report : Report) (old new : Option (List ℕ)) : Type 0 where
@@ -36,6 +37,7 @@ pub record Closed (asked : Asked) (d : Derivation) (answers : List LineAnswer) (
   pub verified : report.verified ≡ is_verified verdict
   pub text : report.text ≡ report_text d.names answers verdict
   pub taken : Takes old new (entries_text last)
+  pub in_range : HaveNumbersInRange last
 
 -- the report and what the log took are those of a check
 abbrev pub ChecksWithLog : Asked → Statements → Derivation → Vocabulary → Report → Option (List ℕ) → Option (List ℕ) → Type 0

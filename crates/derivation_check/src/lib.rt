@@ -8,4 +8,6 @@ mod reporting;
 mod running;
 
 pub use checking::{Asked, Report, check_derivation};
-pub use laws::{a_good_case_is_verified, a_verified_derivation_refutes};
+pub use laws::{
+    a_good_case_is_verified, a_verified_derivation_refutes, a_verified_log_can_be_read,
+};

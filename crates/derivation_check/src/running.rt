@@ -6,7 +6,7 @@ ghost use Rattle.tptp_base.specs.Sink.{Takes};
 ghost use Rattle.sort_check.specs.Sorting.{AreDeclared, Extends, IsSentence};
 ghost use Rattle.kernel.specs.Entries.{Admits};
 ghost use Rattle.tstp_graph.specs.Graphs.{IsOrdered};
-ghost use Rattle.proof_log.specs.Entries.{log_text};
+ghost use Rattle.proof_log.specs.Entries.{HaveNumbersInRange, log_text};
 ghost use Rattle.verifier.specs.Declarations.{declarations};
 ghost use Rattle.verifier.specs.Faults.{HasCause};
 ghost use Rattle.derivation_check.specs.Cases.{widened};
@@ -59,6 +59,7 @@ fn begin<K: Sink>(
     ensures widens { OnOk result (theory.new ≡ widened theory.old signature.now) }
     ensures declared { OnOk result (Admits theory.old (declarations theory.old.vocabulary signature.now) (widened theory.old signature.now)) }
     ensures logged { OnOk result (Takes (K.taken log.old) (K.taken log.new) (log_text (declarations theory.old.vocabulary signature.now))) }
+    ensures in_range { OnOk result (HaveNumbersInRange (declarations theory.old.vocabulary signature.now)) }
     ensures cut { OnErr result (TakesSomeOfLog theory.old (K.taken log.old) (K.taken log.new)) }
     ensures cause { IfErr result (λ fault. HasCause fault (Rose (K.faults log.old) (K.faults log.new))) }
     ensures more_faults { K.faults log.old ≤ K.faults log.new }
