@@ -33,9 +33,8 @@ use Rattle.tptp_tool.specs.Denoted.{first_vocabulary, SaysIncludeFault, SaysSort
 use Rattle.tptp_tool.specs.Ending.{Ending, IsReadRefusal, AfterFile}
 use Rattle.tptp_tool.specs.Answer.{ending_of, IsAnswerWithLog}
 use Rattle.tptp_tool.specs.Ends as Said
-use Rattle.tptp_tool.specs.Outcome.{SaysMissing}
 use Rattle.tptp_tool.specs.Stop.{HasCause, IfAnswer, IfStopped}
-use Rattle.tptp_tool.specs.Words.{Task, Parse, Check, Request, IsForm}
+use Rattle.tptp_tool.specs.Words.{Task, Check, Request, IsForm}
 use Rattle.tptp_tool.specs.declared.stop.Answer.{Answer}
 use Rattle.tptp_tool.specs.declared.stop.Halt.{Halt}
 use Rattle.tptp_tool.specs.declared.stop.Halt.TheVariants.{Refused, Stopped}
@@ -94,12 +93,6 @@ module _ (t : Statements) (text : List ℕ) (ending : Ending) where
   pub entries_said : (entries : List Entry) → reader.Answers MAX_NESTING text (Ok entries) → SaysEntries t entries ending → SaysLog t text ending
   entries_said entries answers says = inr (entries, answers, says)
 
--- ---- a problem that is missing
-
-pub missing_parsed : {R : Type 0} (told : Option Files) (problem log : List ℕ) → (SaysMissing told (Parse problem) → R) → SaysMissing told (Check problem log) → R
-missing_parsed None problem log f says = absurd says
-missing_parsed (Some files) problem log f says = f says
-
 -- ---- how the command ends
 
 module _ (told : Option Files) (log : List ℕ) (theory : Statements) (budget : ℕ) (ending : Ending) where
@@ -136,12 +129,6 @@ module _ (root : Option (List ℕ)) (problem log : List ℕ) where
   pub log_ends : (told later : Option Files) (theory : Statements) (read : ℕ) (r : Result Answer Halt) → IsGiven told root problem theory read → later ≡ told → IfAnswer r (λ answer. AfterLog later log theory (TOTAL_SIZE - read) (ending_of answer)) → IfAnswer r (λ answer. Ends told (ending_of answer))
   log_ends told later theory read r given same after =
       answer_ends told theory read r given (subst (λ (files : Option Files). IfAnswer r (λ answer. AfterLog files log theory (TOTAL_SIZE - read) (ending_of answer))) same after)
-
-  -- where the problem is not missing, nothing says that it is
-  pub never_missing : (R : Type 0) (told : Option Files) (r : Result Answer Halt) → (SaysMissing told (Parse problem) → ⊥) → IfAnswer r (λ answer. answer.status ≡ 3 → SaysMissing told (Check problem log) → R)
-  never_missing R told (Ok answer) present = λ three says. absurd (missing_parsed told problem log present says)
-  never_missing R told (Err (Refused answer)) present = λ three says. absurd (missing_parsed told problem log present says)
-  never_missing R told (Err (Stopped stop)) present = tt
 
 -- a fault of the store that rose later on has risen since before
 pub stopped_since : (r : Result Answer Halt) (a b c : ℕ) → a ≤ b → IfStopped r (λ stop. HasCause stop (Rose b c) ⊥) → IfStopped r (λ stop. HasCause stop (Rose a c) ⊥)

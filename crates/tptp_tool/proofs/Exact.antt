@@ -13,7 +13,7 @@ use Rattle.sort_check.specs.declared.fault.SortFault.{SortFault}
 use Rattle.sort_check.specs.declared.line.Line.{Line}
 use Rattle.sort_check.specs.declared.line.TextKind.TheVariants as kind
 use Rattle.sort_check.specs.Texts.{denoted}
-use Rattle.proof_log.specs.Answers.{CanBeRead, IsLogOf, Tells}
+use Rattle.proof_log.specs.Answers.{NestWithin, IsLogOf, Tells}
 use Rattle.proof_log.specs.Entries.{log_text}
 use Rattle.proof_log.specs.declared.checking.CheckFault.{CheckFault}
 use Rattle.proof_log.specs.declared.checking.CheckFault.TheVariants.{Illegal, NotRefuted, Memory as OutOfMemory}
@@ -132,11 +132,11 @@ module _ (after : Files) (root : Option (List ℕ)) (problem log text : List ℕ
       theory_checks whole lines v denotes is_theory (subst (λ (n : ℕ). Fits n (length text)) bytes fits) (subst Rest (one_problem whole other (one after root problem (Ok other) (Ok whole) again (same (Ok whole) resolves))) rest)
 
 module _ (files after : Files) (root : Option (List ℕ)) (problem log text : List ℕ) (run : IsRefutation files root problem (Some []) (Some text)) where
-  logged_is : CanBeRead MAX_NESTING run.entries → IsLogOf MAX_NESTING text run.entries
-  logged_is can = record { logged = can.0; is = sym (known (log_text run.entries) text run.taken); within = can.1 }
+  logged_is : NestWithin MAX_NESTING run.entries → IsLogOf MAX_NESTING text run.entries
+  logged_is within = record { logged = run.logged; is = sym (known (log_text run.entries) text run.taken); within = within }
 
-  pub logged_checks : CanBeRead MAX_NESTING run.entries → GivesTheSame files after root problem → file_at after log ≡ Some text → Fits run.read (length text) → (ending : Ending) → EndsCheck after root problem log ending → ending ≡ refuted (length run.entries)
-  logged_checks can same there fits ending ends = problem_checks after root problem log text run.theory run.entries ending there (logged_is can) run.refutes files run.read same run.is fits ends
+  pub logged_checks : NestWithin MAX_NESTING run.entries → GivesTheSame files after root problem → file_at after log ≡ Some text → Fits run.read (length text) → (ending : Ending) → EndsCheck after root problem log ending → ending ≡ refuted (length run.entries)
+  logged_checks within same there fits ending ends = problem_checks after root problem log text run.theory run.entries ending there (logged_is within) run.refutes files run.read same run.is fits ends
 
 -- ---- a run on words
 
@@ -150,7 +150,7 @@ check_of files words request problem log ending (inr (other, found, ends)) form 
 pub run_exact : (files : Files) (words : List (List ℕ)) (request : Request) (problem log : List ℕ) (ending : Ending) → Ends files words ending → IsForm words request → request.task ≡ Check problem log → IsRefused files request.root problem ending ⊎ IsExact files request.root problem log ending
 run_exact files words request problem log ending ends form is = check_exact files request.root problem log ending (check_of files words request problem log ending ends form is)
 
-pub run_checks : (files after : Files) (words : List (List ℕ)) (request : Request) (problem log text : List ℕ) (run : IsRefutation files request.root problem (Some []) (Some text)) → CanBeRead MAX_NESTING run.entries → GivesTheSame files after request.root problem → file_at after log ≡ Some text → Fits run.read (length text)
+pub run_checks : (files after : Files) (words : List (List ℕ)) (request : Request) (problem log text : List ℕ) (run : IsRefutation files request.root problem (Some []) (Some text)) → NestWithin MAX_NESTING run.entries → GivesTheSame files after request.root problem → file_at after log ≡ Some text → Fits run.read (length text)
     → (ending : Ending) → Ends after words ending → IsForm words request → request.task ≡ Check problem log → ending ≡ refuted (length run.entries)
-run_checks files after words request problem log text run can same there fits ending ends form is =
-    logged_checks files after request.root problem log text run can same there fits ending (check_of after words request problem log ending ends form is)
+run_checks files after words request problem log text run within same there fits ending ends form is =
+    logged_checks files after request.root problem log text run within same there fits ending (check_of after words request problem log ending ends form is)

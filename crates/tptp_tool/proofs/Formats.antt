@@ -1,14 +1,12 @@
 -- How the text of a file that is formatted ends the command.
-use Rattle.std.proofs.Common.{◌≡◌, inl, inr, ℕ, ◌≤◌, List, length, Option, None, Some, IfSome, IsSomeAnd, Result, Ok, Err}
-use Rattle.tptp_base.specs.Store.{Files, HasFile, file_at}
+use Rattle.std.proofs.Common.{◌≡◌, inl, inr, ℕ, ◌≤◌, List, length, Option, None, Some, IfSome, Result, Ok, Err}
+use Rattle.tptp_base.specs.Store.{Files, HasFile}
 use Rattle.tptp_base.specs.declared.read.TheConstants.{FILE_SIZE}
 use Rattle.tptp_tool.specs.Answer.{ending_of}
 use Rattle.tptp_tool.specs.Ending.{Ending}
 use Rattle.tptp_tool.specs.Formatted.{EndsFormat, SaysText}
-use Rattle.tptp_tool.specs.Outcome.{SaysMissing}
 use Rattle.tptp_tool.specs.Spelled.{IsTextRefusal}
 use Rattle.tptp_tool.specs.Stop.{IfAnswer, IfRefused}
-use Rattle.tptp_tool.specs.Words.{Format}
 use Rattle.tptp_tool.specs.declared.run.TheConstants.{TOTAL_SIZE}
 use Rattle.tptp_tool.specs.declared.stop.Answer.{Answer}
 use Rattle.tptp_tool.specs.declared.stop.Halt.{Halt}
@@ -20,30 +18,16 @@ pub refusal_said : (T : Type 0) (halt : Halt) (file text : List ℕ) → IfRefus
 refusal_said T (Refused answer) file text refused = inl refused
 refusal_said T (Stopped stop) file text refused = tt
 
-module _ (told : Option Files) (file text : List ℕ) (has : HasFile told file (λ bytes. bytes ≡ text)) where
-  module _ (in_budget : length text ≤ TOTAL_SIZE) (in_limit : length text ≤ FILE_SIZE) where
-    said_ends : (ending : Ending) → SaysText file text ending → IfSome told (λ files. EndsFormat files file ending)
-    said_ends ending said = after_read told file TOTAL_SIZE text (λ files. SaysText file) ending has in_budget in_limit (if_told told said)
+pub refusal_is : (T : Type 0) (halt : Halt) (file text : List ℕ) → IfRefused {T = T} (Err halt) (λ answer. IsTextRefusal file text (ending_of answer)) → IfAnswer (Err halt) (λ answer. answer.status ≡ 3 → IsTextRefusal file text (ending_of answer))
+refusal_is T (Refused answer) file text refused = λ three. refused
+refusal_is T (Stopped stop) file text refused = tt
 
-    -- what is said of the text of a file ends the command
-    pub text_ends : (r : Result Answer Halt) → IfAnswer r (λ answer. SaysText file text (ending_of answer)) → IfAnswer r (λ answer. IfSome told (λ files. EndsFormat files file (ending_of answer)))
-    text_ends (Ok answer) said = said_ends (ending_of answer) said
-    text_ends (Err (Refused answer)) said = said_ends (ending_of answer) said
-    text_ends (Err (Stopped stop)) said = tt
+module _ (told : Option Files) (file text : List ℕ) (has : HasFile told file (λ bytes. bytes ≡ text)) (in_budget : length text ≤ TOTAL_SIZE) (in_limit : length text ≤ FILE_SIZE) where
+  said_ends : (ending : Ending) → SaysText file text ending → IfSome told (λ files. EndsFormat files file ending)
+  said_ends ending said = after_read told file TOTAL_SIZE text (λ files. SaysText file) ending has in_budget in_limit (if_told told said)
 
-  -- a file that has a text is not missing
-  never_missing : (R : Type 0) → SaysMissing told (Format file) → R
-  never_missing R says = go told has says
-    where
-      at : (R : Type 0) (found : Option (List ℕ)) → found ≡ None → IsSomeAnd found (λ bytes. bytes ≡ text) → R
-      at R None is has = absurd has
-      at R (Some bytes) is has = absurd cc
-
-      go : (told : Option Files) → HasFile told file (λ bytes. bytes ≡ text) → SaysMissing told (Format file) → R
-      go None has says = absurd says
-      go (Some files) has says = at R (file_at files file) says has
-
-  pub text_not_missing : (R : Type 0) (r : Result Answer Halt) → IfAnswer r (λ answer. answer.status ≡ 3 → SaysMissing told (Format file) → R)
-  text_not_missing R (Ok answer) = λ three says. never_missing R says
-  text_not_missing R (Err (Refused answer)) = λ three says. never_missing R says
-  text_not_missing R (Err (Stopped stop)) = tt
+  -- what is said of the text of a file ends the command
+  pub text_ends : (r : Result Answer Halt) → IfAnswer r (λ answer. SaysText file text (ending_of answer)) → IfAnswer r (λ answer. IfSome told (λ files. EndsFormat files file (ending_of answer)))
+  text_ends (Ok answer) said = said_ends (ending_of answer) said
+  text_ends (Err (Refused answer)) said = said_ends (ending_of answer) said
+  text_ends (Err (Stopped stop)) said = tt

@@ -25,7 +25,9 @@ use Rattle.derivation_text.specs.declared.fault.DerivationFault.TheVariants as d
 use Rattle.derivation_text.specs.declared.derivation.Derivation.{Derivation}
 use Rattle.derivation_check.specs.Cases.{Asked}
 use Rattle.derivation_check.specs.Checks.{Checks}
-use Rattle.derivation_check.proofs.Ends.{refutes}
+use Rattle.sort_check.specs.Bringing.{Brings}
+use Rattle.derivation_text.proofs.Bringing.{derivation_brings}
+use Rattle.derivation_check.proofs.Ends.{refutes_logged}
 use Rattle.tptp_tool.specs.Answer.{with_log, IsAnswerWithLog}
 use Rattle.tptp_tool.specs.CheckedLog.{given_theory, IsGiven}
 use Rattle.tptp_tool.specs.Denoted.{SaysIncludeFault, SaysTextFault, SaysSortFault, rule_status}
@@ -123,11 +125,11 @@ verified_is true e = refl
 verified_is false e = absurd (omega (arith, e))
 
 module _ (files : Files) (root : Option (List ℕ)) (problem file : List ℕ) (ending : Ending) (old new : Option (List ℕ)) (zero : ending.status ≡ 0) (taken : Takes old new ending.log) where
-  checked_refutes : (asked : Asked) (t : Statements) (read : ℕ) (d : Derivation) (w : Vocabulary) → IsGiven (Some files) root problem t read → EndsChecked asked t d w ending → IsRefutation files root problem old new
-  checked_refutes asked t read d w given ends =
+  checked_refutes : (asked : Asked) (t : Statements) (read : ℕ) (d : Derivation) (w : Vocabulary) → IsGiven (Some files) root problem t read → Brings t.vocabulary w → EndsChecked asked t d w ending → IsRefutation files root problem old new
+  checked_refutes asked t read d w given brings ends =
       let all : Checks asked t d w true ending.out ending.log = subst (λ (b : Bool). Checks asked t d w b ending.out ending.log) (verified_is ends.verified (sym ends.status ∙ zero)) ends.checks in
-      let shown = refutes asked t d w ending.out ending.log all in
-      record { theory = t; read = read; is = given; entries = shown.0; taken = taken ∙ ap (append_known old) shown.1; refutes = shown.2 }
+      let shown = refutes_logged asked t d w ending.out ending.log all brings in
+      record { theory = t; read = read; is = given; entries = shown.0; taken = taken ∙ ap (append_known old) shown.1; refutes = shown.2; logged = shown.3 }
 
   verify_refutes : EndsVerify files root problem file ending → IsRefutation files root problem old new
   verify_refutes (inl (fault, resolves, says)) = no_include fault ending zero says
@@ -139,7 +141,7 @@ module _ (files : Files) (root : Option (List ℕ)) (problem file : List ℕ) (e
     where
       derived : IsGiven (Some files) root problem (given_theory lines v) whole.read → {text : List ℕ} → SaysDerivation problem file (given_theory lines v) (given_names lines) (conjecture_marks lines) (has_conjecture lines) text ending → IsRefutation files root problem old new
       derived given (inl (fault, first, says)) = no_derivation file fault ending zero says
-      derived given (inr (d, w, is, ends)) = checked_refutes _ (given_theory lines v) whole.read d w given ends
+      derived given {text = text} (inr (d, w, is, ends)) = checked_refutes _ (given_theory lines v) whole.read d w given (derivation_brings text (given_names lines) v d w is) ends
 
 format_no_verify : (file problem derivation : List ℕ) (log : Option (List ℕ)) → Format file ≡ Verify problem derivation log → ⊥
 format_no_verify file problem derivation log e = cc

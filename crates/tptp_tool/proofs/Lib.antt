@@ -1,9 +1,11 @@
+pub mod Absences
 pub mod Causes
 pub mod Checks
 pub mod Completes
 pub mod Derivations
 pub mod Exact
 pub mod Formats
+pub mod FormulaCounts
 pub mod GoodEnds
 pub mod Headline
 pub mod OneEnding

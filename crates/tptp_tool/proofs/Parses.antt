@@ -1,14 +1,12 @@
 -- How the command `parse` ends, by what it meets in turn.
-use Rattle.std.proofs.Common.{◌≡◌, ◌⊎◌, inl, inr, ℕ, ◌≤◌, ◌<◌, ◌^◌, List, [], ◌∷◌, length, Option, None, Some, IfSome, IsSomeAnd, Ok, Err, refl, sym, ◌∙◌, ap, subst, arith}
-use Rattle.std.specs.Prelude.{⊤}
+use Rattle.std.proofs.Common.{◌≡◌, ◌⊎◌, inl, inr, ℕ, ◌≤◌, ◌<◌, ◌^◌, List, Option, None, Some, IfSome, Ok, Err, sym, ◌∙◌, ap, arith}
 use Rattle.tptp_base.specs.declared.item.Item.{Item}
-use Rattle.tptp_base.specs.Store.{Files, HasFile, file_at}
+use Rattle.tptp_base.specs.Store.{Files}
 use Rattle.include_resolve.specs.declared.fault.IncludeFault.{IncludeFault}
 use Rattle.include_resolve.specs.declared.fault.IncludeFault.TheVariants as included
 use Rattle.include_resolve.specs.declared.problem.Problem.{Problem}
 use Rattle.include_resolve.specs.declared.problem.TheConstants.{TOTAL_SIZE}
-use Rattle.include_resolve.specs.Parts.{Answer}
-use Rattle.include_resolve.specs.Resolved.{Resolves, Answers, IsFirstFile, first, later, Opens, missing, cycle, too_deep, opened}
+use Rattle.include_resolve.specs.Resolved.{Resolves, Answers}
 use Rattle.fof_terms.specs.Vocabulary.{Vocabulary}
 use Rattle.sort_check.specs.declared.fault.SortFault.{SortFault}
 use Rattle.sort_check.specs.declared.fault.SortFault.TheVariants as sorted
@@ -17,9 +15,7 @@ use Rattle.sort_check.specs.declared.line.TextKind.TheVariants as kind
 use Rattle.sort_check.specs.Texts.{denoted, Gives}
 use Rattle.tptp_tool.specs.Denoted.{first_vocabulary, SaysIncludeFault, SaysSortFault}
 use Rattle.tptp_tool.specs.Ending.{Ending}
-use Rattle.tptp_tool.specs.Outcome.{SaysMissing}
 use Rattle.tptp_tool.specs.Parsed.{EndsParse, counted, formula_count}
-use Rattle.tptp_tool.specs.Words.{Parse}
 
 -- ---- faults on the walk through the files
 
@@ -33,52 +29,6 @@ said_resolves told root file (included.Text name fault) ending answers says = an
 said_resolves told root file (included.Limit name limit) ending answers says = answers
 said_resolves told root file included.Store ending answers says = absurd says
 said_resolves told root file included.Memory ending answers says = absurd says
-
--- among no names none is found
-none_found : {R : Type 0} {told : Option Files} {names : List (List ℕ)} {name : List ℕ} → IsFirstFile told names name → names ≡ [] → R
-none_found (first has) e = absurd cc
-none_found (later is_missing found) e = absurd cc
-
--- of one name it is the one that is found
-one_found : {told : Option Files} {names : List (List ℕ)} {name : List ℕ} → IsFirstFile told names name → (file : List ℕ) → names ≡ file ∷ [] → HasFile told file (λ bytes. ⊤)
-one_found {told = told} (first {name = name} has) file e = let same : name ≡ file = cc in subst (λ (n : List ℕ). HasFile told n (λ bytes. ⊤)) same has
-one_found (later {names = names} is_missing found) file e = let none : names ≡ [] = cc in none_found found none
-
-no_file : {R : Type 0} (found : Option (List ℕ)) → found ≡ None → IsSomeAnd found (λ bytes. ⊤) → R
-no_file None is has = absurd has
-no_file (Some bytes) is has = absurd cc
-
--- a file that is missing is not found
-no_first : {R : Type 0} (files : Files) (file name : List ℕ) → file_at files file ≡ None → IsFirstFile (Some files) (file ∷ []) name → R
-no_first files file name none found = no_file (file_at files file) none (one_found found file refl)
-
--- where the file itself is missing, the fault is that it is
-pub missing_is : (files : Files) (root : Option (List ℕ)) (file : List ℕ) (answer : Answer) → file_at files file ≡ None → Resolves (Some files) root file answer → answer ≡ Err (included.Missing file)
-missing_is files root file answer none (missing all) = refl
-missing_is files root file answer none (cycle {name = name} found on) = no_first files file name none found
-missing_is files root file answer none (too_deep {name = name} found off deep) = no_first files file name none found
-missing_is files root file answer none (opened {name = name} found off room reads) = no_first files file name none found
-
-abbrev refused : IncludeFault → Answer
-refused fault = Err fault
-
-abbrev found : Problem → Answer
-found problem = Ok problem
-
-one_fault : (fault other : IncludeFault) → refused fault ≡ refused other → fault ≡ other
-one_fault fault other e = cc
-
-not_refused : (problem : Problem) (fault : IncludeFault) → found problem ≡ refused fault → ⊥
-not_refused problem fault e = cc
-
--- a missing file is told so, and nothing else is told
-pub missing_told : (told : Option Files) (root : Option (List ℕ)) (file : List ℕ) (fault : IncludeFault) → Resolves told root file (Err fault) → SaysMissing told (Parse file) → fault ≡ included.Missing file
-missing_told None root file fault resolves says = absurd says
-missing_told (Some files) root file fault resolves says = one_fault fault (included.Missing file) (missing_is files root file (Err fault) says resolves)
-
-pub not_missing : (told : Option Files) (root : Option (List ℕ)) (file : List ℕ) (problem : Problem) → Resolves told root file (Ok problem) → SaysMissing told (Parse file) → ⊥
-not_missing None root file problem resolves says = says
-not_missing (Some files) root file problem resolves says = not_refused problem (included.Missing file) (missing_is files root file (Ok problem) says resolves)
 
 -- a fault against the rules of sorts of which something is said is that of the text
 module _ (items : List Item) (v w : Vocabulary) (files : List (List ℕ)) (ending : Ending) where

@@ -3,14 +3,8 @@ use Rattle.std.proofs.Common.{◌≡◌, ℕ, ◌<◌, ◌≤◌, ◌^◌, List,
 use Rattle.std.specs.Prelude.{decimal}
 use Rattle.std.specs.Str.Parse.{ParsesUnsigned}
 use Rattle.std.proofs.lemmas.Fmt.{parse-decimal}
-use Rattle.tptp_base.specs.Store.{Files}
-use Rattle.tptp_tool.specs.Outcome.{SaysMissing}
-use Rattle.tptp_tool.specs.Stop.{IfAnswer}
-use Rattle.tptp_tool.specs.declared.stop.Answer.{Answer}
-use Rattle.tptp_tool.specs.declared.stop.Halt.{Halt}
-use Rattle.tptp_tool.specs.declared.stop.Halt.TheVariants.{Refused, Stopped}
 use Rattle.tptp_tool.specs.Options.{BeginOtherwise, NameRoot, NameNoRoot, NameLimit, NameNoLimit, NameNoTask}
-use Rattle.tptp_tool.specs.Words.{Task, Verify, Format, Parse, Check, Request, IsName, IsLimit, HasNames, IsForm, HaveNoForm, AskFor, root_words, limit_words, limit_of, task_words}
+use Rattle.tptp_tool.specs.Words.{Task, Verify, Format, Parse, Check, Request, IsName, IsLimit, HasNames, IsForm, HaveNoForm, root_words, limit_words, limit_of, task_words}
 
 abbrev Words : Type 0
 Words = List (List ℕ)
@@ -222,19 +216,3 @@ out_of_range m word r read parses fails n is number = fails (subst IsLimit (sym 
 
 pub other_text : {E : Type 0} (m : ℕ) (word : List ℕ) (r : Result ℕ E) → r ≡ Ok m → ParsesUnsigned 32 10 word r → (word ≡ decimal m → ⊥) → (n : ℕ) → word ≡ decimal n → IsLimit n → ⊥
 other_text m word r read parses differs n is number = differs (is ∙ ap decimal (sym (limit_same m n word r read parses is number)))
-
--- what holds of the task of a request holds of the task that the words ask for
-module _ (T : Type 0) (told : Option Files) (words : Words) (request : Request) (own : Task) (form : IsForm words request) (is : request.task ≡ own) where
-  abbrev Missing : Answer → Type 0
-  Missing answer = answer.status ≡ 3 → SaysMissing told own → T
-
-  abbrev AskedMissing : Answer → Type 0
-  AskedMissing answer = answer.status ≡ 3 → (task : Task) → AskFor words task → SaysMissing told task → T
-
-  asked_of : (answer : Answer) → Missing answer → AskedMissing answer
-  asked_of answer missing three task asked says = missing three (subst (SaysMissing told) (sym (sym is ∙ one_task words request asked.0 form asked.1 ∙ asked.2)) says)
-
-  pub asked_missing : (r : Result Answer Halt) → IfAnswer r Missing → IfAnswer r AskedMissing
-  asked_missing (Ok answer) missing = asked_of answer missing
-  asked_missing (Err (Refused answer)) missing = asked_of answer missing
-  asked_missing (Err (Stopped stop)) missing = tt

@@ -21,11 +21,11 @@ use Rattle.tptp_tool.specs.Denoted.{IsProblemRefusal}
 use Rattle.tptp_tool.specs.Derived.{IsDerivationRefusal}
 use Rattle.tptp_tool.specs.Ending.{Ending, IsReadRefusal, AfterFile}
 use Rattle.tptp_tool.specs.Ends as Said
-use Rattle.tptp_tool.specs.Outcome.{SaysMissing, TakesSomeOfProblemLog, TakesSomeOfTaskLog, TakesSomeOfRunLog}
+use Rattle.tptp_tool.specs.Outcome.{TakesSomeOfProblemLog, TakesSomeOfTaskLog, TakesSomeOfRunLog}
 use Rattle.tptp_tool.specs.Sources.{IsSource, given_names, conjecture_marks, has_conjecture}
 use Rattle.tptp_tool.specs.Stop.{HasCause, IfAnswer, IfRefused, IfStopped}
 use Rattle.tptp_tool.specs.Verifying.{EndsChecked, EndsVerify, SaysDerivation, asked_by, status_of}
-use Rattle.tptp_tool.specs.Words.{Task, Parse, Verify, Request, IsForm}
+use Rattle.tptp_tool.specs.Words.{Task, Verify, Request, IsForm}
 use Rattle.tptp_tool.specs.declared.run.TheConstants.{TOTAL_SIZE}
 use Rattle.tptp_tool.specs.declared.sources.Source.{Source}
 use Rattle.tptp_tool.specs.declared.stop.Answer.{Answer}
@@ -128,30 +128,6 @@ module _ (root : Option (List ℕ)) (problem file : List ℕ) where
 -- the vocabulary of a source
 pub source_same : (told : Option Files) (root : Option (List ℕ)) (file : List ℕ) (source : Source) → IsSource told root file source → source.theory.vocabulary ≡ source.signature
 source_same told root file source (whole, resolves, (lines, v, denotes, gives, read_is)) = ap (λ (t : Statements). t.vocabulary) gives.theory ∙ sym gives.signature
-
--- ---- missing files
-
-pub verify_parsed : (told : Option Files) (problem derivation : List ℕ) (named : Option (List ℕ)) → SaysMissing told (Verify problem derivation named) → SaysMissing told (Parse problem)
-verify_parsed None problem derivation named says = absurd says
-verify_parsed (Some files) problem derivation named says = says
-
-module _ (R : Type 0) (told : Option Files) (problem derivation : List ℕ) where
-  abbrev pub Missing : Answer → Type 0
-  Missing answer = answer.status ≡ 3 → (named : Option (List ℕ)) → SaysMissing told (Verify problem derivation named) → R
-
-  pub never_missing : (r : Result Answer Halt) → (SaysMissing told (Parse problem) → ⊥) → IfAnswer r Missing
-  never_missing (Ok answer) present = λ three named says. absurd (present (verify_parsed told problem derivation named says))
-  never_missing (Err (Refused answer)) present = λ three named says. absurd (present (verify_parsed told problem derivation named says))
-  never_missing (Err (Stopped stop)) present = tt
-
-  pub refused_missing : (T : Type 0) (halt : Halt) → IfRefused {T = T} (Err halt) (λ answer. SaysMissing told (Parse problem) → R) → IfAnswer (Err halt) Missing
-  refused_missing T (Refused answer) missing = λ three named says. missing (verify_parsed told problem derivation named says)
-  refused_missing T (Stopped stop) missing = tt
-
-  pub missing_named : (r : Result Answer Halt) (named : Option (List ℕ)) → IfAnswer r Missing → IfAnswer r (λ answer. answer.status ≡ 3 → SaysMissing told (Verify problem derivation named) → R)
-  missing_named (Ok answer) named missing = λ three says. missing three named says
-  missing_named (Err (Refused answer)) named missing = λ three says. missing three named says
-  missing_named (Err (Stopped stop)) named missing = tt
 
 -- ---- causes
 

@@ -8,6 +8,7 @@ pub mod Ends
 pub mod Formatted
 pub mod GoodRuns
 pub mod Options
+pub mod OtherFaults
 pub mod Outcome
 pub mod Parsed
 pub mod Refuted

@@ -1,14 +1,17 @@
 -- What a whole run answers and writes: its end, or how far it came where the outside fails or memory is wanting.
-use Rattle.std.specs.Prelude.{◌≡◌, ◌⊎◌, ℕ, ◌≤◌, List, None, Some}
+use Rattle.std.specs.Prelude.{◌≡◌, ◌⊎◌, ℕ, ◌≤◌, List, None, Some, Err}
 use Rattle.std.specs.declared.option.Option.{Option}
 use Rattle.tptp_base.specs.Sink.{Takes, TakesPrefix}
 use Rattle.tptp_base.specs.Store.{Files, file_at}
 use Rattle.kernel.specs.Statements.{Statements}
 use Rattle.kernel.specs.Entries.{Refutes}
 use Rattle.kernel.specs.declared.entry.Entry.{Entry}
-use Rattle.proof_log.specs.Entries.{log_text}
+use Rattle.proof_log.specs.Entries.{AreLogged, log_text}
+use Rattle.include_resolve.specs.Resolved.{Resolves}
+use Rattle.include_resolve.specs.declared.fault.IncludeFault.TheVariants.{Missing}
 use Rattle.derivation_check.specs.Logs.{TakesSomeOfLog}
 use Rattle.tptp_tool.specs.CheckedLog.{IsGiven}
+use Rattle.tptp_tool.specs.Complete.{IsWellSorted}
 use Rattle.tptp_tool.specs.Ending.{Ending}
 use Rattle.tptp_tool.specs.Ends.{Ends}
 use Rattle.tptp_tool.specs.Words.{Task, Verify, Format, Parse, Check, Request, IsForm}
@@ -40,14 +43,20 @@ TakesSomeOfTaskLog files root (Format file) old new = new ≡ old
 TakesSomeOfTaskLog files root (Parse file) old new = new ≡ old
 TakesSomeOfTaskLog files root (Check problem log) old new = new ≡ old
 
--- status 3 says of the task that a file is missing: where the file to be formatted or parsed, or the problem of a derivation
--- or a log, is not among the files that the store tells
-abbrev pub SaysMissing : Option Files → Task → Type 0
-SaysMissing None task = ⊥
-SaysMissing (Some files) (Verify problem derivation log) = file_at files problem ≡ None
-SaysMissing (Some files) (Format file) = file_at files file ≡ None
-SaysMissing (Some files) (Parse file) = file_at files file ≡ None
-SaysMissing (Some files) (Check problem log) = file_at files problem ≡ None
+-- the file of the problem, or a file that it includes, is not there
+abbrev pub LacksProblem : Files → Option (List ℕ) → List ℕ → Type 0
+LacksProblem files root problem = (written : List ℕ) × Resolves (Some files) root problem (Err (Missing written))
+
+-- the problem has no fault, and the other file that the task names is not there
+abbrev pub LacksOther : Files → Option (List ℕ) → List ℕ → List ℕ → Type 0
+LacksOther files root problem other = IsWellSorted files root problem × (file_at files other ≡ None)
+
+-- status 3 says of the task that a file is missing
+abbrev pub SaysMissing : Files → Option (List ℕ) → Task → Type 0
+SaysMissing files root (Verify problem derivation log) = LacksProblem files root problem ⊎ LacksOther files root problem derivation
+SaysMissing files root (Format file) = file_at files file ≡ None
+SaysMissing files root (Parse file) = LacksProblem files root file
+SaysMissing files root (Check problem log) = LacksProblem files root problem ⊎ LacksOther files root problem log
 
 -- nothing was taken, or so much of a log from the problem of the task that the words ask for
 abbrev pub TakesSomeOfRunLog : Files → List (List ℕ) → Option (List ℕ) → Option (List ℕ) → Type 0
@@ -60,7 +69,7 @@ pub record IsOutcome (files : Files) (words : List (List ℕ)) (status : ℕ) (o
   pub cut_short : (status ≡ 5) ⊎ (status ≡ 6) → TakesSomeOfOut files words out_old out_new × TakesSomeOfRunLog files words log_old log_new
 
 -- The headline: the log that was taken is a list of legal entries that leads from what the problem in the file gives, with
--- all that it includes, to falsehood.
+-- all that it includes, to falsehood. Each of them stands in logs, so the list is the only one that the log is the text of.
 pub record IsRefutation (files : Files) (root : Option (List ℕ)) (problem : List ℕ) (log_old log_new : Option (List ℕ)) : Type 0 where
   pub theory : Statements
   pub read : ℕ
@@ -68,3 +77,4 @@ pub record IsRefutation (files : Files) (root : Option (List ℕ)) (problem : Li
   pub entries : List Entry
   pub taken : Takes log_old log_new (log_text entries)
   pub refutes : Refutes theory entries
+  pub logged : AreLogged entries

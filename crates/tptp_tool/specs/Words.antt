@@ -76,10 +76,6 @@ pub record IsForm (words : List (List ℕ)) (request : Request) : Type 0 where
 abbrev pub HaveNoForm : List (List ℕ) → Type 0
 HaveNoForm words = (request : Request) → IsForm words request → ⊥
 
--- the words ask for the task, with some options
-abbrev pub AskFor : List (List ℕ) → Task → Type 0
-AskFor words task = (request : Request) × IsForm words request × (request.task ≡ task)
-
 -- the task of a job as the code holds it
 abbrev pub task_of : Job → Task
 task_of (job.Verify problem derivation log) = Verify problem.now derivation.now (option_copied log)

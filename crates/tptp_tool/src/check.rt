@@ -6,9 +6,9 @@ ghost use Rattle.tptp_tool.specs.Answer.{ending_of};
 ghost use Rattle.tptp_tool.specs.CheckedLog as spec;
 ghost use Rattle.tptp_tool.specs.CheckedLog.{EndsCheck, SaysLog, SaysEntries};
 ghost use Rattle.tptp_tool.specs.Ending.{AfterFile};
-ghost use Rattle.tptp_tool.specs.Outcome.{IsAnswer, SaysMissing};
+ghost use Rattle.tptp_tool.specs.OtherFaults.{SaysProblemFault};
+ghost use Rattle.tptp_tool.specs.Outcome.{IsAnswer};
 ghost use Rattle.tptp_tool.specs.Stop.{HasCause, IfAnswer, IfStopped};
-ghost use Rattle.tptp_tool.specs.Words.{Check};
 
 use crate::given::{Given, read_given};
 use crate::refusals::read_text;
@@ -20,7 +20,7 @@ use std::alloc::{AllocError, Global};
 use tptp_base::{FILE_SIZE, Store};
 
 /// Reads a problem with all that it includes, and a log, and says whether the log leads from the problem to falsehood.
-#[tactic(auto, using(crate::proofs::Checks::ends_refused, crate::proofs::Checks::missing_parsed))]
+#[tactic(auto, using(crate::proofs::Checks::ends_refused))]
 pub fn check<S: Store>(
     alloc: Global,
     store: &mut S,
@@ -30,7 +30,7 @@ pub fn check<S: Store>(
 ) -> Result<Answer, Halt>
     ensures ends { IfAnswer result (λ answer. IfSome (S.files store.old) (λ files. EndsCheck files (option_copied root.entry) problem.now log.now (ending_of answer))) }
     ensures status { IfAnswer result (λ answer. IsAnswer answer.status) }
-    ensures missing { IfAnswer result (λ answer. answer.status ≡ 3 → SaysMissing (S.files store.old) (Check problem.now log.now) → Rose (S.absents store.old) (S.absents store.new)) }
+    ensures absence { IfAnswer result (λ answer. answer.status ≡ 3 → Rose (S.absents store.old) (S.absents store.new) ⊎ SaysProblemFault (S.files store.old) (option_copied root.entry) problem.now (ending_of answer)) }
     ensures cause { IfStopped result (λ stop. HasCause stop (Rose (S.faults store.old) (S.faults store.new)) ⊥) }
 {
     let mut given = read_given(alloc, store, root, problem)?;
@@ -38,7 +38,7 @@ pub fn check<S: Store>(
 }
 
 // What is said of the file of a log.
-#[tactic(auto, using(crate::proofs::Checks::log_unread, crate::proofs::Checks::log_said))]
+#[tactic(auto, using(crate::proofs::Checks::log_unread, crate::proofs::Checks::log_said, crate::proofs::Absences::read_said))]
 fn check_log<S: Store>(
     alloc: Global,
     store: &mut S,
@@ -48,6 +48,7 @@ fn check_log<S: Store>(
     requires { given.old.read ≤ TOTAL_SIZE }
     ensures ends { IfAnswer result (λ answer. IfSome (S.files store.old) (λ files. AfterFile files log.now (TOTAL_SIZE - given.old.read) (SaysLog given.old.theory) (ending_of answer))) }
     ensures status { IfAnswer result (λ answer. IsAnswer answer.status) }
+    ensures absence { IfAnswer result (λ answer. answer.status ≡ 3 → Rose (S.absents store.old) (S.absents store.new)) }
     ensures cause { IfStopped result (λ stop. HasCause stop (Rose (S.faults store.old) (S.faults store.new)) ⊥) }
 {
     let text = read_text(alloc, store, log, TOTAL_SIZE - given.read)?;

@@ -1,11 +1,12 @@
 // The command `format`.
-ghost use Rattle.std.specs.Prelude.{⊤, ◌≡◌, IfSome};
+ghost use Rattle.std.specs.Prelude.{◌≡◌, ◌⊎◌, IfSome};
 ghost use Rattle.tptp_base.specs.Count.{Rose};
 ghost use Rattle.tptp_tool.specs.Answer.{ending_of};
 ghost use Rattle.tptp_tool.specs.Formatted.{EndsFormat, SaysText};
-ghost use Rattle.tptp_tool.specs.Outcome.{IsAnswer, SaysMissing};
+ghost use Rattle.tptp_tool.specs.OtherFaults.{SaysFileFault};
+ghost use Rattle.tptp_tool.specs.Outcome.{IsAnswer};
+ghost use Rattle.tptp_tool.specs.Spelled.{IsTextRefusal};
 ghost use Rattle.tptp_tool.specs.Stop.{HasCause, IfAnswer, IfStopped};
-ghost use Rattle.tptp_tool.specs.Words.{Format};
 
 use crate::refusals::read_text;
 use crate::run::TOTAL_SIZE;
@@ -19,7 +20,7 @@ use tptp_base::Store;
 pub fn format<S: Store>(alloc: Global, store: &mut S, file: &str) -> Result<Answer, Halt>
     ensures ends { IfAnswer result (λ answer. IfSome (S.files store.old) (λ files. EndsFormat files file.now (ending_of answer))) }
     ensures status { IfAnswer result (λ answer. IsAnswer answer.status) }
-    ensures missing { IfAnswer result (λ answer. answer.status ≡ 3 → SaysMissing (S.files store.old) (Format file.now) → Rose (S.absents store.old) (S.absents store.new)) }
+    ensures absence { IfAnswer result (λ answer. answer.status ≡ 3 → Rose (S.absents store.old) (S.absents store.new) ⊎ SaysFileFault (S.files store.old) file.now (ending_of answer)) }
     ensures cause { IfStopped result (λ stop. HasCause stop (Rose (S.faults store.old) (S.faults store.new)) ⊥) }
 {
     let text = read_text(alloc, store, file, TOTAL_SIZE)?;
@@ -27,9 +28,10 @@ pub fn format<S: Store>(alloc: Global, store: &mut S, file: &str) -> Result<Answ
 }
 
 // The canonical text of what the text of a file spells, or what is said of its first fault.
-#[tactic(auto, using(crate::proofs::Formats::refusal_said))]
+#[tactic(auto, using(crate::proofs::Formats::refusal_said, crate::proofs::Formats::refusal_is))]
 fn format_text(alloc: Global, file: &str, text: &[u8]) -> Result<Answer, Halt>
     ensures said { IfAnswer result (λ answer. SaysText file.now text.now (ending_of answer)) }
+    ensures refused { IfAnswer result (λ answer. answer.status ≡ 3 → IsTextRefusal file.now text.now (ending_of answer)) }
     ensures status { IfAnswer result (λ answer. IsAnswer answer.status) }
     ensures cause { IfStopped result (λ stop. HasCause stop ⊥ ⊥) }
 {

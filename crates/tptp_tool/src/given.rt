@@ -9,9 +9,8 @@ ghost use Rattle.sort_check.specs.declared.line.TextKind.TheVariants as kind;
 ghost use Rattle.tptp_tool.specs.Answer.{ending_of};
 ghost use Rattle.tptp_tool.specs.CheckedLog.{given_theory, IsTheoryOf, IsGiven};
 ghost use Rattle.tptp_tool.specs.Denoted.{first_vocabulary, SaysSortFault, IsProblemRefusal};
-ghost use Rattle.tptp_tool.specs.Outcome.{SaysMissing};
+ghost use Rattle.tptp_tool.specs.OtherFaults.{SaysProblemFault};
 ghost use Rattle.tptp_tool.specs.Stop.{HasCause, IfRefused, IfStopped};
-ghost use Rattle.tptp_tool.specs.Words.{Parse};
 ghost use Rattle.tptp_tool.specs.declared.run.TheConstants.{TOTAL_SIZE};
 
 use crate::denoted::{Meaning, read_meaning};
@@ -32,7 +31,7 @@ pub struct Given {
 }
 
 /// What the problem in the file gives, with all that it includes. The first fault is refused.
-#[tactic(auto, using(crate::proofs::Checks::given_is, crate::proofs::Checks::include_refused, crate::proofs::Checks::sort_refused))]
+#[tactic(auto, using(crate::proofs::Checks::given_is, crate::proofs::Checks::include_refused, crate::proofs::Checks::sort_refused, crate::proofs::Absences::problem_said, crate::proofs::Absences::sorts_said))]
 pub fn read_given<S: Store>(
     alloc: Global,
     store: &mut S,
@@ -43,8 +42,7 @@ pub fn read_given<S: Store>(
     ensures in_budget { IfOk result (λ given. given.read ≤ TOTAL_SIZE) }
     ensures refused { IfRefused result (λ answer. IsProblemRefusal (S.files store.old) (option_copied root.entry) file.now (ending_of answer)) }
     ensures status { IfRefused result (λ answer. (answer.status ≡ 3) ⊎ (answer.status ≡ 7)) }
-    ensures missing { IfRefused result (λ answer. SaysMissing (S.files store.old) (Parse file.now) → Rose (S.absents store.old) (S.absents store.new)) }
-    ensures present { IfOk result (λ given. SaysMissing (S.files store.old) (Parse file.now) → ⊥) }
+    ensures absence { IfRefused result (λ answer. Rose (S.absents store.old) (S.absents store.new) ⊎ SaysProblemFault (S.files store.old) (option_copied root.entry) file.now (ending_of answer)) }
     ensures cause { IfStopped result (λ stop. HasCause stop (Rose (S.faults store.old) (S.faults store.new)) ⊥) }
     ensures same_files { S.files store.new ≡ S.files store.old }
     ensures more_absents { S.absents store.old ≤ S.absents store.new }

@@ -1,7 +1,7 @@
 //! Laws of what runs end with, shown by functions that do nothing. A run on words ends so by the clause `outcome` of
 //! `run_tptp`, and the log of a success is a refutation by its clause `sound`.
 ghost use Rattle.kernel.specs.Statements.{Statements};
-ghost use Rattle.proof_log.specs.Answers.{CanBeRead};
+ghost use Rattle.proof_log.specs.Answers.{NestWithin};
 ghost use Rattle.proof_log.specs.declared.reader.TheConstants.{MAX_NESTING};
 ghost use Rattle.std.specs.Prelude.{◌≡◌, ◌⊎◌, ℕ, List, [], Some, length, Option};
 ghost use Rattle.tptp_base.specs.Store.{Files as StoreFiles, file_at};
@@ -22,11 +22,11 @@ pub fn a_check_is_exact()
         → IsRefused files request.root problem ending ⊎ IsExact files request.root problem log ending }
 {}
 
-/// The log of a success, put into a store in which the problem gives the same, is found to refute the problem: if the log is
-/// within the limits, and its entries can be read back.
+/// The log of a success, put into a store in which the problem gives the same, is found to refute the problem, if it is within
+/// the limits: that of nesting, and that of the bytes that are read.
 pub fn a_verified_log_checks()
     ensures { (files after : StoreFiles) (words : List (List ℕ)) (request : Request) (problem log text : List ℕ)
-        → (run : IsRefutation files request.root problem (Some List.[]) (Some text)) → CanBeRead MAX_NESTING run.entries
+        → (run : IsRefutation files request.root problem (Some List.[]) (Some text)) → NestWithin MAX_NESTING run.entries
         → GivesTheSame files after request.root problem → file_at after log ≡ Some text → Fits run.read (length text)
         → (ending : Ending) → Ends after words ending → IsForm words request → request.task ≡ Check problem log
         → ending ≡ refuted (length run.entries) }

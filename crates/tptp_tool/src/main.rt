@@ -2,6 +2,7 @@
 #![tactic(auto)]
 
 mod check;
+mod counts;
 mod denoted;
 mod derived;
 mod format;

@@ -1,13 +1,13 @@
 // The command `parse`.
-ghost use Rattle.std.specs.Prelude.{◌≡◌, IfOk, IfSome};
+ghost use Rattle.std.specs.Prelude.{◌≡◌, ◌⊎◌, IfOk, IfSome};
 ghost use Rattle.std.specs.Option.{option_copied};
 ghost use Rattle.tptp_base.specs.Count.{Rose};
 ghost use Rattle.tptp_tool.specs.Answer.{ending_of};
-ghost use Rattle.tptp_tool.specs.Outcome.{IsAnswer, SaysMissing};
+ghost use Rattle.tptp_tool.specs.OtherFaults.{SaysProblemFault};
+ghost use Rattle.tptp_tool.specs.Outcome.{IsAnswer};
 ghost use Rattle.tptp_tool.specs.Parsed as spec;
 ghost use Rattle.tptp_tool.specs.Parsed.{EndsParse};
 ghost use Rattle.tptp_tool.specs.Stop.{HasCause, IfAnswer, IfStopped};
-ghost use Rattle.tptp_tool.specs.Words.{Parse};
 
 use crate::denoted::read_meaning;
 use crate::resolved::read_files;
@@ -16,7 +16,7 @@ use std::alloc::{AllocError, Global};
 use tptp_base::{Item, Store};
 
 /// Reads the problem in a file with all that it includes, checks its sorts, and says how many formulas it has.
-#[tactic(auto, using(crate::proofs::Parses::ends_included, crate::proofs::Parses::ends_sorted, crate::proofs::Parses::ends_counted))]
+#[tactic(auto, using(crate::proofs::Parses::ends_included, crate::proofs::Parses::ends_sorted, crate::proofs::Parses::ends_counted, crate::proofs::Absences::problem_said, crate::proofs::Absences::sorts_said, crate::proofs::Absences::counted_said))]
 pub fn parse<S: Store>(
     alloc: Global,
     store: &mut S,
@@ -25,7 +25,7 @@ pub fn parse<S: Store>(
 ) -> Result<Answer, Halt>
     ensures ends { IfAnswer result (λ answer. IfSome (S.files store.old) (λ files. EndsParse files (option_copied root.entry) file.now (ending_of answer))) }
     ensures status { IfAnswer result (λ answer. IsAnswer answer.status) }
-    ensures missing { IfAnswer result (λ answer. answer.status ≡ 3 → SaysMissing (S.files store.old) (Parse file.now) → Rose (S.absents store.old) (S.absents store.new)) }
+    ensures absence { IfAnswer result (λ answer. answer.status ≡ 3 → Rose (S.absents store.old) (S.absents store.new) ⊎ SaysProblemFault (S.files store.old) (option_copied root.entry) file.now (ending_of answer)) }
     ensures cause { IfStopped result (λ stop. HasCause stop (Rose (S.faults store.old) (S.faults store.new)) ⊥) }
 {
     let problem = read_files(alloc, store, root, file)?;

@@ -7,9 +7,8 @@ ghost use Rattle.include_resolve.specs.declared.fault.IncludeFault.{IncludeFault
 ghost use Rattle.tptp_tool.specs.Answer.{ending_of};
 ghost use Rattle.tptp_tool.specs.Denoted as spec;
 ghost use Rattle.tptp_tool.specs.Denoted.{SaysIncludeFault, SaysTextFault};
-ghost use Rattle.tptp_tool.specs.Outcome.{SaysMissing};
+ghost use Rattle.tptp_tool.specs.OtherFaults.{SaysWalkFault};
 ghost use Rattle.tptp_tool.specs.Stop.{HasCause, IfRefused, IfStopped};
-ghost use Rattle.tptp_tool.specs.Words.{Parse};
 ghost use Rattle.tptp_tool.specs.declared.run.TheConstants.{TOTAL_SIZE};
 
 use crate::saying::{no_such_file, over_limit, say_of_file};
@@ -21,7 +20,7 @@ use std::alloc::{AllocError, Global};
 use tptp_base::{LimitName, Name, Store};
 
 /// The problem in the file, with all that it includes. Its first fault is refused.
-#[tactic(auto, using(crate::proofs::Parses::said_resolves, crate::proofs::Parses::missing_told, crate::proofs::Parses::not_missing, crate::proofs::Parses::few_items))]
+#[tactic(auto, using(crate::proofs::Parses::said_resolves, crate::proofs::Parses::few_items))]
 pub fn read_files<S: Store>(
     alloc: Global,
     store: &mut S,
@@ -32,8 +31,7 @@ pub fn read_files<S: Store>(
     ensures few { IfOk result (λ problem. length problem.items < 2 ^ 32) }
     ensures refused { IfRefused result (λ answer. (fault : include_fault) × Resolves (S.files store.old) (option_copied root.entry) file.now (Err fault) × SaysIncludeFault fault (ending_of answer)) }
     ensures status { IfRefused result (λ answer. (answer.status ≡ 3) ⊎ (answer.status ≡ 7)) }
-    ensures missing { IfRefused result (λ answer. SaysMissing (S.files store.old) (Parse file.now) → Rose (S.absents store.old) (S.absents store.new)) }
-    ensures present { IfOk result (λ problem. SaysMissing (S.files store.old) (Parse file.now) → ⊥) }
+    ensures absence { IfRefused result (λ answer. Rose (S.absents store.old) (S.absents store.new) ⊎ SaysWalkFault (S.files store.old) (option_copied root.entry) file.now (ending_of answer)) }
     ensures in_budget { IfOk result (λ problem. problem.read ≤ TOTAL_SIZE) }
     ensures cause { IfStopped result (λ stop. HasCause stop (Rose (S.faults store.old) (S.faults store.new)) ⊥) }
     ensures same_files { S.files store.new ≡ S.files store.old }

@@ -7,9 +7,10 @@ ghost use Rattle.tptp_tool.specs.Complete.{MeetsNoFault};
 ghost use Rattle.tptp_tool.specs.Ending;
 ghost use Rattle.tptp_tool.specs.Ends.{Ends};
 ghost use Rattle.tptp_tool.specs.GoodRuns.{AreGood};
+ghost use Rattle.tptp_tool.specs.OtherFaults.{SaysOtherFault, TakesOtherFault};
 ghost use Rattle.tptp_tool.specs.Outcome.{IsAnswer, IsOutcome, IsRefutation, SaysMissing, TakesSomeOfRunLog};
 ghost use Rattle.tptp_tool.specs.Stop.{HasCause, IfAnswer, IfStopped};
-ghost use Rattle.tptp_tool.specs.Words.{Task, texts, Verify, AskFor, Request, IsForm};
+ghost use Rattle.tptp_tool.specs.Words.{texts, Verify, Request, IsForm};
 
 use crate::check::check;
 use crate::format::format;
@@ -56,9 +57,13 @@ pub fn run_tptp<S: Store, O: Sink, L: Sink>(
     ensures complete { IsAnswer result → IfSome (S.files store.old) (λ files. (request : Request) → IsForm (texts words.now) request
         → MeetsNoFault files request.root request.task → result ≡ 0) }
 
+    // A file is said to be missing only where the store answered that it is.
+    ensures missing { result ≡ 3 → IfSome (S.files store.old) (λ files. (request : Request) → IsForm (texts words.now) request
+        → SaysMissing files request.root request.task → Rose (S.absents store.old) (S.absents store.new)) }
+
     // Over any store: an answer, or a fault of the outside in this call, or want of memory.
     ensures status { IsAnswer result ⊎ ((4 ≤ result) × (result ≤ 6)) }
-    ensures missing { result ≡ 3 → (task : Task) → AskFor (texts words.now) task → SaysMissing (S.files store.old) task → Rose (S.absents store.old) (S.absents store.new) }
+    ensures absence { result ≡ 3 → Rose (S.absents store.old) (S.absents store.new) ⊎ TakesOtherFault (S.files store.old) (texts words.now) (O.taken out.old) (O.taken out.new) }
     ensures store_fault { result ≡ 4 → Rose (S.faults store.old) (S.faults store.new) }
     ensures sink_fault { result ≡ 5 → Rose (O.faults out.old) (O.faults out.new) ⊎ Rose (L.faults log.old) (L.faults log.new) }
 {
@@ -84,7 +89,7 @@ fn answer_words<S: Store, L: Sink>(
     ensures ends { IfOk result (λ answer. IfSome (S.files store.old) (λ files.
         IsAnswerWithLog (Ends files (texts words.now)) answer (L.taken log.old) (L.taken log.new))) }
     ensures status { IfOk result (λ answer. IsAnswer answer.status) }
-    ensures missing { IfOk result (λ answer. answer.status ≡ 3 → (task : Task) → AskFor (texts words.now) task → SaysMissing (S.files store.old) task → Rose (S.absents store.old) (S.absents store.new)) }
+    ensures absence { IfOk result (λ answer. answer.status ≡ 3 → Rose (S.absents store.old) (S.absents store.new) ⊎ SaysOtherFault (S.files store.old) (texts words.now) (ending_of answer)) }
     ensures cause { IfErr result (λ stop. HasCause stop
         ((L.taken log.new ≡ L.taken log.old) × Rose (S.faults store.old) (S.faults store.new))
         (Rose (L.faults log.old) (L.faults log.new))) }
@@ -98,6 +103,7 @@ fn answer_words<S: Store, L: Sink>(
 }
 
 // Does what the words ask for.
+#[tactic(auto, using(crate::proofs::Absences::usage_said))]
 fn run_words<S: Store, L: Sink>(
     alloc: Global,
     words: &[String],
@@ -107,7 +113,7 @@ fn run_words<S: Store, L: Sink>(
     ensures ends { IfAnswer result (λ answer. IfSome (S.files store.old) (λ files.
         IsAnswerWithLog (Ends files (texts words.now)) answer (L.taken log.old) (L.taken log.new))) }
     ensures status { IfAnswer result (λ answer. IsAnswer answer.status) }
-    ensures missing { IfAnswer result (λ answer. answer.status ≡ 3 → (task : Task) → AskFor (texts words.now) task → SaysMissing (S.files store.old) task → Rose (S.absents store.old) (S.absents store.new)) }
+    ensures absence { IfAnswer result (λ answer. answer.status ≡ 3 → Rose (S.absents store.old) (S.absents store.new) ⊎ SaysOtherFault (S.files store.old) (texts words.now) (ending_of answer)) }
     ensures cause { IfStopped result (λ stop. HasCause stop
         ((L.taken log.new ≡ L.taken log.old) × Rose (S.faults store.old) (S.faults store.new))
         (Rose (L.faults log.old) (L.faults log.new))) }

@@ -11,11 +11,10 @@ ghost use Rattle.sort_check.specs.declared.fault.SortFault.{SortFault as sort_fa
 ghost use Rattle.sort_check.specs.declared.line.TextKind.TheVariants as kind;
 ghost use Rattle.tptp_tool.specs.Answer.{ending_of};
 ghost use Rattle.tptp_tool.specs.Denoted.{first_vocabulary, SaysSortFault, IsProblemRefusal};
-ghost use Rattle.tptp_tool.specs.Outcome.{SaysMissing};
+ghost use Rattle.tptp_tool.specs.OtherFaults.{SaysProblemFault};
 ghost use Rattle.tptp_tool.specs.Sources as spec;
 ghost use Rattle.tptp_tool.specs.Sources.{IsSource, IsSourceOf};
 ghost use Rattle.tptp_tool.specs.Stop.{HasCause, IfRefused, IfStopped};
-ghost use Rattle.tptp_tool.specs.Words.{Parse};
 ghost use Rattle.tptp_tool.specs.declared.run.TheConstants.{TOTAL_SIZE};
 
 use crate::denoted::{Meaning, read_meaning};
@@ -47,7 +46,7 @@ pub struct Source {
 }
 
 /// What the problem in the file gives, with all that it includes. The first fault is refused.
-#[tactic(auto, using(crate::proofs::Sourced::source_is, crate::proofs::Checks::include_refused, crate::proofs::Checks::sort_refused))]
+#[tactic(auto, using(crate::proofs::Sourced::source_is, crate::proofs::Checks::include_refused, crate::proofs::Checks::sort_refused, crate::proofs::Absences::problem_said, crate::proofs::Absences::sorts_said))]
 pub fn read_source<S: Store>(
     alloc: Global,
     store: &mut S,
@@ -61,8 +60,7 @@ pub fn read_source<S: Store>(
     ensures in_budget { IfOk result (λ source. source.read ≤ TOTAL_SIZE) }
     ensures refused { IfRefused result (λ answer. IsProblemRefusal (S.files store.old) (option_copied root.entry) file.now (ending_of answer)) }
     ensures status { IfRefused result (λ answer. (answer.status ≡ 3) ⊎ (answer.status ≡ 7)) }
-    ensures missing { IfRefused result (λ answer. SaysMissing (S.files store.old) (Parse file.now) → Rose (S.absents store.old) (S.absents store.new)) }
-    ensures present { IfOk result (λ source. SaysMissing (S.files store.old) (Parse file.now) → ⊥) }
+    ensures absence { IfRefused result (λ answer. Rose (S.absents store.old) (S.absents store.new) ⊎ SaysProblemFault (S.files store.old) (option_copied root.entry) file.now (ending_of answer)) }
     ensures cause { IfStopped result (λ stop. HasCause stop (Rose (S.faults store.old) (S.faults store.new)) ⊥) }
     ensures same_files { S.files store.new ≡ S.files store.old }
     ensures more_absents { S.absents store.old ≤ S.absents store.new }

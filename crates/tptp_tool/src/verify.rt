@@ -1,18 +1,18 @@
 // The command `verify`.
-ghost use Rattle.std.specs.Prelude.{◌≡◌, ◌⊎◌, ◌≤◌, ◌<◌, ◌-◌, ◌^◌, ℕ, List, IfOk, IfErr, IfSome, length};
+ghost use Rattle.std.specs.Prelude.{◌≡◌, ◌⊎◌, ◌≤◌, ◌<◌, ◌-◌, ◌^◌, IfOk, IfErr, IfSome, length};
 ghost use Rattle.std.specs.List.{All};
 ghost use Rattle.std.specs.Option.{option_copied};
 ghost use Rattle.tptp_base.specs.Count.{Rose};
 ghost use Rattle.sort_check.specs.Sorting.{AreDeclared, Extends, IsSentence};
 ghost use Rattle.tstp_graph.specs.Graphs.{IsOrdered};
 ghost use Rattle.derivation_check.specs.Logs.{TakesSomeOfLog};
-ghost use Rattle.tptp_tool.specs.Answer.{IsAnswerWithLog};
+ghost use Rattle.tptp_tool.specs.Answer.{ending_of, IsAnswerWithLog};
+ghost use Rattle.tptp_tool.specs.Derived.{IsDerivationRefusal};
 ghost use Rattle.tptp_tool.specs.Ending.{AfterFile};
-ghost use Rattle.tptp_tool.specs.Outcome.{IsAnswer, SaysMissing, TakesSomeOfProblemLog};
+ghost use Rattle.tptp_tool.specs.OtherFaults.{SaysDerivedFault, SaysLinesFault, SaysProblemFault};
+ghost use Rattle.tptp_tool.specs.Outcome.{IsAnswer, TakesSomeOfProblemLog};
 ghost use Rattle.tptp_tool.specs.Stop.{HasCause, IfAnswer, IfStopped};
 ghost use Rattle.tptp_tool.specs.Verifying.{EndsChecked, EndsVerify, SaysDerivation, asked_by, status_of};
-ghost use Rattle.tptp_tool.specs.Words.{Verify};
-ghost use Rattle.std.specs.declared.option.Option.{Option};
 
 use crate::derived::read_derived;
 use crate::refusals::read_text;
@@ -34,7 +34,7 @@ pub fn verify<S: Store, L: Sink>(
     derivation: &str,
 ) -> Result<Answer, Halt>
     ensures ends { IfAnswer result (λ answer. IfSome (S.files store.old) (λ files. IsAnswerWithLog (EndsVerify files (option_copied root.entry) problem.now derivation.now) answer (L.taken log.old) (L.taken log.new))) }
-    ensures missing { IfAnswer result (λ answer. answer.status ≡ 3 → (named : Option (List ℕ)) → SaysMissing (S.files store.old) (Verify problem.now derivation.now named) → Rose (S.absents store.old) (S.absents store.new)) }
+    ensures absence { IfAnswer result (λ answer. answer.status ≡ 3 → Rose (S.absents store.old) (S.absents store.new) ⊎ (SaysProblemFault (S.files store.old) (option_copied root.entry) problem.now (ending_of answer) ⊎ SaysDerivedFault (S.files store.old) (option_copied root.entry) problem.now derivation.now (ending_of answer))) }
     ensures status { IfAnswer result (λ answer. IsAnswer answer.status) }
     ensures cause { IfStopped result (λ stop. HasCause stop
         ((L.taken log.new ≡ L.taken log.old) × Rose (S.faults store.old) (S.faults store.new))
@@ -68,6 +68,7 @@ fn verify_file<S: Store, L: Sink>(
         (AfterFile files file.now (TOTAL_SIZE - source.old.read) (SaysDerivation problem.now file.now source.old.theory source.old.names source.old.marks source.old.has_conjecture))
         answer (L.taken log.old) (L.taken log.new))) }
     ensures status { IfAnswer result (λ answer. IsAnswer answer.status) }
+    ensures absence { IfAnswer result (λ answer. answer.status ≡ 3 → Rose (S.absents store.old) (S.absents store.new) ⊎ SaysLinesFault (S.files store.old) file.now source.old.names source.old.signature (ending_of answer)) }
     ensures cause { IfStopped result (λ stop. HasCause stop
         ((L.taken log.new ≡ L.taken log.old) × Rose (S.faults store.old) (S.faults store.new))
         (Rose (L.faults log.old) (L.faults log.new))) }
@@ -80,6 +81,7 @@ fn verify_file<S: Store, L: Sink>(
 }
 
 // Checks the derivation that a text is.
+#[tactic(auto, using(crate::proofs::Absences::report_said))]
 fn verify_text<L: Sink>(
     alloc: Global,
     log: &mut L,
@@ -97,6 +99,7 @@ fn verify_text<L: Sink>(
         (SaysDerivation problem.now file.now source.old.theory source.old.names source.old.marks source.old.has_conjecture text.now)
         answer (L.taken log.old) (L.taken log.new)) }
     ensures status { IfAnswer result (λ answer. IsAnswer answer.status) }
+    ensures refused { IfAnswer result (λ answer. answer.status ≡ 3 → IsDerivationRefusal file.now text.now source.old.names source.old.signature (ending_of answer)) }
     ensures cause { IfStopped result (λ stop. HasCause stop ⊥ (Rose (L.faults log.old) (L.faults log.new))) }
     ensures log { TakesSomeOfLog source.old.theory (L.taken log.old) (L.taken log.new) }
 {

@@ -3,7 +3,7 @@ use super::{files, words_of};
 use crate::run::run_tptp;
 use std::alloc::{AllocError, Global};
 use std::test::Fail;
-use tptp_base::{List, SteadySink, SteadyStore, Text};
+use tptp_base::{List, MemoryStore, SteadySink, SteadyStore, Text};
 
 /// Whether a run on these words and files ends with the status and prints the text, and logs nothing.
 pub fn ends(
@@ -267,6 +267,65 @@ fn limits(rt: HostRuntime) -> Result<(), Fail> {
     let some = repeated(alloc, ",X", 125, true)?;
     let text = format!(in alloc; "fof(a,axiom,(! [Y{some}] : p) & (! [Y{some}] : p)).")?;
     let files = [("top.p", "include('x.p').\n"), ("x.p", text.as_str())];
+    assert!(rt; ends(alloc, "parse top.p", &files, 7, said)?);
+    Ok(())
+}
+
+// A text of so many times a piece.
+fn times(alloc: Global, piece: &str, count: u32) -> Result<String, AllocError> {
+    let mut text = String::new(alloc);
+    for _ in 0..count {
+        text.push_str(piece)?;
+    }
+    Ok(text)
+}
+
+// A file may have 67,108,864 bytes.
+#[test]
+fn sizes(rt: HostRuntime) -> Result<(), Fail> {
+    let alloc = rt.alloc();
+    let piece = times(alloc, " ", 65_536)?;
+    let most = times(alloc, piece.as_str(), 1_024)?;
+    let over = format!(in alloc; "{most} ")?;
+    let files = [("x.p", "include('y.p').\n"), ("y.p", over.as_str())];
+    for (line, printed) in [
+        ("parse y.p", "y.p: limit file size\n"),
+        ("parse x.p", "y.p: limit file size\n"),
+    ] {
+        assert!(rt; ends(alloc, line, &files, 7, printed)?);
+    }
+    Ok(())
+}
+
+// A read fails: the first of all, the first of the second file, and the one that would find its end.
+#[test]
+fn faults_of_the_store(rt: HostRuntime) -> Result<(), Fail> {
+    let alloc = rt.alloc();
+    for read in [1, 3, 4] {
+        let named = [("x.p", "include('y.p').\n"), ("y.p", "fof(a,axiom,a).\n")];
+        let fail = List::from_slice(alloc, &[read])?;
+        let mut store = MemoryStore::new(alloc, files(alloc, &named)?, fail)?;
+        let words = words_of(alloc, "parse x.p")?;
+        let mut out = SteadySink::new(alloc);
+        let mut log = SteadySink::new(alloc);
+        let answer = run_tptp(alloc, &words, &mut store, &mut out, &mut log);
+        assert_eq!(rt; answer, 4);
+        assert_eq!(rt; out.bytes(), b"".as_slice());
+    }
+    Ok(())
+}
+
+// There are 65,536 sorts at most, with that of individuals.
+#[test]
+fn many_sorts(rt: HostRuntime) -> Result<(), Fail> {
+    let alloc = rt.alloc();
+    let mut text = String::new(alloc);
+    for number in 0..65_536u32 {
+        text.push_str(format!(in alloc; "tff(t,type,s{number}: $tType).\n")?.as_str())?;
+    }
+    let files = [("top.p", "include('x.p').\n"), ("x.p", text.as_str())];
+    let said = "x.p:65536:1: in t: limit sorts\n";
+    assert!(rt; ends(alloc, "parse x.p", &files, 7, said)?);
     assert!(rt; ends(alloc, "parse top.p", &files, 7, said)?);
     Ok(())
 }

@@ -1,18 +1,18 @@
 use Rattle.std.proofs.Common.{ap}
 use Rattle.std.specs.Option.{option_copied}
-use Rattle.tptp_tool.specs.Words.{Parse, Check, Verify, texts, request_of, task_of}
-use Rattle.tptp_tool.proofs.Verifies.{missing_named, verify_asked, verify_logged}
+use Rattle.tptp_tool.specs.Words.{Format, Parse, Check, Verify, texts, request_of, task_of}
+use Rattle.tptp_tool.proofs.Absences.{asked_absence}
+use Rattle.tptp_tool.proofs.Verifies.{verify_asked, verify_logged}
 use Rattle.tptp_tool.proofs.Checks.{check_asked}
-use Rattle.tptp_tool.proofs.Requests.{asked_missing}
 use Rattle.tptp_tool.proofs.run.run_words.Goals as goal
 
-pub returns-in-Parse-clause-missing : goal.returns-in-Parse-clause-missing
-returns-in-Parse-clause-missing g c =
-    asked_missing _ (g.S.Store.files c.args.store.now) (texts c.args.words.now) (request_of c.in-Some.command) (Parse c.in-Parse.file.now) c.in-Some.ensures.some (ap task_of c.in-Parse.is) c.parse.result c.parse.ensures.missing
+pub returns-in-Parse-clause-absence : goal.returns-in-Parse-clause-absence
+returns-in-Parse-clause-absence g c =
+    asked_absence _ (g.S.Store.files c.args.store.now) (texts c.args.words.now) (request_of c.in-Some.command) (Parse c.in-Parse.file.now) c.parse.result c.in-Some.ensures.some (ap task_of c.in-Parse.is) c.parse.ensures.absence
 
-pub returns-in-Check-clause-missing : goal.returns-in-Check-clause-missing
-returns-in-Check-clause-missing g c =
-    asked_missing _ (g.S.Store.files c.args.store.now) (texts c.args.words.now) (request_of c.in-Some.command) (Check c.in-Check.problem.now c.in-Check.log.now) c.in-Some.ensures.some (ap task_of c.in-Check.is) c.check.result c.check.ensures.missing
+pub returns-in-Check-clause-absence : goal.returns-in-Check-clause-absence
+returns-in-Check-clause-absence g c =
+    asked_absence _ (g.S.Store.files c.args.store.now) (texts c.args.words.now) (request_of c.in-Some.command) (Check c.in-Check.problem.now c.in-Check.log.now) c.check.result c.in-Some.ensures.some (ap task_of c.in-Check.is) c.check.ensures.absence
 
 pub returns-in-Check-clause-ends : goal.returns-in-Check-clause-ends
 returns-in-Check-clause-ends g c =
@@ -22,10 +22,13 @@ pub returns-in-Verify-clause-ends : goal.returns-in-Verify-clause-ends
 returns-in-Verify-clause-ends g c =
     verify_asked (texts c.args.words.now) (request_of c.in-Some.command) c.in-Verify.problem.now c.in-Verify.derivation.now (option_copied c.in-Verify.field-2) c.in-Some.ensures.some (ap task_of c.in-Verify.is) (g.S.Store.files c.args.store.now) c.verify.result (g.L.Sink.taken c.args.log.now) (g.L.Sink.taken c.verify.new.log) c.verify.ensures.ends
 
-pub returns-in-Verify-clause-missing : goal.returns-in-Verify-clause-missing
-returns-in-Verify-clause-missing g c =
-    asked_missing _ (g.S.Store.files c.args.store.now) (texts c.args.words.now) (request_of c.in-Some.command) (Verify c.in-Verify.problem.now c.in-Verify.derivation.now (option_copied c.in-Verify.field-2)) c.in-Some.ensures.some (ap task_of c.in-Verify.is) c.verify.result
-    (missing_named _ (g.S.Store.files c.args.store.now) c.in-Verify.problem.now c.in-Verify.derivation.now c.verify.result (option_copied c.in-Verify.field-2) c.verify.ensures.missing)
+pub returns-in-Verify-clause-absence : goal.returns-in-Verify-clause-absence
+returns-in-Verify-clause-absence g c =
+    asked_absence _ (g.S.Store.files c.args.store.now) (texts c.args.words.now) (request_of c.in-Some.command) (Verify c.in-Verify.problem.now c.in-Verify.derivation.now (option_copied c.in-Verify.field-2)) c.verify.result c.in-Some.ensures.some (ap task_of c.in-Verify.is) c.verify.ensures.absence
+
+pub returns-in-Format-clause-absence : goal.returns-in-Format-clause-absence
+returns-in-Format-clause-absence g c =
+    asked_absence _ (g.S.Store.files c.args.store.now) (texts c.args.words.now) (request_of c.in-Some.command) (Format c.in-Format.file.now) c.format.result c.in-Some.ensures.some (ap task_of c.in-Format.is) c.format.ensures.absence
 
 pub returns-in-Verify-clause-log : goal.returns-in-Verify-clause-log
 returns-in-Verify-clause-log g c =
