@@ -22,6 +22,12 @@ seconds() {
     awk "BEGIN { printf \"%.6f\", ($end - $start) / 1000000000 }"
 }
 
+# The processor's seconds that $program takes on these words. What it prints is left in the file answer.
+processor() {
+    /usr/bin/time -f "%U %S" -o "$folder/processor" "$program" "$@" > "$folder/answer"
+    awk '{ printf "%.2f", $1 + $2 }' "$folder/processor"
+}
+
 # The most memory that a command takes, in bytes.
 peak() {
     /usr/bin/time -f %M -o "$folder/peak" "$@" > /dev/null

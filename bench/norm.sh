@@ -7,16 +7,10 @@ set -eu
 . "$(dirname "$0")/common.sh"
 program=$(program_of tptp_bench norm norm literals 10 1)
 
-# The processor's seconds that it takes to make so many of a kind and a size.
-processor() {
-    /usr/bin/time -f "%U %S" -o "$folder/processor" "$program" norm "$@" > "$folder/answer"
-    awk '{ printf "%.2f", $1 + $2 }' "$folder/processor"
-}
-
 # The milliseconds that one takes.
 one() {
-    none=$(processor "$1" "$2" "$3" 0)
-    all=$(processor "$1" "$2" "$3" "$4")
+    none=$(processor norm "$1" "$2" "$3" 0)
+    all=$(processor norm "$1" "$2" "$3" "$4")
     awk "BEGIN { printf \"%.2f\", 1000 * ($all - $none) / $4 }"
 }
 

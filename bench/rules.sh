@@ -7,16 +7,10 @@ set -eu
 . "$(dirname "$0")/common.sh"
 program=$(program_of tptp_bench rules decoy 1 1 1)
 
-# The processor's seconds that so many steps of a kind take.
-processor() {
-    /usr/bin/time -f "%U %S" -o "$folder/processor" "$program" rules "$@" > "$folder/answer"
-    awk '{ printf "%.2f", $1 + $2 }' "$folder/processor"
-}
-
 # Steps of a kind, of so many predicates and so many pairs of parents; so many of them.
 steps() {
-    none=$(processor "$1" "$2" "$3" 0)
-    all=$(processor "$1" "$2" "$3" "$4")
+    none=$(processor rules "$1" "$2" "$3" 0)
+    all=$(processor rules "$1" "$2" "$3" "$4")
     one=$(calculate "1000 * ($all - $none) / $4")
     rate=$(calculate "$4 / ($all - $none + 0.001)")
     echo "$1, $2 predicates, $(cat "$folder/answer"): $one ms, $rate a second"
