@@ -1,17 +1,11 @@
-//! The tests of the crates that speak of formulas, proofs and rules. They stand here, and not in those crates, so that none of
-//! those is proved once more for its tests.
+//! The tests of the crates that speak of formulas, theories, logs and unifiers. They stand here, and not in those crates, so
+//! that none of those is proved once more for its tests.
 #![tactic(auto)]
 
-#[cfg(test)]
-mod builders;
 #[cfg(test)]
 mod forms;
 #[cfg(test)]
 mod logs;
-#[cfg(test)]
-mod runs;
-#[cfg(test)]
-mod steps;
 #[cfg(test)]
 mod terms;
 #[cfg(test)]

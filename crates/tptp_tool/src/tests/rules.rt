@@ -103,6 +103,11 @@ fn meanings_of_new_symbols(rt: HostRuntime) -> Result<(), Fail> {
             "d ok definition\ne unverified not-yet\nnot verified: 1 unverified, 0 skipped of 2 lines\n",
         ),
         (
+            clause,
+            "fof(d,plain,! [X] : ( r(X) <=> ( p(X) | r(X) ) ),introduced(definition,[])).\n",
+            "d unverified not-yet\nnot verified: 1 unverified, 0 skipped of 1 lines\n",
+        ),
+        (
             "cnf(a1,axiom,p(X) | q(Y)).\n",
             "fof(d1,plain,s1 <=> ! [X] : p(X),introduced(avatar_definition,[])).\nfof(d2,plain,s2 <=> ! [Y] : q(Y),introduced(avatar_definition,[])).\nfof(d3,plain,c = f(g),introduced(definition,[])).\n",
             "d1 ok definition\nd2 ok definition\nd3 ok definition\nnot verified: no line is $false\n",

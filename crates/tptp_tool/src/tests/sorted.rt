@@ -19,6 +19,7 @@ tff(both,axiom,! [X: s] : ( f(X) = g(X) | f(X) = h(X) )).
 tff(fixed,axiom,! [X: s] : f(X) = X).
 tff(twice,axiom,! [X: s] : r(f(X),f(X))).
 tff(parts,axiom,! [X: s, Y: $i, Z: s] : ( q(X,Y) | p(Z) )).
+tff(some,axiom,! [X: s] : ? [Y: s, Z: $i] : ( r(X,Y) & q(Y,Z) )).
 ";
 
 #[test]
@@ -55,6 +56,10 @@ fn rules_over_sorts(rt: HostRuntime) -> Result<(), Fail> {
         (
             "tff(a,type,a: $o).\ntff(b,type,b: $o).\ntff(d,plain,a <=> ! [X: s, Y: $i] : q(X,Y),introduced(d,[])).\ntff(e,plain,b <=> ! [X: s] : p(X),introduced(d,[])).\ntff(l,plain,a | b,inference(i,[],[parts,d,e])).\n",
             "d ok definition\ne ok definition\nl ok split\nnot verified: no line is $false\n",
+        ),
+        (
+            "tff(k_type,type,k: s > s).\ntff(m_type,type,m: s > $i).\ntff(l,plain,! [X: s] : ( r(X,k(X)) & q(k(X),m(X)) ),inference(i,[],[some])).\n",
+            "l ok skolem\nnot verified: no line is $false\n",
         ),
         (
             "tff(k_type,type,k: s > s).\ntff(l,plain,! [X: s] : ( ? [Y: s] : r(X,Y) => r(X,k(X)) ),introduced(c,[])).\n",

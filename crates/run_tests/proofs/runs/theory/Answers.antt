@@ -4,7 +4,7 @@ use Rattle.fof_terms.specs.Vocabulary.{Vocabulary}
 use Rattle.fof_terms.specs.declared.form.Form.{Form}
 use Rattle.clause_rules.specs.Steps.{IsReady}
 use Rattle.kernel.specs.Statements.{Statements}
-use Rattle.rule_tests.proofs.runs.theory.Goals as goal
+use Rattle.run_tests.proofs.runs.theory.Goals as goal
 
 started : (v : Vocabulary) (given slice : List Form) (t : Statements) → t ≡ record { vocabulary = v; formulas = given } → slice ≡ given → All (IsReady v) slice → All (IsReady t.vocabulary) t.formulas
 started v given slice t is same ready = subst (λ (x : Statements). All (IsReady x.vocabulary) x.formulas) (sym is) (subst (All (IsReady v)) same ready)
