@@ -126,21 +126,29 @@ fn members(alloc: Global, text: &str) -> Result<List<Form>, Memory> {
     }
 }
 
+// The theory without formulas to which the entry is admitted.
+fn admitted(alloc: Global, entry: &Entry) -> Result<Theory, Fail> {
+    let mut theory = Theory::start(alloc, signature(alloc)?, List::new(alloc))?;
+    theory.admit(entry)?;
+    Ok(theory)
+}
+
+// Whether this is the theory's first formula.
+fn is_first(theory: &Theory, want: &Form) -> bool {
+    match theory.formula(0) {
+        Some(found) => equal(found, want),
+        None => false,
+    }
+}
+
 // Whether the kernel concludes the formula `premise > conclusion` of the text, where the proof shows the conclusion under
 // the premise.
 fn shows(alloc: Global, text: &str, premise: &str, proof: Part) -> Result<bool, Fail> {
-    let mut theory = Theory::start(alloc, signature(alloc)?, List::new(alloc))?;
     let whole = imp_i(alloc, form(alloc, premise)?.into_inner(), proof)?;
-    let mut entries = List::new(alloc);
-    entries.push(Entry::Lemma(whole.into_inner()))?;
-    for entry in entries.as_slice() {
-        theory.admit(entry)?;
-    }
+    let entry = Entry::Lemma(whole.into_inner());
+    let theory = admitted(alloc, &entry)?;
     let want = form(alloc, text)?;
-    match theory.formula(0) {
-        Some(found) => Ok(equal(found, want.get())),
-        None => Ok(false),
-    }
+    Ok(is_first(&theory, want.get()))
 }
 
 #[test]

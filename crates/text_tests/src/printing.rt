@@ -112,13 +112,19 @@ fn each_production_has_its_text(rt: HostRuntime) -> Result<(), Fail> {
 }
 
 #[test]
-fn parts_are_printed(rt: HostRuntime) -> Result<(), Fail> {
+fn a_formula_is_printed(rt: HostRuntime) -> Result<(), Fail> {
     let alloc = rt.alloc();
     let mut parts = List::new(alloc);
     parts.push(Surface::Atom(Text::from_slice(alloc, b"p")?, List::new(alloc)))?;
     parts.push(Surface::Atom(Text::from_slice(alloc, b"q")?, List::new(alloc)))?;
     let both = print_formula(alloc, &Surface::And(parts))?;
     assert_eq!(rt; both.as_slice(), b"p & q".as_slice());
+    Ok(())
+}
+
+#[test]
+fn a_general_term_is_printed(rt: HostRuntime) -> Result<(), Fail> {
+    let alloc = rt.alloc();
     let mut words = List::new(alloc);
     words.push(GTerm::Word(Text::from_slice(alloc, b"a")?))?;
     words.push(GTerm::Word(Text::from_slice(alloc, b"B")?))?;
@@ -128,13 +134,19 @@ fn parts_are_printed(rt: HostRuntime) -> Result<(), Fail> {
 }
 
 #[test]
-fn a_name_is_written(rt: HostRuntime) -> Result<(), Fail> {
+fn names_are_written(rt: HostRuntime) -> Result<(), Fail> {
     let alloc = rt.alloc();
     let mut sink = SteadySink::new(alloc);
     write_name(&Name::Word(Text::from_slice(alloc, b"it's")?), &mut sink)?;
     write_name(&Name::Integer(Text::from_slice(alloc, b"07")?), &mut sink)?;
     write_name(&Name::Word(Text::from_slice(alloc, b"a_B")?), &mut sink)?;
     assert_eq!(rt; sink.bytes(), b"'it\\'s'07a_B".as_slice());
+    Ok(())
+}
+
+#[test]
+fn a_prefix_of_a_name_is_written(rt: HostRuntime) -> Result<(), Fail> {
+    let alloc = rt.alloc();
     let mut faulty = MemorySink::new(alloc, List::from_slice(alloc, &[3])?);
     assert_eq!(rt;
         write_name(&Name::Word(Text::from_slice(alloc, b"it's")?), &mut faulty),

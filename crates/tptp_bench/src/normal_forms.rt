@@ -20,7 +20,7 @@ const QUANTIFIERS: u32 = 200;
 
 /// How many nodes the normal form of the formula has, or the proof to it or back, which is made so many times; 0 where it is not
 /// made.
-pub fn made(alloc: Global, task: NormTask, times: u32) -> Result<u64> {
+pub fn made(alloc: Global, task: NormTask, times: u32) -> Result<u128> {
     let form = Boxed::new(alloc, formula(alloc, task.kind, task.size)?)?;
     let sig = signature(alloc)?;
     let mut count = 0;
@@ -61,16 +61,16 @@ fn is_ready(sig: &Signature, form: &Form) -> bool
 }
 
 // The number of nodes of the formula's normal form, or of the proof to it or back; none of one that is not ready.
-fn nodes_made(alloc: Global, sig: &Signature, form: &Form, work: Work) -> Result<u64> {
+fn nodes_made(alloc: Global, sig: &Signature, form: &Form, work: Work) -> Result<u128> {
     if !is_ready(sig, form) {
         return Ok(0);
     }
     match work {
         Work::Norm => {
             let made = Boxed::new(alloc, norm(alloc, form)?)?;
-            Ok(norm_size(made.get()) as u64)
+            Ok(norm_size(made.get()))
         }
-        Work::Forth => Ok(nodes(norm_forth(alloc, form)?.get())),
-        Work::Back => Ok(nodes(norm_back(alloc, form)?.get())),
+        Work::Forth => Ok(nodes(norm_forth(alloc, form)?.get()) as u128),
+        Work::Back => Ok(nodes(norm_back(alloc, form)?.get()) as u128),
     }
 }
