@@ -1,12 +1,10 @@
 -- A problem has at most as many items as its files have bytes.
 use Rattle.std.specs.Prelude.{⊤, filter}
-use Rattle.std.proofs.Common.{◌≡◌, ◌≤◌, ℕ, suc, ◌+◌, Bool, true, false, if◌then◌else◌, List, [], ◌∷◌, ◌++◌, length, refl, sym, ap, subst, arith, length-append, Option, None, Some, Ok, Err}
+use Rattle.std.proofs.Common.{◌≤◌, ℕ, ◌+◌, Bool, List, ◌∷◌, length, arith, length-append, Option, None, Some, Ok, Err}
 use Rattle.tptp_base.specs.declared.item.Item.{Item}
 use Rattle.tptp_base.specs.declared.name.Name.{Name}
-use Rattle.tptp_base.specs.declared.place.Place.{Place}
 use Rattle.tptp_base.specs.Store.{Files}
 use Rattle.tptp_lexer.specs.declared.style.Style.{Style}
-use Rattle.tptp_lexer.specs.declared.style.Style.TheVariants.{Problem as ProblemStyle}
 use Rattle.tptp_lexer.specs.declared.token.Token.{Token}
 use Rattle.tptp_lexer.specs.Tokenized.{Cut, here, after_blank, after_token}
 use Rattle.std.proofs.lemmas.List.Sums.{length-filter, count_by-le-length}
@@ -17,7 +15,7 @@ use Rattle.tptp_grammar.specs.Solid.{Placed}
 use Rattle.tptp_grammar.specs.Tokens.{Tokens}
 use Rattle.include_resolve.specs.declared.problem.Problem.{Problem}
 use Rattle.include_resolve.specs.Names.{Text}
-use Rattle.include_resolve.specs.Parts.{Answer, joined, before, file_alone}
+use Rattle.include_resolve.specs.Parts.{Answer, before, file_alone}
 use Rattle.include_resolve.specs.Resolved as walk
 use Rattle.include_resolve.specs.Resolved.{Walk, Opens, Reads, Replaces, Takes, Answers, Resolves}
 use Rattle.include_resolve.specs.Selection.{selected, chosen, is_selected, unknown_name}

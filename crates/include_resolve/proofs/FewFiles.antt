@@ -1,6 +1,6 @@
 -- A problem has at most one file more than its files have bytes, since the name of an included file takes bytes.
 use Rattle.std.specs.Prelude.{⊤}
-use Rattle.std.proofs.Common.{◌≡◌, ◌≤◌, ℕ, ◌+◌, List, [], ◌∷◌, ◌++◌, length, ap, ◌∙◌, arith, length-append, Option, None, Some, Ok, Err}
+use Rattle.std.proofs.Common.{◌≡◌, ◌≤◌, ℕ, ◌+◌, List, [], ◌∷◌, length, ap, ◌∙◌, arith, length-append, Option, None, Some, Ok, Err}
 use Rattle.tptp_base.specs.declared.item.Item.{Item}
 use Rattle.tptp_base.specs.declared.name.Name.{Name}
 use Rattle.tptp_base.specs.Store.{Files}
@@ -14,7 +14,7 @@ use Rattle.include_resolve.specs.Parts.{Answer, before, file_alone}
 use Rattle.include_resolve.specs.Resolved as walk
 use Rattle.include_resolve.specs.Resolved.{Walk, Opens, Reads, Replaces, Takes, Answers}
 use Rattle.include_resolve.specs.Selection.{selected, chosen, unknown_name}
-use Rattle.include_resolve.specs.Steps.{walk_of, Opening, Adds}
+use Rattle.include_resolve.specs.Steps.{Opening, Adds}
 use Rattle.include_resolve.proofs.Counts.{spelled_few}
 
 -- a part has at most as many files as bytes and so many more

@@ -4,6 +4,7 @@ pub mod Faults
 pub mod FewFiles
 pub mod Finding
 pub mod Joins
+pub mod Quotables
 pub mod Sets
 pub mod Slashes
 pub mod Steps

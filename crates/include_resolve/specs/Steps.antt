@@ -2,6 +2,8 @@
 use Rattle.std.specs.Prelude.{◌≡◌, ◌⊎◌, ◌<◌, ⊤, ◌+◌, List, ◌∷◌, ◌++◌, length, map, true, false, Ok, Err, string_bytes, option_to_list}
 use Rattle.std.specs.declared.result.Result.{Result}
 use Rattle.tptp_base.specs.declared.item.Item.{Item}
+use Rattle.tptp_base.specs.declared.item.Item.TheVariants.{Comment, Formula, Include}
+use Rattle.tptp_base.specs.Quotable.{IsQuotable}
 use Rattle.include_resolve.specs.declared.fault.IncludeFault.{IncludeFault}
 use Rattle.include_resolve.specs.declared.fault.IncludeFault.TheVariants as fault
 use Rattle.include_resolve.specs.declared.names.Names.{Names}
@@ -19,6 +21,12 @@ list_of names = string_bytes names.first ∷ map string_bytes (option_to_list na
 -- where the walk stands with these open files
 abbrev pub walk_of : List Text → Opened → Walk
 walk_of path opened = record { path = path; opened = length opened.names; read = opened.read }
+
+-- a file that the item includes has a name that a text can spell
+abbrev pub HasQuotableFile : Item → Type 0
+HasQuotableFile (Include inclusion) = IsQuotable inclusion.file
+HasQuotableFile (Formula annotated) = ⊤
+HasQuotableFile (Comment text) = ⊤
 
 -- a file of this name can't be opened inside these, or memory is wanting
 abbrev pub IsRefusal : List Text → Text → IncludeFault → Type 0

@@ -1,16 +1,17 @@
 // The walk through the files.
-ghost use Rattle.std.specs.Prelude.{◌≡◌, ◌⊎◌, ◌≤◌, ◌+◌, ◌-◌, ◌∷◌, [], ◌++◌, ◌<◌, List, ℕ, length, false, IfOk, IfErr, OnOk, IsErrOf, string_bytes};
+ghost use Rattle.std.specs.Prelude.{◌≡◌, ◌⊎◌, ◌≤◌, ◌+◌, ◌-◌, ◌∷◌, [], ◌++◌, ◌<◌, List, ℕ, length, All, false, IfOk, IfErr, OnOk, IsErrOf, string_bytes};
 ghost use Rattle.std.specs.Option.{option_copied};
 ghost use Rattle.tptp_base.specs.Count.{Rose};
+ghost use Rattle.tptp_base.specs.Quotable.{IsQuotable};
 ghost use Rattle.include_resolve.specs.declared.problem.TheConstants.{TOTAL_SIZE as total_size, MAX_DEPTH as max_depth};
 ghost use Rattle.include_resolve.specs.Causes.{HasCause};
 ghost use Rattle.include_resolve.specs.Names.{is_on};
 ghost use Rattle.include_resolve.specs.Path.{path_names};
 ghost use Rattle.include_resolve.specs.Resolved as spec;
-ghost use Rattle.include_resolve.specs.Steps.{list_of, walk_of, Gives, Adds, IsRefusal};
+ghost use Rattle.include_resolve.specs.Steps.{list_of, walk_of, Gives, Adds, IsRefusal, HasQuotableFile};
 ghost use Rattle.include_resolve.specs.Reading.{IsReadOf};
 
-use crate::names::{Names, tried_names};
+use crate::names::{Names, tried_names, written_name};
 use crate::opened::{Opened, take_text};
 use crate::order::reversed;
 use crate::path::{Path, is_open};
@@ -32,7 +33,7 @@ struct Level<'a> {
 /// What is to be opened: the name as it was written, and the formulas that are selected, where some are.
 #[derive(Clone, Copy)]
 struct Wanted<'a> {
-    written: &'a [u8],
+    written: &'a str,
     selection: &'a Option<Items<Name>>,
 }
 
@@ -108,6 +109,7 @@ fn replace<S: Store>(
     requires room { length (path_names level.now.path.now) + level.now.room ≡ max_depth + 1 }
     requires budget { opened.old.read ≤ total_size }
     requires few_files { length opened.old.names + length items ≤ opened.old.read + 1 }
+    requires names { All HasQuotableFile items }
     ensures gives { Gives (spec.Replaces (S.files store.old) (option_copied level.now.root) (walk_of (path_names level.now.path.now) opened.old) from.now items) opened.old opened.new result }
     ensures read { opened.new.read ≤ total_size }
     ensures cause { IfErr result (λ fault. HasCause fault (Rose (S.absents store.old) (S.absents store.new)) (Rose (S.faults store.old) (S.faults store.new))) }
@@ -136,6 +138,7 @@ fn take<S: Store>(
     requires room { length (path_names level.now.path.now) + level.now.room ≡ max_depth + 1 }
     requires budget { opened.old.read ≤ total_size }
     requires few_files { length opened.old.names ≤ opened.old.read }
+    requires name { HasQuotableFile item }
     ensures adds { Adds (spec.Takes (S.files store.old) (option_copied level.now.root) (walk_of (path_names level.now.path.now) opened.old) from.now item) opened.old opened.new kept.old kept.new result }
     ensures read { opened.new.read ≤ total_size }
     ensures cause { IfErr result (λ fault. HasCause fault (Rose (S.absents store.old) (S.absents store.new)) (Rose (S.faults store.old) (S.faults store.new))) }
@@ -165,6 +168,7 @@ fn included<S: Store>(
     requires room { length (path_names level.now.path.now) + level.now.room ≡ max_depth + 1 }
     requires budget { opened.old.read ≤ total_size }
     requires few_files { length opened.old.names ≤ opened.old.read }
+    requires name { IsQuotable include.now.file }
     ensures gives { Gives (spec.Takes (S.files store.old) (option_copied level.now.root) (walk_of (path_names level.now.path.now) opened.old) from.now (Item.Include include.now)) opened.old opened.new result }
     ensures read { opened.new.read ≤ total_size }
     ensures cause { IfErr result (λ fault. HasCause fault (Rose (S.absents store.old) (S.absents store.new)) (Rose (S.faults store.old) (S.faults store.new))) }
@@ -172,7 +176,7 @@ fn included<S: Store>(
     ensures more_absents { S.absents store.old ≤ S.absents store.new }
     ensures more_faults { S.faults store.old ≤ S.faults store.new }
 {
-    let written = include.file.as_slice();
+    let written = written_name(include);
     let names = tried_names(level.alloc, from, level.root, written)?;
     let wanted = Wanted {
         written,
@@ -227,10 +231,10 @@ fn too_deep(alloc: Global, name: &str) -> IncludeFault
 }
 
 // The fault that no file is found for a name that was written so.
-fn missing(alloc: Global, written: &[u8]) -> IncludeFault
+fn missing(alloc: Global, written: &str) -> IncludeFault
     ensures { (result ≡ IncludeFault.Missing written.now) ⊎ (result ≡ IncludeFault.Memory) }
 {
-    match Text::from_slice(alloc, written) {
+    match Text::from_slice(alloc, written.as_bytes()) {
         Ok(written) => IncludeFault::Missing(written),
         Err(_) => IncludeFault::Memory,
     }
@@ -278,7 +282,7 @@ pub fn resolve<S: Store>(
         read: 0,
     };
     let wanted = Wanted {
-        written: name.as_bytes(),
+        written: name,
         selection: &None,
     };
     let items = open(&level, store, &mut opened, names, &wanted)?;

@@ -11,6 +11,7 @@ use Rattle.include_resolve.specs.Resolved.{Opens, Replaces, comment, formula}
 use Rattle.include_resolve.specs.Steps.{list_of, walk_of, Gives}
 use Rattle.include_resolve.proofs.Causing.{err_case, causes_of_selection}
 use Rattle.include_resolve.proofs.FewFiles.{added_few, text_few}
+use Rattle.include_resolve.proofs.Quotables.{text_quotable, reversed_quotable, rest_quotable}
 use Rattle.include_resolve.proofs.Steps.{include_given, nowhere, refuses, text_fault, file_given, file_fails, progress_start, progress_on, progress_stops, progress_ends, item_added, room_inside}
 use Rattle.include_resolve.proofs.resolving.+open.Goals as goal
 
@@ -19,8 +20,8 @@ included-returns-clause-gives g t c =
     let told = g.S.Store.files c.args.store.now in
     let root = option_copied c.args.level.now.root in
     let path = path_names c.args.level.now.path.now in
-    include_given told root path c.args.from.now c.args.include.now (list_of c.in_ok-names.names) c.args.opened.now c.open.new.opened c.open.result (rw c.as_slice-written.ensures at c.in_ok-names.ensures.names)
-    (rw c.as_slice-written.ensures at c.open.ensures.gives)
+    include_given told root path c.args.from.now c.args.include.now (list_of c.in_ok-names.names) c.args.opened.now c.open.new.opened c.open.result (rw c.written_name-written.ensures at c.in_ok-names.ensures.names)
+    (rw c.written_name-written.ensures at c.open.ensures.gives)
 
 pub open-returns-in-None-clause-gives : goal.open-returns-in-None-clause-gives
 open-returns-in-None-clause-gives g t c =
@@ -58,7 +59,8 @@ open_found-returns-in_err-items-clause-gives g t c =
 pub open_found-replace-requires : goal.open_found-replace-requires
 open_found-replace-requires g t c κs within =
     let few = text_few c.args.opened.now c.take_text.new.opened _ c.args.found.read c.in_ok-items.items c.in_ok-items.ensures.taken c.requires.few_files in
-    (omega (arith, c.in_ok-check_path.ensures.room), (search rules, first_of (search (rules, room_inside, few), grind (arith, room_inside, few))))
+    let names = text_quotable c.args.opened.now c.take_text.new.opened _ c.args.found.read c.in_ok-items.items c.in_ok-items.ensures.taken in
+    (omega (arith, c.in_ok-check_path.ensures.room), (search rules, first_of (search (rules, room_inside, few, names), grind (arith, room_inside, few, names))))
 
 pub open_found-returns-in_err-items-2-clause-gives : goal.open_found-returns-in_err-items-2-clause-gives
 open_found-returns-in_err-items-2-clause-gives g t c =
@@ -101,6 +103,7 @@ replace-items-init g t c =
     let path = path_names c.args.level.now.path.now in
     record {
       progress = rw c.new-kept.ensures (progress_start told root path c.args.from.now c.args.items c.args.opened.now c.in_ok-left.left (ap reverse c.in_ok-left.ensures ∙ reverse-reverse c.args.items));
+      names = reversed_quotable c.args.items c.in_ok-left.left c.in_ok-left.ensures (search rules);
       budget = omega arith;
       few_files = let count = ap length c.in_ok-left.ensures in omega (arith, count, length-reverse c.args.items);
       same_files = refl;
@@ -116,6 +119,7 @@ replace-items-preserved g t c =
     record {
       progress = progress_on told root path c.args.from.now c.args.items c.args.opened.now c.items.opened c.items.left c.pop.new.self c.items.kept c.in-Some.item c.items.invariant.progress c.in-Some.ensures c.take.new.opened c.take.new.kept
           (rw c.items.invariant.same_files at c.in_ok-take.ensures.adds);
+      names = rest_quotable c.items.left c.pop.new.self c.in-Some.item c.in-Some.ensures c.items.invariant.names;
       budget = c.in_ok-take.ensures.read;
       few_files =
           let added = added_few told root (walk_of path c.items.opened) c.args.from.now c.in-Some.item c.items.opened c.take.new.opened c.items.kept c.take.new.kept (rw c.items.invariant.same_files at c.in_ok-take.ensures.adds) in

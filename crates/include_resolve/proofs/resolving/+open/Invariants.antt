@@ -1,7 +1,8 @@
-use Rattle.std.proofs.Common.{◌≡◌, ◌≤◌, ◌+◌, ◌*◌, length}
+use Rattle.std.proofs.Common.{◌≡◌, ◌≤◌, ◌+◌, ◌*◌, length, All}
 use Rattle.std.specs.Option.{option_copied}
 use Rattle.include_resolve.specs.declared.problem.TheConstants.{TOTAL_SIZE}
 use Rattle.include_resolve.specs.Path.{path_names}
+use Rattle.include_resolve.specs.Steps.{HasQuotableFile}
 use Rattle.include_resolve.proofs.Steps.{Progress}
 use Rattle.include_resolve.proofs.resolving.+open.Given as goal
 
@@ -23,6 +24,7 @@ decreases-included g l = 5 * l.level.now.room + 2
 abbrev pub invariant-replace-items : goal.invariant-replace-items
 invariant-replace-items g l = record {
   progress : Progress (g.S.Store.files l.initial.store) (option_copied l.level.root) (path_names l.level.path.now) l.from l.fn.items l.initial.opened l.opened l.left l.kept;
+  names : All HasQuotableFile l.left;
   budget : l.opened.read ≤ TOTAL_SIZE;
   few_files : length l.opened.names + length l.left + l.initial.opened.read ≤ length l.initial.opened.names + length l.fn.items + l.opened.read;
   same_files : g.S.Store.files l.store ≡ g.S.Store.files l.initial.store;

@@ -17,7 +17,7 @@ pub returns-in_err-items-clause-answers : goal.returns-in_err-items-clause-answe
 returns-in_err-items-clause-answers g c =
     let told = g.S.Store.files c.args.store.now in
     let root = option_copied c.args.root in
-    let given = rw (path_names-Outside, c.in_ok-first.ensures.ok, c.as_bytes.ensures.value) at c.in_err-items.ensures.gives in
+    let given = rw (path_names-Outside, c.in_ok-first.ensures.ok) at c.in_err-items.ensures.gives in
     err_case (λ (r : Result Problem IncludeFault). Answers told root c.args.name.now r) c.from_residual-in_err-items.result c.in_err-items.field-0.0 c.from_residual-in_err-items.ensures.1
     (fault_answers told root c.args.name.now (record { names = c.new-none.result; read = 0 }) c.in_err-items.field-0.0 c.new-none.ensures refl given)
 
@@ -25,19 +25,19 @@ pub returns-clause-answers : goal.returns-clause-answers
 returns-clause-answers g c =
     let told = g.S.Store.files c.args.store.now in
     let root = option_copied c.args.root in
-    let given = rw (path_names-Outside, c.in_ok-first.ensures.ok, c.as_bytes.ensures.value) at c.in_ok-items.ensures.gives in
+    let given = rw (path_names-Outside, c.in_ok-first.ensures.ok) at c.in_ok-items.ensures.gives in
     answers_of told root c.args.name.now (record { names = c.new-none.result; read = 0 }) c.open.new.opened c.in_ok-items.items c.new-none.ensures refl given
 
 pub returns-clause-few : goal.returns-clause-few
 returns-clause-few g c =
     let told = g.S.Store.files c.args.store.now in
     let root = option_copied c.args.root in
-    let given = rw (path_names-Outside, c.in_ok-first.ensures.ok, c.as_bytes.ensures.value) at c.in_ok-items.ensures.gives in
+    let given = rw (path_names-Outside, c.in_ok-first.ensures.ok) at c.in_ok-items.ensures.gives in
     problem_few told root c.args.name.now _ (answers_of told root c.args.name.now (record { names = c.new-none.result; read = 0 }) c.open.new.opened c.in_ok-items.items c.new-none.ensures refl given)
 
 pub returns-clause-few_files : goal.returns-clause-few_files
 returns-clause-few_files g c =
     let told = g.S.Store.files c.args.store.now in
     let root = option_copied c.args.root in
-    let given = rw (path_names-Outside, c.in_ok-first.ensures.ok, c.as_bytes.ensures.value) at c.in_ok-items.ensures.gives in
+    let given = rw (path_names-Outside, c.in_ok-first.ensures.ok) at c.in_ok-items.ensures.gives in
     problem_few_files told root c.args.name.now _ (answers_of told root c.args.name.now (record { names = c.new-none.result; read = 0 }) c.open.new.opened c.in_ok-items.items c.new-none.ensures refl given)
