@@ -9,7 +9,7 @@ use Rattle.tptp_base.specs.declared.surface.Surface.{Surface}
 use Rattle.tptp_base.specs.declared.surface.BoundVar.{BoundVar}
 use Rattle.tptp_base.specs.declared.surface.SortName.{SortName}
 use Rattle.tptp_base.specs.declared.surface.Quant.{Quant}
-use Rattle.tptp_base.specs.Names.{Names, together, names_of_term, names_of_form}
+use Rattle.tptp_base.specs.Names.{together, names_of_term, names_of_form}
 use Rattle.tptp_base.specs.Quotable.{IsQuotable, AreQuotable}
 use Rattle.tptp_base.proofs.Naming.{names-App, names-Atom, names-Eq, names-Neq, names-Not, names-And, names-Or, names-Binary, names-Bind, quotable_both, quotable_parts, quotable_in_each}
 use Rattle.fof_terms.specs.Vocabulary.{Vocabulary, found_symbol}
@@ -25,7 +25,7 @@ use Rattle.sort_check.specs.declared.scope.Variable.{Variable}
 use Rattle.sort_check.specs.declared.terms.Sorted.{Sorted}
 use Rattle.sort_check.specs.Bringing.{IsNamed, Brings}
 use Rattle.sort_check.specs.Outcomes.{Outcome, and_then, mapped, each}
-use Rattle.sort_check.specs.Symbols.{Text, undeclared, with_symbol, is_among, head, head_at, argument_sort, result_sort, named_sort}
+use Rattle.sort_check.specs.Symbols.{Text, undeclared, with_symbol, is_among, head, head_at, argument_sort, result_sort}
 use Rattle.sort_check.specs.Denotation.{Setting, State, nearest, variable_at, fitting, argument, made, denoted_term, beside, atom, equal, equation, joined, variable_sort, bound_variable, closed, bound, denoted_form}
 use Rattle.sort_check.specs.Equations.{denoted_term-Var, denoted_term-App, denoted_form-True, denoted_form-False, denoted_form-Atom, denoted_form-Eq, denoted_form-Neq, denoted_form-Not, denoted_form-And, denoted_form-Or, denoted_form-Binary, denoted_form-Bind}
 use Rattle.sort_check.proofs.Inducing.{term_induction, form_induction}

@@ -6,6 +6,7 @@ pub mod FormSorts
 pub mod GivenLoops
 pub mod GivenSorts
 pub mod Inducing
+pub mod Keeping
 pub mod LineBringing
 pub mod LineLoops
 pub mod LineSorts

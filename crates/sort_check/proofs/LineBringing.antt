@@ -1,5 +1,5 @@
 -- What the lines of a text bring to a signature: sorts and symbols that they name.
-use Rattle.std.proofs.Common.{◌≡◌, ℕ, ◌+◌, ◌==◌, ◌||◌, ◌&&◌, Bool, true, false, cond, List, [], ◌∷◌, ◌++◌, length, map, Option, Some, None, Result, Ok, Err, OnOk, refl, subst}
+use Rattle.std.proofs.Common.{◌≡◌, ℕ, ◌+◌, ◌==◌, ◌||◌, ◌&&◌, Bool, true, false, cond, List, [], ◌∷◌, ◌++◌, length, Option, Some, None, Ok, Err, refl, subst}
 use Rattle.std.specs.List.{AllByRecursion, list_any}
 use Rattle.tptp_base.specs.declared.limit.LimitName.TheVariants.{Sorts}
 use Rattle.tptp_base.specs.declared.surface.Surface.{Surface}

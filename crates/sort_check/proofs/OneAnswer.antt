@@ -13,7 +13,7 @@ use Rattle.sort_check.specs.declared.line.TextKind.{TextKind}
 use Rattle.sort_check.specs.Outcomes.{Outcome, and_then, mapped}
 use Rattle.sort_check.specs.Symbols.{Text}
 use Rattle.sort_check.specs.Laws.{Answer, IsOne, HaveAnswer}
-use Rattle.sort_check.specs.Texts.{Declared, Reading, Gives, at_line, is_type, type_item, type_lines, typed_body, line_form, line_of, line, line_item, lines_from, with_line, only_vocabulary, denoted}
+use Rattle.sort_check.specs.Texts.{Declared, Reading, Gives, at_line, is_type, type_item, type_lines, typed_body, line_form, line_of, line_item, lines_from, with_line, only_vocabulary, denoted}
 
 -- ---- there is one
 

@@ -1,6 +1,7 @@
 // What whole formulas denote.
 ghost use Rattle.std.specs.Prelude.{◌≡◌, [], length};
 ghost use Rattle.sort_check.specs.Outcomes.{Answers};
+ghost use Rattle.sort_check.specs.Sorting.{Extends};
 ghost use Rattle.sort_check.specs.Denotation as spec;
 
 use crate::binding::close_to;
@@ -21,7 +22,8 @@ pub fn denote_formula(
     signature: &mut Signature,
     form: &Surface,
 ) -> Result<Form, Stop>
-    ensures { Answers (spec.formula lang declared.now form.now signature.old) result signature.new }
+    ensures value { Answers (spec.formula lang declared.now form.now signature.old) result signature.new }
+    ensures keeps { Extends signature.old signature.new }
 {
     match lang {
         Lang::Cnf => denote_clause(alloc, declared, signature, form),
@@ -36,7 +38,8 @@ fn denote_sentence(
     signature: &mut Signature,
     form: &Surface,
 ) -> Result<Form, Stop>
-    ensures { Answers (spec.sentence declared.now form.now signature.old) result signature.new }
+    ensures value { Answers (spec.sentence declared.now form.now signature.old) result signature.new }
+    ensures keeps { Extends signature.old signature.new }
 {
     let mut scope = Scope::over(List::new(alloc), SortRule::FreeVariable);
     denote_form(form, alloc, declared, signature, &mut scope)
@@ -49,7 +52,8 @@ fn denote_clause(
     signature: &mut Signature,
     form: &Surface,
 ) -> Result<Form, Stop>
-    ensures { Answers (spec.clause declared.now form.now signature.old) result signature.new }
+    ensures value { Answers (spec.clause declared.now form.now signature.old) result signature.new }
+    ensures keeps { Extends signature.old signature.new }
 {
     let mut variables = List::new(alloc);
     note_variables(form, alloc, &mut variables)?;

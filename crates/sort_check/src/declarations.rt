@@ -3,6 +3,7 @@ ghost use Rattle.std.specs.Prelude.{◌≡◌, ◌≤◌, ◌<◌, [], length, s
 ghost use Rattle.std.specs.List.{All};
 ghost use Rattle.fof_terms.specs.Vocabulary.{IsDeclared, is_kind as same_kind};
 ghost use Rattle.sort_check.specs.Outcomes.{Answers, each};
+ghost use Rattle.sort_check.specs.Sorting.{Extends};
 ghost use Rattle.sort_check.specs.Namesakes.{Knows};
 ghost use Rattle.sort_check.specs.Symbols as symbols;
 ghost use Rattle.sort_check.specs.Symbols.{with_symbol};
@@ -27,6 +28,7 @@ pub fn declare(
     requires { Knows namesakes.old signature.old.symbols }
     ensures knows { OnOk result (Knows namesakes.new signature.new.symbols) }
     ensures answers { Answers (spec.typed typing.now.name typing.now.shape (record { vocabulary = signature.old; names = names.old })) result (record { vocabulary = signature.new; names = names.new }) }
+    ensures keeps { Extends signature.old signature.new }
 {
     match &typing.shape {
         Shape::Sort => {
@@ -52,6 +54,7 @@ pub fn declare(
 fn declare_sort(alloc: Global, signature: &mut Signature, name: &[u8]) -> Result<SortId, Stop>
     ensures answers { Answers (spec.declared_sort name.now signature.old) result signature.new }
     ensures symbols { signature.new.symbols ≡ signature.old.symbols }
+    ensures keeps { Extends signature.old signature.new }
 {
     if let Some(number) = signature.find_sort(name) {
         return Ok(number);
@@ -147,6 +150,7 @@ fn declare_symbol(
     requires knows { Knows namesakes.old signature.old.symbols }
     ensures answers { Answers (spec.declared_symbol symbol signature.old) result signature.new }
     ensures knows { OnOk result (Knows namesakes.new signature.new.symbols) }
+    ensures keeps { Extends signature.old signature.new }
 {
     if namesakes.is_elsewise(signature, &symbol) {
         return Err(Stop::Rule(SortRule::Redeclared));
@@ -168,6 +172,7 @@ fn add_known(
     requires knows { Knows namesakes.old signature.old.symbols }
     ensures answers { Answers (with_symbol symbol signature.old) result signature.new }
     ensures knows { OnOk result (Knows namesakes.new signature.new.symbols) }
+    ensures keeps { Extends signature.old signature.new }
 {
     let number = add_symbol(signature, symbol)?;
     namesakes.add(alloc, signature, number)?;

@@ -19,8 +19,8 @@ use tptp_base::{Annotated, Body, Item, List, Memory, Role};
 /// a further sort or symbol goes to the signature's end. The fault is the first one, and after it the signature
 /// holds what it held and perhaps further sorts and symbols.
 ///
-/// The formulas are closed and well-sorted in the signature behind them. It has all that it had, so what was well-sorted
-/// before stays so.
+/// The formulas are closed and well-sorted in the signature behind them. It has all that it had, also after a fault and
+/// after want of memory, so what was well-sorted before stays so.
 #[tactic(auto, using(crate::proofs::LineSorts::text_extends, crate::proofs::LineSorts::text_sorted))]
 pub fn denote(
     alloc: Global,
@@ -32,6 +32,7 @@ pub fn denote(
     ensures gives { spec.Gives (spec.denoted items.now signature.old kind) result signature.new }
     ensures extends { OnOk result (Extends signature.old signature.new) }
     ensures sorted { IfOk result (AreSorted signature.new) }
+    ensures keeps { Extends signature.old signature.new }
 {
     // A signature has sorts, as the count tells.
     let _sorts = signature.sort_count();
@@ -46,7 +47,8 @@ fn take_all(
     kind: TextKind,
 ) -> Result<List<Line>, SortFault>
     requires { length items.now < 2 ^ 32 }
-    ensures { spec.Gives (spec.denoted items.now signature.old kind) result signature.new }
+    ensures value { spec.Gives (spec.denoted items.now signature.old kind) result signature.new }
+    ensures keeps { Extends signature.old signature.new }
 {
     let mut names = Names::new(alloc);
     take_types(alloc, items, signature, &mut names)?;
@@ -60,7 +62,8 @@ fn take_types(
     signature: &mut Signature,
     names: &mut Names,
 ) -> Result<(), SortFault>
-    ensures { spec.Gives (spec.type_lines items.now (record { vocabulary = signature.old; names = names.old })) result (record { vocabulary = signature.new; names = names.new }) }
+    ensures value { spec.Gives (spec.type_lines items.now (record { vocabulary = signature.old; names = names.old })) result (record { vocabulary = signature.new; names = names.new }) }
+    ensures keeps { Extends signature.old signature.new }
 {
     let mut namesakes = Namesakes::of(alloc, signature)?;
     for item in items {
@@ -80,6 +83,7 @@ fn take_type(
     requires { Knows namesakes.old signature.old.symbols }
     ensures knows { OnOk result (Knows namesakes.new signature.new.symbols) }
     ensures answers { spec.Gives (spec.type_item item.now (record { vocabulary = signature.old; names = names.old })) result (record { vocabulary = signature.new; names = names.new }) }
+    ensures keeps { Extends signature.old signature.new }
 {
     match item {
         Item::Formula(annotated) => take_type_line(
@@ -104,6 +108,7 @@ fn take_type_line(
     requires { Knows namesakes.old signature.old.symbols }
     ensures knows { OnOk result (Knows namesakes.new signature.new.symbols) }
     ensures answers { spec.Gives (spec.type_line line.now (record { vocabulary = signature.old; names = names.old })) result (record { vocabulary = signature.new; names = names.new }) }
+    ensures keeps { Extends signature.old signature.new }
 {
     if !is_type(line.role) {
         return Ok(());
@@ -125,6 +130,7 @@ fn take_body(
     requires { Knows namesakes.old signature.old.symbols }
     ensures knows { OnOk result (Knows namesakes.new signature.new.symbols) }
     ensures answers { Answers (spec.typed_body body.now (record { vocabulary = signature.old; names = names.old })) result (record { vocabulary = signature.new; names = names.new }) }
+    ensures keeps { Extends signature.old signature.new }
 {
     match body {
         Body::Typing(typing) => declare(alloc, typing, signature, names, namesakes),
@@ -141,7 +147,8 @@ fn take_lines(
     kind: TextKind,
 ) -> Result<List<Line>, SortFault>
     requires { length items.now < 2 ^ 32 }
-    ensures { spec.Gives (spec.only_vocabulary (spec.lines_from kind names.now 0 items.now (record { vocabulary = signature.old; conjectured = false }))) result signature.new }
+    ensures value { spec.Gives (spec.only_vocabulary (spec.lines_from kind names.now 0 items.now (record { vocabulary = signature.old; conjectured = false }))) result signature.new }
+    ensures keeps { Extends signature.old signature.new }
 {
     let mut lines = List::new(alloc);
     let mut conjectured = false;
@@ -172,7 +179,8 @@ fn take_line(
     kind: TextKind,
     conjectured: &mut bool,
 ) -> Result<Option<Line>, SortFault>
-    ensures { spec.Gives (spec.line_item kind names.now number item.now (record { vocabulary = signature.old; conjectured = conjectured.old })) result (record { vocabulary = signature.new; conjectured = conjectured.new }) }
+    ensures value { spec.Gives (spec.line_item kind names.now number item.now (record { vocabulary = signature.old; conjectured = conjectured.old })) result (record { vocabulary = signature.new; conjectured = conjectured.new }) }
+    ensures keeps { Extends signature.old signature.new }
 {
     match item {
         Item::Formula(annotated) => {
@@ -198,7 +206,8 @@ fn line_form(
     kind: TextKind,
     conjectured: &mut bool,
 ) -> Result<Form, Stop>
-    ensures { Answers (spec.line_form kind names.now line.now (record { vocabulary = signature.old; conjectured = conjectured.old })) result (record { vocabulary = signature.new; conjectured = conjectured.new }) }
+    ensures value { Answers (spec.line_form kind names.now line.now (record { vocabulary = signature.old; conjectured = conjectured.old })) result (record { vocabulary = signature.new; conjectured = conjectured.new }) }
+    ensures keeps { Extends signature.old signature.new }
 {
     let is_new = is_conjecture(line.role);
     if is_single(kind) && is_new && *conjectured {
@@ -216,7 +225,8 @@ fn body_form(
     signature: &mut Signature,
     names: &Names,
 ) -> Result<Form, Stop>
-    ensures { Answers (spec.body_form names.now line.now line.now.body signature.old) result signature.new }
+    ensures value { Answers (spec.body_form names.now line.now line.now.body signature.old) result signature.new }
+    ensures keeps { Extends signature.old signature.new }
 {
     match &line.body {
         Body::Logic(form) => denote_formula(alloc, line.lang, names, signature, form),

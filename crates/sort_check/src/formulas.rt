@@ -2,6 +2,7 @@
 ghost use Rattle.std.specs.Prelude.{◌≡◌, ◌+◌, ◌≤◌, length, take, drop, map, IfOk, OnOk, Ok, ◌∷◌, []};
 ghost use Rattle.fof_terms.specs.declared.form.Form.{Not as not_of};
 ghost use Rattle.sort_check.specs.Outcomes.{Answers, each, mapped, and_then};
+ghost use Rattle.sort_check.specs.Sorting.{Extends};
 ghost use Rattle.sort_check.specs.Denotation as spec;
 
 use crate::binding::{bound_variables, close_to};
@@ -26,6 +27,7 @@ pub fn denote_form(
 ) -> Result<Form, Stop>
     ensures value { Answers (spec.denoted_form (spec.setting declared.now scope.old) form.now scope.old.variables (spec.state signature.old scope.old)) result (spec.state signature.new scope.new) }
     ensures scope { OnOk result (scope.new ≡ record scope.old { bound = scope.new.bound }) }
+    ensures keeps { Extends signature.old signature.new }
 {
     match form {
         Surface::True => Ok(Form::And(List::new(alloc))),
@@ -92,6 +94,7 @@ fn denote_members(
 ) -> Result<List<Form>, Stop>
     ensures value { Answers (each (λ place a. spec.denoted_form (spec.setting declared.now scope.old) a scope.old.variables) 0 forms.now (spec.state signature.old scope.old)) result (spec.state signature.new scope.new) }
     ensures scope { OnOk result (scope.new ≡ record scope.old { bound = scope.new.bound }) }
+    ensures keeps { Extends signature.old signature.new }
 {
     let mut found = List::new(alloc);
     for form in forms {
@@ -113,6 +116,7 @@ fn denote_bound(
 ) -> Result<Form, Stop>
     ensures value { Answers (spec.bound (spec.setting declared.now scope.old) quant variables.now body.now scope.old.variables (spec.state signature.old scope.old)) result (spec.state signature.new scope.new) }
     ensures scope { OnOk result (scope.new ≡ record scope.old { bound = scope.new.bound }) }
+    ensures keeps { Extends signature.old signature.new }
 {
     let outer = scope.len();
     let inner = bound_variables(alloc, signature, scope, variables)?;
@@ -130,7 +134,8 @@ fn denote_atom(
     name: &[u8],
     args: &[STerm],
 ) -> Result<Form, Stop>
-    ensures { Answers (spec.beside scope.now.bound (spec.atom (spec.setting declared.now scope.now) scope.now.variables name.now args.now signature.old)) result (spec.state signature.new scope.now) }
+    ensures value { Answers (spec.beside scope.now.bound (spec.atom (spec.setting declared.now scope.now) scope.now.variables name.now args.now signature.old)) result (spec.state signature.new scope.now) }
+    ensures keeps { Extends signature.old signature.new }
 {
     let predicate = head(
         alloc,
@@ -153,7 +158,8 @@ fn denote_equation(
     left: &STerm,
     right: &STerm,
 ) -> Result<Form, Stop>
-    ensures { Answers (spec.beside scope.now.bound (spec.equation (spec.setting declared.now scope.now) scope.now.variables left.now right.now signature.old)) result (spec.state signature.new scope.now) }
+    ensures value { Answers (spec.beside scope.now.bound (spec.equation (spec.setting declared.now scope.now) scope.now.variables left.now right.now signature.old)) result (spec.state signature.new scope.now) }
+    ensures keeps { Extends signature.old signature.new }
 {
     let left = denote_term(left, alloc, declared, signature, scope)?;
     let right = denote_term(right, alloc, declared, signature, scope)?;

@@ -4,6 +4,7 @@ ghost use Rattle.std.proofs.Math.ListN.{replicate};
 ghost use Rattle.fof_terms.specs.Sorts.{is_sort};
 ghost use Rattle.fof_terms.specs.Vocabulary.{IsDeclared};
 ghost use Rattle.sort_check.specs.Outcomes.{Answers};
+ghost use Rattle.sort_check.specs.Sorting.{Extends};
 ghost use Rattle.sort_check.specs.Symbols as spec;
 
 use crate::fault::{SortRule, Stop};
@@ -22,7 +23,8 @@ pub fn head(
     kind: Kind,
     arity: usize,
 ) -> Result<SymId, Stop>
-    ensures { Answers (spec.head declared.now name.now kind arity signature.old) result signature.new }
+    ensures value { Answers (spec.head declared.now name.now kind arity signature.old) result signature.new }
+    ensures keeps { Extends signature.old signature.new }
 {
     if let Some(number) = signature.find(name, kind, arity) {
         return Ok(number);
@@ -41,7 +43,8 @@ fn add_undeclared(
     kind: Kind,
     arity: usize,
 ) -> Result<SymId, Stop>
-    ensures { Answers (spec.with_symbol (spec.undeclared name.now kind arity) signature.old) result signature.new }
+    ensures value { Answers (spec.with_symbol (spec.undeclared name.now kind arity) signature.old) result signature.new }
+    ensures keeps { Extends signature.old signature.new }
 {
     // A signature has sorts, as the count tells.
     let _sorts = signature.sort_count();
@@ -61,7 +64,8 @@ fn add_undeclared(
 /// A further symbol.
 pub fn add_symbol(signature: &mut Signature, symbol: Symbol) -> Result<SymId, Stop>
     requires { IsDeclared (length signature.old.sorts) symbol }
-    ensures { Answers (spec.with_symbol symbol signature.old) result signature.new }
+    ensures value { Answers (spec.with_symbol symbol signature.old) result signature.new }
+    ensures keeps { Extends signature.old signature.new }
 {
     match signature.add(symbol) {
         Ok(number) => Ok(number),

@@ -1,5 +1,6 @@
 // What terms denote.
 ghost use Rattle.sort_check.specs.Outcomes.{Answers, each};
+ghost use Rattle.sort_check.specs.Sorting.{Extends};
 ghost use Rattle.sort_check.specs.Denotation as spec;
 
 use crate::fault::{SortRule, Stop};
@@ -27,7 +28,8 @@ pub fn denote_term(
     signature: &mut Signature,
     scope: &Scope,
 ) -> Result<Sorted, Stop>
-    ensures { Answers (spec.denoted_term (spec.setting declared.now scope.now) scope.now.variables term.now signature.old) result signature.new }
+    ensures value { Answers (spec.denoted_term (spec.setting declared.now scope.now) scope.now.variables term.now signature.old) result signature.new }
+    ensures keeps { Extends signature.old signature.new }
 {
     match term {
         STerm::Var(name) => match scope.find(name.as_slice()) {
@@ -73,7 +75,8 @@ pub fn denote_arguments(
     scope: &Scope,
     symbol: SymId,
 ) -> Result<List<Term>, Stop>
-    ensures { Answers (each (λ place t. spec.argument symbol place (spec.denoted_term (spec.setting declared.now scope.now) scope.now.variables t)) 0 terms.now signature.old) result signature.new }
+    ensures value { Answers (each (λ place t. spec.argument symbol place (spec.denoted_term (spec.setting declared.now scope.now) scope.now.variables t)) 0 terms.now signature.old) result signature.new }
+    ensures keeps { Extends signature.old signature.new }
 {
     let mut found = List::new(alloc);
     for place in 0..terms.len() {
@@ -101,7 +104,8 @@ fn denote_argument(
     symbol: SymId,
     place: usize,
 ) -> Result<Term, Stop>
-    ensures { Answers (spec.argument symbol place (spec.denoted_term (spec.setting declared.now scope.now) scope.now.variables term.now) signature.old) result signature.new }
+    ensures value { Answers (spec.argument symbol place (spec.denoted_term (spec.setting declared.now scope.now) scope.now.variables term.now) signature.old) result signature.new }
+    ensures keeps { Extends signature.old signature.new }
 {
     let found = denote_term(term, alloc, declared, signature, scope)?;
     if !is_argument(signature, symbol, place, found.sort) {
