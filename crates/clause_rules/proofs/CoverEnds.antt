@@ -1,6 +1,6 @@
 -- The ends of a search for a covering.
-use Rattle.std.specs.Prelude.{ℕ, ◌≡◌, ◌<◌, ◌≤◌, true, List, [], ◌++◌, length, map, Option, Some, None, Result, IfOk, slice_get, refl}
-use Rattle.std.proofs.Common.{ap, sym, subst, ◌∙◌, arith}
+use Rattle.std.specs.Prelude.{ℕ, ◌≡◌, ◌<◌, ◌≤◌, true, List, [], ◌++◌, length, map, Option, Some, None, Result, IfOk, IfSome, slice_get, refl}
+use Rattle.std.proofs.Common.{ap, sym, subst, ◌∙◌, arith, append-nil}
 use Rattle.std.proofs.lemmas.Option.{slice_get_within}
 use Rattle.fof_terms.specs.Vocabulary.{Vocabulary}
 use Rattle.fof_terms.specs.Sorts.{is_sorted}
@@ -9,15 +9,17 @@ use Rattle.fof_terms.specs.declared.form.Form.{Form}
 use Rattle.clause_form.specs.declared.clause.Lit.{Lit}
 use Rattle.clause_form.specs.declared.clause.Clause.{Clause}
 use Rattle.clause_form.specs.declared.path.Parent.{Parent}
+use Rattle.clause_form.specs.declared.path.Path.{Path}
 use Rattle.clause_form.specs.ClauseLaws.{get_image}
 use Rattle.clause_form.specs.ClauseView.{clause_of}
 use Rattle.clause_form.specs.Covers.{lit_image, scope_of, IsCovered, CoversBy, AreSorted}
+use Rattle.clause_form.specs.Found.{IsRoomy}
 use Rattle.clause_form.specs.Images.{IsImages}
 use Rattle.clause_form.specs.Norm.{norm_of}
 use Rattle.clause_form.specs.NormSize.{norm_small}
 use Rattle.clause_form.specs.Paths.{reached}
 use Rattle.clause_form.specs.Sizes.{norm_size_of}
-use Rattle.unify_terms.specs.declared.goal.Goal.{Goal, All}
+use Rattle.unify_terms.specs.declared.goal.Goal.{Goal}
 use Rattle.unify_terms.specs.Goals.{goal_sorted}
 use Rattle.unify_terms.specs.Substitution.{image_at}
 use Rattle.clause_rules.specs.declared.cover_rule.Covering.{Covering}
@@ -26,13 +28,13 @@ use Rattle.clause_rules.specs.declared.just.Just.{Just}
 use Rattle.clause_rules.specs.declared.just.Just.TheVariants.{Cover}
 use Rattle.clause_rules.specs.declared.taking.Reached.{Reached}
 use Rattle.clause_rules.specs.Answers.{IsAnswer, cover, rule_of}
-use Rattle.clause_rules.specs.CoverFound.{NoCover, FoundCover, FoundInForm, NoCoverAt, ShowsCoverAt, FoundCoverAmong, SettlesReached}
+use Rattle.clause_rules.specs.CoverFound.{NoCover, FoundCover, FoundInForm, NoCoverAt, ShowsCover, ShowsCoverAt, FoundCoverAmong, SettlesReached}
 use Rattle.clause_rules.specs.JointClauses.{IsJoinedOne}
 use Rattle.clause_rules.specs.Justified.{Shows}
 use Rattle.clause_rules.specs.NormRule.{HasNorm}
-use Rattle.clause_rules.specs.Settled.{IsFit, Settles, IsSolution}
+use Rattle.clause_rules.specs.Settled.{IsFit, IsGuessed, IsSolution, Settles}
 use Rattle.clause_rules.specs.Steps.{AreCovered, instances}
-use Rattle.clause_rules.specs.Ways.{cover_ways, cover_needs, goal_of_need, goal_of_needs}
+use Rattle.clause_rules.specs.Ways.{cover_needs, goal_of_needs}
 use Rattle.clause_rules.proofs.CoverTop.{CoversSome}
 use Rattle.clause_rules.proofs.Covering.{covers_forth, covers_back}
 use Rattle.clause_rules.proofs.Factoring.{get_of_map, no_lits}
@@ -40,14 +42,9 @@ use Rattle.clause_rules.proofs.Firsts.{one_at, ok_map}
 use Rattle.clause_rules.proofs.JointImages.{sorted_further}
 use Rattle.clause_rules.proofs.NeedSorts.{all_cover_fits, goal_fits}
 use Rattle.clause_rules.proofs.NormFits.{norm_fits}
-use Rattle.clause_rules.proofs.ResolutionGoals.{covered_goals}
+use Rattle.clause_rules.proofs.ReachedFits.{reached_fits}
 use Rattle.clause_rules.proofs.ResolvedAt.{parents_fit}
 use Rattle.clause_rules.proofs.Settling.{settled_by, settles_like}
-
--- what covering the literals of a clause asks, as code makes it
-pub covering_asks : (line lits lent given : List Lit) (goals : List Goal) → given ≡ line → lent ≡ lits → goals ≡ map (λ k. goal_of_need (cover_ways given k)) lent → All goals ≡ goal_of_needs (cover_needs line lits)
-covering_asks line lits lent given goals e f g =
-    ap All (g ∙ ap (λ ls. map (λ k. goal_of_need (cover_ways ls k)) lent) e ∙ ap (map (λ k. goal_of_need (cover_ways line k))) f ∙ covered_goals line lits)
 
 module _ (v : Vocabulary) (c line : Clause) (c_fit : IsFit v c) (line_fit : IsFit v line) (joint : Joint) (joined : IsJoinedOne line c joint) (goal : Goal) (asks : goal ≡ goal_of_needs (cover_needs line.lits joint.left)) where
   abbrev sorts : List ℕ
@@ -78,6 +75,24 @@ module _ (v : Vocabulary) (c line : Clause) (c_fit : IsFit v c) (line_fit : IsFi
       (λ images h. subst (λ ks. AreCovered (map (lit_image (image_at images)) line.lits) (map (lit_image (image_at images)) ks)) joined.lits (covers_forth images line.lits joint.left h))
       (λ images h. covers_back images line.lits joint.left (subst (λ ks. AreCovered (map (lit_image (image_at images)) line.lits) (map (lit_image (image_at images)) ks)) (sym joined.lits) h))
       found solution)
+
+  pub covering_guessed : (found : Option (List Term)) → IsGuessed v joint.scope goal found → IfSome found (λ images. Settles v line (scope_of c) (CoversBy v (scope_of c) c.lits line) (Some images))
+  covering_guessed None h = tt
+  covering_guessed (Some images) h = covering_settled (Some images) h
+
+-- what a path reaches in a small normal form fits
+module _ (v : Vocabulary) (norm : Form) (small : norm_size_of norm ≤ 100000) (sorted : is_sorted v [] norm ≡ true) where
+  pub norm_is_roomy : IsRoomy norm
+  norm_is_roomy = record { vocabulary = v; scope = []; room = omega (arith, small); fits = sorted }
+
+  pub path_fits : (path : Path) (c : Clause) → reached path norm ≡ Some c → IsFit v c
+  path_fits path c e =
+      let f = reached_fits v norm path c e [] sorted in
+      let few = f.few in
+      record { sorted = subst (λ ts. AreSorted v ts c.lits) (append-nil (scope_of c)) f.sorted; few = omega (arith, small, few) }
+
+  pub shown_at_once : (line : Clause) (path : Path) (c : Clause) (images : List Term) → reached path norm ≡ Some c → Settles v line (scope_of c) (CoversBy v (scope_of c) c.lits line) (Some images) → ShowsCover v norm line path images
+  shown_at_once line path c images e h = record { clause = c; reaches = e; joint = h.0; covers = h.1 }
 
 -- what was reached, as a covering of the normal form
 module _ (v : Vocabulary) (norm : Form) (line : Clause) where

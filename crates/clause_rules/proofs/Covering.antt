@@ -194,7 +194,7 @@ module _ (images : List Term) where
     | inr b ↦ inr b
   ]
 
-  has_first : (xs ys : List (List Pair)) → HasWay images xs → HasWay images (xs ++ ys)
+  pub has_first : (xs ys : List (List Pair)) → HasWay images xs → HasWay images (xs ++ ys)
   has_first [] ys h = absurd h
   has_first (x ∷ xs) ys (inl u) = inl u
   has_first (x ∷ xs) ys (inr h) = inr (has_first xs ys h)
@@ -210,7 +210,7 @@ module _ (images : List Term) where
     | inr there ↦ let rest = targets_forth f targets there in (suc rest.0, rest.1, rest.2, rest.3)
   ]
 
-  targets_back : (f : Lit → List (List Pair)) (targets : List Lit) (i : ℕ) (l : Lit) → slice_get targets i ≡ Some l → HasWay images (f l) → HasWay images (flat_map f targets)
+  pub targets_back : (f : Lit → List (List Pair)) (targets : List Lit) (i : ℕ) (l : Lit) → slice_get targets i ≡ Some l → HasWay images (f l) → HasWay images (flat_map f targets)
   targets_back f [] i l e h = cc
   targets_back f (k ∷ targets) zero l e h = let same : l ≡ k = cc in subst (HasWay images) (sym (flat_map-cons f k targets)) (has_first (f k) (flat_map f targets) (subst (λ x. HasWay images (f x)) same h))
   targets_back f (k ∷ targets) (suc i) l e h = subst (HasWay images) (sym (flat_map-cons f k targets)) (has_second (f k) (flat_map f targets) (targets_back f targets i l e h))

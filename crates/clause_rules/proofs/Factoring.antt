@@ -155,23 +155,12 @@ module _ (v : Vocabulary) (c line : Clause) (c_fit : IsFit v c) (line_fit : IsFi
 pub lent_at : {X : Type 0} (xs lent : List X) (i : ℕ) (x : X) → lent ≡ xs → i < length xs → x ≡ get_or lent i x → slice_get xs i ≡ Some x
 lent_at xs lent i x same h is = there_at xs i x h (is ∙ ap (λ ys. get_or ys i x) same)
 
--- the same goal of lists that were lent
-pub asked_of_lent : (goal : Goal) (line lits xs ys : List Lit) (i : ℕ) (s u t w : Term) → xs ≡ line → ys ≡ lits → goal ≡ goal_of_needs (factor_needs xs ys i s u t w) → goal ≡ goal_of_needs (factor_needs line lits i s u t w)
-asked_of_lent goal line lits xs ys i s u t w a b e = e ∙ ap (λ ks. goal_of_needs (factor_needs ks ys i s u t w)) a ∙ ap (λ ks. goal_of_needs (factor_needs line ks i s u t w)) b
-
 -- a list with one element changed, as code makes it
 pub set_as : {X : Type 0} (lent made copied xs : List X) (i : ℕ) (x y : X) → lent ≡ made → made ≡ slice_set copied i x → copied ≡ xs → x ≡ y → lent ≡ slice_set xs i y
 set_as lent made copied xs i x y a b c d = a ∙ b ∙ ap (λ zs. slice_set zs i x) c ∙ ap (slice_set xs i) d
 
 pub not_itself : (v : Vocabulary) (c line : Clause) (i j : ℕ) (f g : Bool) → i ≡ j → (more : List ℕ) (x : ℕ → Term) → Factors v c line i f j g more x → ⊥
 not_itself v c line i j f g e more x h = h.factored.apart e
-
--- the goal of a factoring, as code makes it
-pub factor_goal_is : (line lits changed : List Lit) (i : ℕ) (s u t w : Term) (pair : Goal) (same one more all : List Goal) → pair ≡ Same (pair_of s u ∷ []) → same ≡ pair ∷ [] → one ≡ Any same ∷ [] → changed ≡ slice_set lits i (unequal t w)
-    → more ≡ map (λ k. goal_of_need (cover_ways line k)) changed → all ≡ one ++ more → All all ≡ goal_of_needs (factor_needs line lits i s u t w)
-factor_goal_is line lits changed i s u t w pair same one more all p e o ch m a =
-    let goals : more ≡ map goal_of_need (cover_needs line (slice_set lits i (unequal t w))) = m ∙ covered_goals line changed ∙ ap (λ ks. map goal_of_need (cover_needs line ks)) ch in
-    ap All (a ∙ (rw (o, e, p, goals) refl))
 
 module _ (v : Vocabulary) (c line : Clause) (c_fit : IsFit v c) (line_fit : IsFit v line) (joint : Joint) (joined : IsJoinedOne line c joint) (i j : ℕ) (f g : Bool) (more : List ℕ) (x : ℕ → Term) (h : Factors v c line i f j g more x) where
   within : (i : ℕ) (k : Lit) → slice_get (instances x c.lits) i ≡ Some k → i < length joint.left

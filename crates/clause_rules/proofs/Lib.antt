@@ -51,3 +51,4 @@ pub mod Unmet
 pub mod LeftOver
 pub mod ParamodulationPlaces
 pub mod Unreached
+pub mod Narrowing

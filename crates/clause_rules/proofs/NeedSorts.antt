@@ -136,7 +136,7 @@ module _ (v : Vocabulary) (scope : List ℕ) where
   ways_sorted [] = refl
   ways_sorted (way ∷ need) = rw (goal_sorted-Same v scope way, ways_sorted need) refl
 
-  needs_sorted : (needs : List (List (List Pair))) → list_all (goal_sorted v scope) (map goal_of_need needs) ≡ list_all (list_all (list_all (pair_sorted v scope))) needs
+  pub needs_sorted : (needs : List (List (List Pair))) → list_all (goal_sorted v scope) (map goal_of_need needs) ≡ list_all (list_all (list_all (pair_sorted v scope))) needs
   needs_sorted [] = refl
   needs_sorted (need ∷ needs) = rw (goal_sorted-Any v scope (map Same need), ways_sorted need, needs_sorted needs) refl
 

@@ -9,7 +9,6 @@ use Rattle.fof_terms.specs.Vocabulary.{Vocabulary}
 use Rattle.fof_terms.specs.declared.term.Term.{Term}
 use Rattle.clause_form.specs.declared.clause.Lit.{Lit}
 use Rattle.clause_form.specs.declared.clause.Clause.{Clause}
-use Rattle.unify_terms.specs.declared.goal.Goal.{Goal, All, Any, Same}
 use Rattle.clause_rules.specs.declared.just.Just.{Just}
 use Rattle.clause_rules.specs.declared.just.Just.TheVariants.{Paramodulation}
 use Rattle.clause_rules.specs.declared.sides.Sides.{Sides}
@@ -17,13 +16,10 @@ use Rattle.clause_rules.specs.declared.sites.Reading.{Reading}
 use Rattle.clause_rules.specs.declared.sites.Site.{Site}
 use Rattle.clause_rules.specs.declared.sites.Spot.{Spot}
 use Rattle.clause_rules.specs.ParamodulationRule.{Paramodulates}
-use Rattle.clause_rules.specs.ParamodulationSearch.{paramodulation_needs, HasSpot, HasEquation, HasClause, ShowsAtSite, NoneAtSite, TriedAtSite, ShowsParamodulation, FoundAtSite, FoundAtSites}
-use Rattle.clause_rules.specs.Places.{lit_put_at}
+use Rattle.clause_rules.specs.ParamodulationSearch.{HasSpot, HasEquation, HasClause, ShowsAtSite, NoneAtSite, TriedAtSite, ShowsParamodulation, FoundAtSite, FoundAtSites}
 use Rattle.clause_rules.specs.Settled.{Settles}
 use Rattle.clause_rules.specs.Steps.{scope_of_both}
-use Rattle.clause_rules.specs.Ways.{pair_of, cover_ways, cover_needs, goal_of_need, goal_of_needs}
 use Rattle.clause_rules.proofs.Firsts.{one_at, ok_map}
-use Rattle.clause_rules.proofs.ResolutionGoals.{covered_goals}
 
 -- the same of lists that were lent
 pub spot_as : (lits lent : List Lit) (place given : List ℕ) (i : ℕ) (o : Option Spot) → lent ≡ lits → given ≡ place → HasSpot lent i given o → HasSpot lits i place o
@@ -50,16 +46,9 @@ one_sort_told eq a b x y h e f =
 pub turned_back : (sorts lent given list : List ℕ) → given ≡ sorts → list ≡ reverse given → lent ≡ list → reverse lent ≡ sorts
 turned_back sorts lent given list e f g = ap reverse (g ∙ f ∙ ap reverse e) ∙ reverse-reverse sorts
 
--- the goal of a paramodulation, as code makes it
-pub paramodulation_goal_is : (line into from line_lent lits_lent copied set_ copied2 others appended : List Lit) (i : ℕ) (place : List ℕ) (k changed : Lit) (u l r : Term) (j : ℕ) (pair : Goal) (same one more all : List Goal) → pair ≡ Same (pair_of u l ∷ []) → same ≡ pair ∷ [] → one ≡ Any same ∷ []
-    → copied ≡ into → changed ≡ lit_put_at place r k → set_ ≡ slice_set copied i changed → copied2 ≡ from → others ≡ remove copied2 j → appended ≡ set_ ++ others → lits_lent ≡ appended → line_lent ≡ line → more ≡ map (λ k. goal_of_need (cover_ways line_lent k)) lits_lent → all ≡ one ++ more
-    → All all ≡ goal_of_needs (paramodulation_needs line into from i place k u l r j)
-paramodulation_goal_is line into from line_lent lits_lent copied set_ copied2 others appended i place k changed u l r j pair same one more all p e o c ch st c2 ot ap_ ll le m a =
-    let lits : lits_lent ≡ slice_set into i (lit_put_at place r k) ++ remove from j =
-    ll ∙ ap_ ∙ ap (λ ks. ks ++ others) (st ∙ ap (λ ks. slice_set ks i changed) c ∙ ap (slice_set into i) ch) ∙ ap (λ ks. slice_set into i (lit_put_at place r k) ++ ks) (ot ∙ ap (λ ks. remove ks j) c2) in
-    let goals : more ≡ map goal_of_need (cover_needs line (slice_set into i (lit_put_at place r k) ++ remove from j)) =
-    m ∙ ap (λ ls. map (λ k. goal_of_need (cover_ways ls k)) lits_lent) le ∙ covered_goals line lits_lent ∙ ap (λ ks. map goal_of_need (cover_needs line ks)) lits in
-    ap All (a ∙ (rw (o, e, p, goals) refl))
+-- the literals of a paramodulation, as code makes them
+pub paramodulated_is : (into from copied set_ copied2 others appended : List Lit) (i j : ℕ) (k changed : Lit) → copied ≡ into → changed ≡ k → set_ ≡ slice_set copied i changed → copied2 ≡ from → others ≡ remove copied2 j → appended ≡ set_ ++ others → appended ≡ slice_set into i k ++ remove from j
+paramodulated_is into from copied set_ copied2 others appended i j k changed c ch st c2 ot ap_ = ap_ ∙ ap (λ ks. ks ++ others) (st ∙ ap (λ ks. slice_set ks i changed) c ∙ ap (slice_set into i) ch) ∙ ap (λ ks. slice_set into i k ++ ks) (ot ∙ ap (λ ks. remove ks j) c2)
 
 module _ (v : Vocabulary) (clauses : List (Option Clause)) (line : Clause) (site : Site) (reading : Reading) where
   -- the answer from what was settled

@@ -12,15 +12,17 @@ use Rattle.clause_form.specs.declared.path.Parent.{Parent}
 use Rattle.clause_form.specs.ClauseView.{clause_of}
 use Rattle.clause_rules.specs.declared.just.Just.{Just}
 use Rattle.clause_rules.specs.declared.just.Just.TheVariants.{Resolution}
-use Rattle.clause_rules.specs.declared.resolution_rule.Pivots.{Pivots}
+use Rattle.clause_rules.specs.declared.resolution_rule.Found.{Found}
 use Rattle.clause_rules.specs.Answers.{IsAnswer, resolution, rule_of}
 use Rattle.clause_rules.specs.Justified.{Shows}
 use Rattle.clause_rules.specs.ResolutionRule.{Resolves}
-use Rattle.clause_rules.specs.ResolutionSearch.{ResolvesWith, ResolvesFrom, ShowsWith, ShowsFrom, FoundIn, FoundInSlot, FoundWith, FoundFrom, FoundAmong}
+use Rattle.clause_rules.specs.ResolutionSearch.{ResolvesWith, ResolvesFrom, ShowsWith, ShowsFrom, FoundAt, FoundInSlot, FoundPivot, FoundWith, FoundFrom, FoundAmong}
+use Rattle.clause_rules.specs.Screens.{NeverPivot}
 use Rattle.clause_rules.specs.Settled.{IsSlotFit, AllFit}
 use Rattle.clause_rules.specs.Steps.{IsReady, AreReady, clauses_of}
 use Rattle.clause_rules.proofs.ClauseSorts.{clause_sorted}
 use Rattle.clause_rules.proofs.Firsts.{one_at}
+use Rattle.clause_rules.proofs.ResolvedAt.{left_within, never_left, no_resolution}
 
 -- the clause of a formula that is ready fits
 pub form_fits : (v : Vocabulary) (a : Form) → IsReady v a → IsSlotFit v (clause_of a)
@@ -42,35 +44,50 @@ parents_fit v parents h a slot e =
 
 module _ (v : Vocabulary) (clauses : List (Option Clause)) (line : Clause) where
   module _ (left : Clause) (b : ℕ) (slot : Option Clause) (at : slice_get clauses b ≡ Some slot) where
-    pub none_in_slot : (found : Option Pivots) → found ≡ None → FoundInSlot v left slot line found → (i j : ℕ) (more : List ℕ) (s : ℕ → Term) → ResolvesWith v clauses left line b i j more s → ⊥
-    none_in_slot None e none i j more s r = none r.right (one_at clauses b slot (Some r.right) at r.there) i j more s r.resolves
-    none_in_slot (Some found) e none i j more s r = cc
+    pub none_in_slot : (i : ℕ) (found : Option Found) → found ≡ None → FoundInSlot v left slot line i found → (j : ℕ) (more : List ℕ) (s : ℕ → Term) → ResolvesWith v clauses left line b i j more s → ⊥
+    none_in_slot i None e none j more s r = none r.right (one_at clauses b slot (Some r.right) at r.there) j more s r.resolves
+    none_in_slot i (Some found) e none j more s r = cc
 
-    pub found_in_slot : (a : ℕ) (found : Option Pivots) (pivots : Pivots) (just : Just) → found ≡ Some pivots → FoundInSlot v left slot line found → just ≡ Resolution a b pivots.left pivots.right pivots.subst → ShowsWith v clauses left line a just
-    found_in_slot a None pivots just e shown is = cc
-    found_in_slot a (Some found) pivots just e shown is =
-        let same : found ≡ pivots = cc in
+    pub found_in_slot : (a i : ℕ) (found : Option Found) (pivot : Found) (just : Just) → found ≡ Some pivot → FoundInSlot v left slot line i found → just ≡ Resolution a b i pivot.place pivot.subst → ShowsWith v clauses left line a just
+    found_in_slot a i None pivot just e shown is = cc
+    found_in_slot a i (Some found) pivot just e shown is =
+        let same : found ≡ pivot = cc in
         record {
           b = b;
-          i = found.left;
-          j = found.right;
+          i = i;
+          j = found.place;
           images = found.subst;
           right = shown.0;
-          is = is ∙ ap (λ (p : Pivots). Resolution a b p.left p.right p.subst) (sym same);
+          is = is ∙ ap (λ (p : Found). Resolution a b i p.place p.subst) (sym same);
           there = at ∙ ap Some shown.1;
           shown = shown.2;
         }
 
-  pub in_slot : (left right : Clause) (slot : Option Clause) → slot ≡ Some right → (found : Option Pivots) → FoundIn v left right line found → FoundInSlot v left slot line found
-  in_slot left right slot is None none = λ other e. let same : other ≡ right = cc in subst (λ (x : Clause). (i j : ℕ) (more : List ℕ) (s : ℕ → Term) → Resolves v left x line i j more s → ⊥) (sym same) none
-  in_slot left right slot is (Some found) shown = (right, is, shown)
+  pub in_slot : (left right : Clause) (slot : Option Clause) (i : ℕ) → slot ≡ Some right → (found : Option Found) → FoundAt v left right line i found → FoundInSlot v left slot line i found
+  in_slot left right slot i is None none = λ other e. let same : other ≡ right = cc in subst (λ (x : Clause). (j : ℕ) (more : List ℕ) (s : ℕ → Term) → Resolves v left x line i j more s → ⊥) (sym same) none
+  in_slot left right slot i is (Some found) shown = (right, is, shown)
+
+  -- the literal is no pivot, whichever the right clause
+  pub no_pivot : (left : Clause) (i : ℕ) → NeverPivot line.lits left.lits i → (b j : ℕ) (more : List ℕ) (s : ℕ → Term) → ResolvesWith v clauses left line b i j more s → ⊥
+  no_pivot left i never b j more s r = no_resolution v left r.right line i j (never_left line.lits left.lits r.right.lits i j never) more s r.resolves
+
+  pub none_pivot : (left : Clause) (a i : ℕ) (found : Option Just) → found ≡ None → FoundPivot v clauses left line a i found → (b j : ℕ) (more : List ℕ) (s : ℕ → Term) → ResolvesWith v clauses left line b i j more s → ⊥
+  none_pivot left a i None e none = none
+  none_pivot left a i (Some just) e none = λ b j more s r. cc
+
+  pub found_pivot : (left : Clause) (a i : ℕ) (found : Option Just) (just : Just) → found ≡ Some just → FoundPivot v clauses left line a i found → FoundWith v clauses left line a (Some just)
+  found_pivot left a i None just e shown = cc
+  found_pivot left a i (Some found) just e shown = let same : found ≡ just = cc in subst (ShowsWith v clauses left line a) same shown
 
   pub from_slot : (left : Clause) (slot : Option Clause) (a : ℕ) → slot ≡ Some left → (found : Option Just) → FoundWith v clauses left line a found → FoundFrom v clauses slot line a found
   from_slot left slot a is None none = λ other e. let same : other ≡ left = cc in subst (λ (x : Clause). (b i j : ℕ) (more : List ℕ) (s : ℕ → Term) → ResolvesWith v clauses x line b i j more s → ⊥) (sym same) none
   from_slot left slot a is (Some just) shown = (left, is, shown)
 
-  pub none_with : (left : Clause) (n : ℕ) → length clauses ≤ n → ((b : ℕ) → b < n → (i j : ℕ) (more : List ℕ) (s : ℕ → Term) → ResolvesWith v clauses left line b i j more s → ⊥) → FoundWith v clauses left line 0 None
-  none_with left n h none b i j more s r = let lt = slice_get_within clauses b (Some r.right) r.there in none b (omega arith) i j more s r
+  pub none_with : (left : Clause) (i n : ℕ) → length clauses ≤ n → ((b : ℕ) → b < n → (j : ℕ) (more : List ℕ) (s : ℕ → Term) → ResolvesWith v clauses left line b i j more s → ⊥) → FoundPivot v clauses left line 0 i None
+  none_with left i n h none b j more s r = let lt = slice_get_within clauses b (Some r.right) r.there in none b (omega arith) j more s r
+
+  pub none_at_all : (left : Clause) (n : ℕ) → length left.lits ≤ n → ((i : ℕ) → i < n → (b j : ℕ) (more : List ℕ) (s : ℕ → Term) → ResolvesWith v clauses left line b i j more s → ⊥) → FoundWith v clauses left line 0 None
+  none_at_all left n h none b i j more s r = let lt = left_within v left r.right line i j more s r.resolves in none i (omega arith) b j more s r
 
   module _ (a : ℕ) (slot : Option Clause) (at : slice_get clauses a ≡ Some slot) where
     pub none_from_slot : (found : Option Just) → found ≡ None → FoundFrom v clauses slot line a found → (b i j : ℕ) (more : List ℕ) (s : ℕ → Term) → ResolvesFrom v clauses line a b i j more s → ⊥

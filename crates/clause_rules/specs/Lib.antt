@@ -8,6 +8,7 @@ pub mod EqFactorSearch
 pub mod Heads
 pub mod JointClauses
 pub mod Justified
+pub mod Narrow
 pub mod NormRule
 pub mod ParamodulationRule
 pub mod ParamodulationSearch

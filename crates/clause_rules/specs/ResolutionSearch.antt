@@ -1,4 +1,4 @@
--- How far the search for a resolution has come: at two literals, at one literal of the left clause, at two clauses, and
+-- How far the search for a resolution has come: at two literals, at one literal of the left clause, with a left clause, and
 -- among the clauses that the parents are.
 use Rattle.std.specs.Prelude.{ℕ, ◌≡◌, not, List, [], ◌∷◌, ◌++◌, Option, Some, None, slice_get}
 use Rattle.fof_terms.specs.declared.term.Term.{Term}
@@ -11,7 +11,6 @@ use Rattle.clause_rules.specs.declared.joint.Joint.{Joint}
 use Rattle.clause_rules.specs.declared.just.Just.{Just}
 use Rattle.clause_rules.specs.declared.just.Just.TheVariants.{Resolution}
 use Rattle.clause_rules.specs.declared.resolution_rule.Found.{Found}
-use Rattle.clause_rules.specs.declared.resolution_rule.Pivots.{Pivots}
 use Rattle.clause_rules.specs.Steps.{scope_of_both, instances, IsJoint, images_of_parents}
 use Rattle.clause_rules.specs.ResolutionRule.{IsResolvent, Resolves}
 use Rattle.clause_rules.specs.Ways.{lit_ways, cover_needs, goal_of_needs}
@@ -39,15 +38,10 @@ abbrev pub FoundAt : Vocabulary → Clause → Clause → Clause → ℕ → Opt
 FoundAt v left right line i None = (j : ℕ) (more : List ℕ) (s : ℕ → Term) → Resolves v left right line i j more s → ⊥
 FoundAt v left right line i (Some found) = IsShown v left right line i found.place found.subst
 
--- with the two clauses
-abbrev pub FoundIn : Vocabulary → Clause → Clause → Clause → Option Pivots → Type 0
-FoundIn v left right line None = (i j : ℕ) (more : List ℕ) (s : ℕ → Term) → Resolves v left right line i j more s → ⊥
-FoundIn v left right line (Some found) = IsShown v left right line found.left found.right found.subst
-
--- with a left clause and a right one, if that is one
-abbrev pub FoundInSlot : Vocabulary → Clause → Option Clause → Clause → Option Pivots → Type 0
-FoundInSlot v left slot line None = (right : Clause) → slot ≡ Some right → (i j : ℕ) (more : List ℕ) (s : ℕ → Term) → Resolves v left right line i j more s → ⊥
-FoundInSlot v left slot line (Some found) = (right : Clause) × (slot ≡ Some right) × IsShown v left right line found.left found.right found.subst
+-- the same with a right clause, if it is one
+abbrev pub FoundInSlot : Vocabulary → Clause → Option Clause → Clause → ℕ → Option Found → Type 0
+FoundInSlot v left slot line i None = (right : Clause) → slot ≡ Some right → (j : ℕ) (more : List ℕ) (s : ℕ → Term) → Resolves v left right line i j more s → ⊥
+FoundInSlot v left slot line i (Some found) = (right : Clause) × (slot ≡ Some right) × IsShown v left right line i found.place found.subst
 
 -- clause b of the list is the right one of a resolution with this left one
 pub record ResolvesWith (v : Vocabulary) (clauses : List (Option Clause)) (left line : Clause) (b i j : ℕ) (more : List ℕ) (s : ℕ → Term) : Type 0 where
@@ -65,6 +59,11 @@ pub record ShowsWith (v : Vocabulary) (clauses : List (Option Clause)) (left lin
   pub is : just ≡ Resolution a b i j images
   pub there : slice_get clauses b ≡ Some (Some right)
   pub shown : IsShown v left right line i j images
+
+-- at literal i of the left clause
+abbrev pub FoundPivot : Vocabulary → List (Option Clause) → Clause → Clause → ℕ → ℕ → Option Just → Type 0
+FoundPivot v clauses left line a i None = (b j : ℕ) (more : List ℕ) (s : ℕ → Term) → ResolvesWith v clauses left line b i j more s → ⊥
+FoundPivot v clauses left line a i (Some just) = ShowsWith v clauses left line a just
 
 abbrev pub FoundWith : Vocabulary → List (Option Clause) → Clause → Clause → ℕ → Option Just → Type 0
 FoundWith v clauses left line a None = (b i j : ℕ) (more : List ℕ) (s : ℕ → Term) → ResolvesWith v clauses left line b i j more s → ⊥

@@ -32,3 +32,8 @@ Settles v line scope P (Some images) = IsJoint v line scope images × P scope (i
 abbrev pub IsSolution : Vocabulary → Scope → Goal → Option (List Term) → Type 0
 IsSolution v scope goal None = SolvesGoal v scope goal None
 IsSolution v scope goal (Some images) = (solution : Solution) × (solution.subst ≡ images) × SolvesGoal v scope goal (Some solution)
+
+-- the substitution of a solution of the goal, or none, which tells nothing
+abbrev pub IsGuessed : Vocabulary → Scope → Goal → Option (List Term) → Type 0
+IsGuessed v scope goal None = Unit {0}
+IsGuessed v scope goal (Some images) = IsSolution v scope goal (Some images)

@@ -4,13 +4,15 @@ ghost use Rattle.clause_rules.specs.Screens.{NeverBeside};
 ghost use Rattle.clause_rules.specs.Settled.{IsFit};
 
 use crate::cover_rule::cover_clause;
+use crate::guess::{first_target, no_guess};
 use crate::screening::may_others_be_covered;
-use clause_form::{Clause, copy_lits};
+use clause_form::{Clause, Lit, copy_lits};
 use fof_terms::Signature;
 use std::alloc::Global;
 use tptp_base::{List, Memory};
 
-/// Whether one substitution may cover by the line all literals of the clause but literal i. A cheap test comes first.
+/// Whether one substitution may cover by the line all literals of the clause but literal i. A cheap test and a guess come
+/// first.
 pub fn may_rest_be_covered(
     alloc: Global,
     sig: &Signature,
@@ -26,11 +28,30 @@ pub fn may_rest_be_covered(
     if !may_others_be_covered(line.lits.as_slice(), clause.lits.as_slice(), i) {
         return Ok(false);
     }
+    let is_guessed = have_targets(alloc, clause, line.lits.as_slice(), i)?;
+    if is_guessed {
+        return Ok(true);
+    }
     let rest = without(alloc, clause, i)?;
     match cover_clause(alloc, sig, &rest, line)? {
         Some(_) => Ok(true),
         None => Ok(false),
     }
+}
+
+// Whether a guess has one of the targets for each literal of the clause but literal i.
+fn have_targets(alloc: Global, clause: &Clause, targets: &[Lit], i: usize) -> Result<bool, Memory> {
+    let lits = clause.lits.as_slice();
+    let mut guess = no_guess(alloc, clause.sorts.len(), 0)?;
+    for at in 0..lits.len() {
+        if at != i {
+            let found = first_target(&mut guess, &lits[at], targets)?;
+            if found.is_none() {
+                return Ok(false);
+            }
+        }
+    }
+    Ok(true)
 }
 
 // The clause without literal i.

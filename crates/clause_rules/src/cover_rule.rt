@@ -1,11 +1,11 @@
-ghost use Rattle.std.specs.Prelude.{◌≡◌, ◌≤◌, ◌<◌, true, [], Some, IfOk, MatchOption};
+ghost use Rattle.std.specs.Prelude.{◌≡◌, ◌≤◌, ◌<◌, true, [], Some, IfOk, IfSome, MatchOption};
 ghost use Rattle.fof_terms.specs.Sorts.{is_sorted};
 ghost use Rattle.clause_form.specs.Covers.{scope_of, CoversBy};
 ghost use Rattle.clause_form.specs.Norm.{norm_of};
 ghost use Rattle.clause_form.specs.Sizes.{norm_size_of};
 ghost use Rattle.clause_rules.specs.declared.just.Just.TheVariants.{Cover};
 ghost use Rattle.clause_rules.specs.Answers.{IsAnswer, cover};
-ghost use Rattle.clause_rules.specs.CoverFound.{FoundCover, FoundInForm, FoundCoverAmong, SettlesReached};
+ghost use Rattle.clause_rules.specs.CoverFound.{FoundCover, FoundInForm, FoundCoverAmong, SettlesReached, ShowsCover};
 ghost use Rattle.clause_rules.specs.NormRule.{HasNorm};
 ghost use Rattle.clause_rules.specs.Settled.{IsFit, Settles};
 ghost use Rattle.clause_rules.specs.Steps.{AreReady, IsReady};
@@ -16,14 +16,13 @@ use crate::numbers::number;
 use crate::opening::open;
 use crate::reaching::may_reach;
 use crate::scopes::scope_of_clause;
-use crate::search::{settle, solution_of};
+use crate::search::{settle_covers, settle_narrowed, solution_of};
 use crate::taking::{Reached, reached_by};
-use crate::ways::all_covered;
-use clause_form::{Clause, FormFault, Parent, Path, as_clause, norm};
+use clause_form::{Clause, FormFault, Parent, Path, as_clause, clause_of_path, norm};
 use fof_terms::{Form, Signature};
 use std::alloc::Global;
 use tptp_base::{Boxed, List, Memory};
-use unify_terms::{Goal, Scope, Solution, Subst};
+use unify_terms::{Scope, Solution, Subst};
 
 /// A path, and a substitution that covers what it reaches.
 #[derive(Drop)]
@@ -127,7 +126,69 @@ fn cover_open(
     if !is_open {
         return Ok(None);
     }
+    let guessed = cover_at_once(alloc, sig, norm, line)?;
+    if let Some(covering) = guessed {
+        return Ok(Some(covering));
+    }
     cover_norm(alloc, sig, norm, line)
+}
+
+// A covering of what the first path reaches in the normal form, if a guess finds one.
+fn cover_at_once(
+    alloc: Global,
+    sig: &Signature,
+    norm: &Form,
+    line: &Clause,
+) -> Result<Option<Covering>, Memory>
+    requires small { norm_size_of norm.now ≤ 100000 }
+    requires norm { is_sorted sig.now [] norm.now ≡ true }
+    requires line { IsFit sig.now line.now }
+    ensures { IfOk result (λ found. IfSome found (λ covering. ShowsCover sig.now norm.now line.now covering.path covering.subst)) }
+{
+    let path = first_path(norm, alloc)?;
+    match clause_of_path(alloc, norm, &path)? {
+        Some(clause) => match cover_guessed(alloc, sig, &clause, line)? {
+            Some(subst) => Ok(Some(Covering { path, subst })),
+            None => Ok(None),
+        },
+        None => Ok(None),
+    }
+}
+
+// The path to the first member of each conjunction.
+#[cycle(first_path)]
+fn first_path(form: &Form, alloc: Global) -> Result<Path, Memory> {
+    match form {
+        Form::And(members) => {
+            let members = members.as_slice();
+            if members.is_empty() {
+                return Ok(Path::Leaf);
+            }
+            let path = first_path(&members[0], alloc)?;
+            Ok(Path::Pick(0, Boxed::new(alloc, path)?))
+        }
+        Form::Or(members) => Ok(Path::Each(first_paths(members.as_slice(), alloc)?)),
+        Form::All(_, body) => {
+            let path = first_path(body.get(), alloc)?;
+            Ok(Path::Under(Boxed::new(alloc, path)?))
+        }
+        Form::Atom(_, _)
+        | Form::Eq(_, _)
+        | Form::Not(_)
+        | Form::Imp(_, _)
+        | Form::Iff(_, _)
+        | Form::Ex(_, _) => Ok(Path::Leaf),
+    }
+}
+
+// The same of each of the formulas.
+#[cycle(first_path)]
+fn first_paths(forms: &[Form], alloc: Global) -> Result<List<Path>, Memory> {
+    let mut paths = List::new(alloc);
+    for form in forms {
+        paths.push(first_path(form, alloc)?)?;
+    }
+    Ok(paths)
 }
 
 // The same by a search.
@@ -189,6 +250,32 @@ pub fn cover_clause(
     ensures { IfOk result (λ found. Settles sig.now line.now (scope_of clause.now) (CoversBy sig.now (scope_of clause.now) clause.now.lits line.now) found) }
 {
     let joint = join_one(alloc, sig, line, clause)?;
-    let goal = Goal::All(all_covered(alloc, joint.left.as_slice(), line.lits.as_slice())?);
-    settle(alloc, sig, &joint.scope, &goal)
+    settle_covers(
+        alloc,
+        sig,
+        &joint.scope,
+        joint.left.as_slice(),
+        line.lits.as_slice(),
+    )
+}
+
+// A substitution that covers the clause by the line, if a guess finds one.
+fn cover_guessed(
+    alloc: Global,
+    sig: &Signature,
+    clause: &Clause,
+    line: &Clause,
+) -> Result<Option<Subst>, Memory>
+    requires clause { IsFit sig.now clause.now }
+    requires line { IsFit sig.now line.now }
+    ensures { IfOk result (λ found. IfSome found (λ images. Settles sig.now line.now (scope_of clause.now) (CoversBy sig.now (scope_of clause.now) clause.now.lits line.now) (Some images))) }
+{
+    let joint = join_one(alloc, sig, line, clause)?;
+    settle_narrowed(
+        alloc,
+        sig,
+        &joint.scope,
+        joint.left.as_slice(),
+        line.lits.as_slice(),
+    )
 }

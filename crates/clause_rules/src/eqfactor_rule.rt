@@ -1,26 +1,24 @@
-ghost use Rattle.std.specs.Prelude.{◌≡◌, ◌<◌, length, Some, IfOk};
+ghost use Rattle.std.specs.Prelude.{◌≡◌, ◌<◌, length, slice_set, Some, IfOk};
 ghost use Rattle.clause_form.specs.Covers.{scope_of};
 ghost use Rattle.clause_rules.specs.declared.just.Just.TheVariants.{EqFactor};
 ghost use Rattle.clause_rules.specs.Answers.{IsAnswer, eqfactor};
 ghost use Rattle.clause_rules.specs.EqFactorRule.{Factors};
-ghost use Rattle.clause_rules.specs.EqFactorSearch.{factor_needs, FoundFactor, FoundInParent, FoundInParents, NoneRead, NoneWith, NoneFrom, NoneIn};
+ghost use Rattle.clause_rules.specs.EqFactorSearch.{FoundFactor, FoundInParent, FoundInParents, NoneRead, NoneWith, NoneFrom, NoneIn};
 ghost use Rattle.clause_rules.specs.JointClauses.{IsJoinedOne};
 ghost use Rattle.clause_rules.specs.Settled.{IsFit, IsSlotFit, AllFit, Settles};
 ghost use Rattle.clause_rules.specs.Steps.{unequal, AreReady, IsReady};
-ghost use Rattle.clause_rules.specs.Ways.{goal_of_needs};
 
 use crate::joint::{Joint, join_one};
 use crate::just::Just;
 use crate::numbers::number;
 use crate::screening::may_others_be_covered;
-use crate::search::{clauses_of_parents, settle};
+use crate::search::{clauses_of_parents, settle_beside};
 use crate::sides::{Sides, sides_of};
-use crate::ways::{all_covered, alone, one_pair};
 use clause_form::{AtomOf, Clause, Lit, Parent, as_clause, copy_lits};
 use fof_terms::{Form, Signature, Term};
 use std::alloc::Global;
-use tptp_base::Memory;
-use unify_terms::{Goal, Subst};
+use tptp_base::{List, Memory};
+use unify_terms::Subst;
 
 /// Two equations of a clause, how they are read, and a substitution.
 #[derive(Drop)]
@@ -53,24 +51,20 @@ pub fn eqfactor_step(
     }
 }
 
-// What is asked of a substitution at two equations, the first of which is literal i.
-fn factor_goal(
+// The literals with the denied equation of the right sides in place of literal i.
+fn with_denied(
     alloc: Global,
-    line: &[Lit],
     lits: &[Lit],
     i: usize,
     first: &Sides<'_>,
     second: &Sides<'_>,
-) -> Result<Goal, Memory>
+) -> Result<List<Lit>, Memory>
     requires { i < length lits.now }
-    ensures { IfOk result (λ goal. goal ≡ goal_of_needs (factor_needs line.now lits.now i first.now.left.now second.now.left.now first.now.right.now second.now.right.now)) }
+    ensures { IfOk result (λ made. made ≡ slice_set lits.now i (unequal first.now.right.now second.now.right.now)) }
 {
-    let same = alone(alloc, one_pair(alloc, first.left, second.left)?)?;
-    let mut goals = alone(alloc, Goal::Any(same))?;
-    let mut changed = copy_lits(alloc, lits)?;
-    changed.set(i, unequal_lit(alloc, first.right, second.right)?);
-    goals.append(all_covered(alloc, changed.as_slice(), line)?)?;
-    Ok(Goal::All(goals))
+    let mut made = copy_lits(alloc, lits)?;
+    made.set(i, unequal_lit(alloc, first.right, second.right)?);
+    Ok(made)
 }
 
 // The denied equation.
@@ -110,8 +104,16 @@ fn factor_at(
     match sides_of(&lits[i], first_flipped) {
         Some(first) => match sides_of(&lits[j], second_flipped) {
             Some(second) => {
-                let goal = factor_goal(alloc, line.lits.as_slice(), lits, i, &first, &second)?;
-                settle(alloc, sig, &joint.scope, &goal)
+                let made = with_denied(alloc, lits, i, &first, &second)?;
+                settle_beside(
+                    alloc,
+                    sig,
+                    &joint.scope,
+                    first.left,
+                    second.left,
+                    made.as_slice(),
+                    line.lits.as_slice(),
+                )
             }
             None => Ok(None),
         },

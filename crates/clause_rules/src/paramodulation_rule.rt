@@ -1,14 +1,13 @@
-ghost use Rattle.std.specs.Prelude.{◌≡◌, ◌↔◌, ◌<◌, ◌≤◌, false, length, IsTrue, Some, IfOk, option_copied, slice_get};
+ghost use Rattle.std.specs.Prelude.{◌≡◌, ◌↔◌, ◌<◌, ◌≤◌, ◌++◌, false, length, remove, IsTrue, Some, IfOk, option_copied, slice_get, slice_set};
 ghost use Rattle.fof_terms.specs.Sorts.{sort_of_term};
 ghost use Rattle.clause_rules.specs.declared.just.Just.TheVariants.{Paramodulation};
 ghost use Rattle.clause_rules.specs.Answers.{IsAnswer, paramodulation};
 ghost use Rattle.clause_rules.specs.JointClauses.{IsJoined};
 ghost use Rattle.clause_rules.specs.ParamodulationRule.{HasPlace, Paramodulates};
-ghost use Rattle.clause_rules.specs.ParamodulationSearch.{FoundAtLit, FoundAtSite, FoundAtSites, FoundInClause, FoundInClauses, HasClause, NeverAt, TriedAtSite, paramodulation_needs};
-ghost use Rattle.clause_rules.specs.Places.{lit_term_at};
+ghost use Rattle.clause_rules.specs.ParamodulationSearch.{FoundAtLit, FoundAtSite, FoundAtSites, FoundInClause, FoundInClauses, HasClause, NeverAt, TriedAtSite};
+ghost use Rattle.clause_rules.specs.Places.{lit_put_at};
 ghost use Rattle.clause_rules.specs.Settled.{AllFit, IsFit, Settles};
 ghost use Rattle.clause_rules.specs.Steps.{AreReady, IsReady, equation, scope_of_both};
-ghost use Rattle.clause_rules.specs.Ways.{goal_of_needs};
 
 use crate::beside::may_rest_be_covered;
 use crate::joint::{Joint, join};
@@ -18,15 +17,14 @@ use crate::places::put_in;
 use crate::position::Position;
 use crate::scopes::reversed;
 use crate::screening::{may_be_covered, may_others_be_covered};
-use crate::search::{clauses_of_parents, settle};
+use crate::search::{clauses_of_parents, settle_beside};
 use crate::sides::Sides;
 use crate::sites::{Reading, Site, Spot, equation_in, readings_of, sites_at, spot_in};
-use crate::ways::{all_covered, alone, one_pair};
 use clause_form::{Clause, Lit, Parent, as_clause, copy_lits};
 use fof_terms::{Form, Scope as Reach, Signature, Term, sort_of};
 use std::alloc::Global;
-use tptp_base::Memory;
-use unify_terms::{Goal, Scope, Subst};
+use tptp_base::{List, Memory};
+use unify_terms::{Scope, Subst};
 
 /// A justification by the rule `paramodulation`: the left side of a positive equation of one parent, as it is read,
 /// becomes the term at a place of another, and the right side takes that place. None exactly where there is none.
@@ -344,8 +342,16 @@ fn of_joint(
                 if !is_one {
                     return Ok(None);
                 }
-                let goal = paramodulation_goal(alloc, line, &joint, site, reading, &spot, &sides)?;
-                settle(alloc, sig, &joint.scope, &goal)
+                let lits = paramodulated(alloc, &joint, site, reading, &spot, &sides)?;
+                settle_beside(
+                    alloc,
+                    sig,
+                    &joint.scope,
+                    spot.term,
+                    sides.left,
+                    lits.as_slice(),
+                    line.lits.as_slice(),
+                )
             }
             None => Ok(None),
         },
@@ -370,28 +376,24 @@ fn is_one_sort(
     Ok(first == second)
 }
 
-// What is asked of a substitution at this place with this equation.
-fn paramodulation_goal(
+// The literals of both clauses with the right side in place of the term, and without the equation.
+fn paramodulated(
     alloc: Global,
-    line: &Clause,
     joint: &Joint,
     site: &Site,
     reading: &Reading,
     spot: &Spot<'_>,
     sides: &Sides<'_>,
-) -> Result<Goal, Memory>
+) -> Result<List<Lit>, Memory>
     requires into { slice_get joint.now.left site.now.lit ≡ Some spot.now.lit.now }
     requires from { slice_get joint.now.right reading.now.lit ≡ Some (equation reading.now.flipped sides.now.left.now sides.now.right.now) }
-    ensures { IfOk result (λ goal. goal ≡ goal_of_needs (paramodulation_needs line.now.lits joint.now.left joint.now.right site.now.lit site.now.at spot.now.lit.now spot.now.term.now sides.now.left.now sides.now.right.now reading.now.lit)) }
+    ensures { IfOk result (λ made. made ≡ slice_set joint.now.left site.now.lit (lit_put_at site.now.at sides.now.right.now spot.now.lit.now) ++ remove joint.now.right reading.now.lit) }
 {
-    let same = alone(alloc, one_pair(alloc, spot.term, sides.left)?)?;
-    let mut goals = alone(alloc, Goal::Any(same))?;
     let mut lits = copy_lits(alloc, joint.left.as_slice())?;
     let changed: Lit = put_in(alloc, spot.lit, site.at.as_slice(), sides.right)?;
     lits.set(site.lit as usize, changed);
     let mut others = copy_lits(alloc, joint.right.as_slice())?;
     others.remove(reading.lit as usize);
     lits.append(others)?;
-    goals.append(all_covered(alloc, lits.as_slice(), line.lits.as_slice())?)?;
-    Ok(Goal::All(goals))
+    Ok(lits)
 }

@@ -2,7 +2,7 @@ ghost use Rattle.std.specs.Prelude.{◌≡◌, ◌<◌, false, length, Some, IfO
 ghost use Rattle.clause_rules.specs.declared.just.Just.TheVariants.{Resolution};
 ghost use Rattle.clause_rules.specs.Answers.{IsAnswer, resolution};
 ghost use Rattle.clause_rules.specs.ResolutionRule.{Resolves};
-ghost use Rattle.clause_rules.specs.ResolutionSearch.{resolution_needs, AsksAt, NeverResolves, FoundAt, FoundIn, FoundInSlot, FoundWith, FoundFrom, FoundAmong};
+ghost use Rattle.clause_rules.specs.ResolutionSearch.{resolution_needs, AsksAt, NeverResolves, FoundAt, FoundInSlot, FoundPivot, FoundWith, FoundFrom, FoundAmong};
 ghost use Rattle.clause_rules.specs.Settled.{IsFit, IsSlotFit, AllFit, Settles};
 ghost use Rattle.clause_rules.specs.Steps.{scope_of_both, AreReady, IsReady};
 ghost use Rattle.clause_rules.specs.Ways.{goal_of_needs};
@@ -24,14 +24,6 @@ use unify_terms::{Goal, Subst};
 #[derive(Drop)]
 pub struct Found {
     pub place: u32,
-    pub subst: Subst,
-}
-
-/// A literal of each clause, and a substitution.
-#[derive(Drop)]
-pub struct Pivots {
-    pub left: u32,
-    pub right: u32,
     pub subst: Subst,
 }
 
@@ -110,79 +102,79 @@ fn resolve_with(
     requires line { IsFit sig.now line.now }
     ensures { IfOk result (λ found. FoundWith sig.now clauses.now left.now line.now a found) }
 {
-    for b in 0..clauses.len() {
-        let found = resolve_slot(alloc, sig, left, &clauses[b], line)?;
-        if let Some(found) = found {
-            return justified(a, b, found);
+    for i in 0..left.lits.len() {
+        let found = resolve_pivot(alloc, sig, clauses, left, line, a, i)?;
+        if let Some(just) = found {
+            return Ok(Some(just));
         }
     }
     Ok(None)
 }
 
-// The same for a left clause and a right one, if that is one.
+// The same at this literal of the left clause. Whether the others can be covered is tested once for all right clauses.
+fn resolve_pivot(
+    alloc: Global,
+    sig: &Signature,
+    clauses: &[Option<Clause>],
+    left: &Clause,
+    line: &Clause,
+    a: usize,
+    i: usize,
+) -> Result<Option<Just>, Memory>
+    requires clauses { AllFit sig.now clauses.now }
+    requires left { IsFit sig.now left.now }
+    requires line { IsFit sig.now line.now }
+    requires left_lit { i < length left.now.lits }
+    ensures { IfOk result (λ found. FoundPivot sig.now clauses.now left.now line.now a i found) }
+{
+    if !may_be_pivot(line.lits.as_slice(), left.lits.as_slice(), i) {
+        return Ok(None);
+    }
+    for b in 0..clauses.len() {
+        let found = resolve_slot(alloc, sig, left, &clauses[b], line, i)?;
+        if let Some(found) = found {
+            return justified(a, b, i, found);
+        }
+    }
+    Ok(None)
+}
+
+// The same for a right clause, if it is one.
 fn resolve_slot(
     alloc: Global,
     sig: &Signature,
     left: &Clause,
     right: &Option<Clause>,
     line: &Clause,
-) -> Result<Option<Pivots>, Memory>
+    i: usize,
+) -> Result<Option<Found>, Memory>
     requires left { IsFit sig.now left.now }
     requires right { IsSlotFit sig.now right.now }
     requires line { IsFit sig.now line.now }
-    ensures { IfOk result (λ found. FoundInSlot sig.now left.now right.now line.now found) }
+    requires left_lit { i < length left.now.lits }
+    ensures { IfOk result (λ found. FoundInSlot sig.now left.now right.now line.now i found) }
 {
     match right {
-        Some(right) => resolve_two(alloc, sig, left, right, line),
+        Some(right) => resolve_lit(alloc, sig, left, right, line, i),
         None => Ok(None),
     }
 }
 
 // The justification with these clauses.
-fn justified(a: usize, b: usize, found: Pivots) -> Result<Option<Just>, Memory>
-    ensures { IfOk result (λ just. just ≡ Some (Resolution a b found.left found.right found.subst)) }
+fn justified(a: usize, b: usize, i: usize, found: Found) -> Result<Option<Just>, Memory>
+    ensures { IfOk result (λ just. just ≡ Some (Resolution a b i found.place found.subst)) }
 {
     let left = number(a)?;
     let right = number(b)?;
-    let Pivots {
-        left: left_lit,
-        right: right_lit,
-        subst,
-    } = found;
+    let left_lit = number(i)?;
+    let Found { place, subst } = found;
     Ok(Some(Just::Resolution {
         left,
         right,
         left_lit,
-        right_lit,
+        right_lit: place,
         subst,
     }))
-}
-
-// The same for these two clauses.
-fn resolve_two(
-    alloc: Global,
-    sig: &Signature,
-    left: &Clause,
-    right: &Clause,
-    line: &Clause,
-) -> Result<Option<Pivots>, Memory>
-    requires left { IsFit sig.now left.now }
-    requires right { IsFit sig.now right.now }
-    requires line { IsFit sig.now line.now }
-    ensures { IfOk result (λ found. FoundIn sig.now left.now right.now line.now found) }
-{
-    for i in 0..left.lits.len() {
-        let found = resolve_lit(alloc, sig, left, right, line, i)?;
-        if let Some(found) = found {
-            let Found { place, subst } = found;
-            return Ok(Some(Pivots {
-                left: number(i)?,
-                right: place,
-                subst,
-            }));
-        }
-    }
-    Ok(None)
 }
 
 // The same at this literal of the left clause.
@@ -258,17 +250,14 @@ fn resolve_at(
     settle(alloc, sig, &joint.scope, &goal)
 }
 
-// Whether the literals may become complementary, and all others be covered or be theirs. These tests are cheap, and come
-// before a goal is made.
+// Whether the literals may become complementary, and all others of the right clause be covered or be its one. These tests
+// are cheap, and come before a goal is made.
 fn may_resolve(line: &[Lit], left: &[Lit], right: &[Lit], i: usize, j: usize) -> bool
     requires left_lit { i < length left.now }
     requires right_lit { j < length right.now }
     ensures { result ≡ false → NeverResolves line.now left.now right.now i j }
 {
     if !may_clash(&left[i], &right[j]) {
-        return false;
-    }
-    if !may_be_pivot(line, left, i) {
         return false;
     }
     may_be_pivot(line, right, j)

@@ -16,14 +16,13 @@ use crate::paramodulation_rule::clause_in;
 use crate::replacing::replace_in_lits;
 use crate::scopes::scope_of_clause;
 use crate::screening::may_all_be_covered;
-use crate::search::{clauses_of_parents, settle};
+use crate::search::{clauses_of_parents, settle_covers};
 use crate::sites::{Reading, Site, equation_in, readings_of, sites_of, spot_in};
-use crate::ways::all_covered;
 use clause_form::{Clause, Lit, Parent, as_clause};
 use fof_terms::{Form, Signature, Term};
 use std::alloc::Global;
 use tptp_base::{List, Memory};
-use unify_terms::{Goal, Pair, Scope, Subst, apply, unify};
+use unify_terms::{Pair, Scope, Subst, apply, unify};
 
 /// A term that was rewritten, the substitution that takes the equation's left side to it, and one that covers.
 #[derive(Drop)]
@@ -294,6 +293,5 @@ fn cover_lits(
     sorts.append(scope_of_clause(alloc, by)?)?;
     let scope = Scope { sorts, rigid };
     let moved = apart(alloc, lits, rigid)?;
-    let goal = Goal::All(all_covered(alloc, moved.as_slice(), line.lits.as_slice())?);
-    settle(alloc, sig, &scope, &goal)
+    settle_covers(alloc, sig, &scope, moved.as_slice(), line.lits.as_slice())
 }

@@ -1,0 +1,7 @@
+use Rattle.std.proofs.Common.{ℕ, ◌≡◌, ◌<◌, true}
+use Rattle.unify_terms.specs.Graph.{numbers_at}
+use Rattle.unify_terms.specs.Order.{is_done, all_done}
+use Rattle.unify_terms.proofs.images.is_closed.Given as goal
+
+abbrev pub invariant-loop-at : goal.invariant-loop-at
+invariant-loop-at l = (i : ℕ) → i < l.at → is_done l.needed i ≡ true → all_done l.classes l.needed (numbers_at l.nodes i) ≡ true
