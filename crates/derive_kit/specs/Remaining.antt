@@ -1,15 +1,12 @@
 -- Proofs of members that are taken one by one from the end of a list in which they stand from the last to the first.
 use Rattle.std.specs.Prelude.{ℕ, ◌≡◌, ◌+◌, ◌<◌, length, drop, get_or, reverse, List, [], ◌∷◌, ◌++◌}
 use Rattle.std.proofs.Common.{ap, sym, ◌∙◌}
-use Rattle.std.proofs.lemmas.List.{reverse-append, reverse-reverse, drop_more}
+use Rattle.std.proofs.lemmas.List.{reverse-append, drop_more}
 use Rattle.fof_terms.specs.declared.form.Form.{Form, And}
 use Rattle.kernel.specs.declared.proof.Proof.{Proof}
 use Rattle.derive_kit.specs.Links.{PartsFrom}
 
 module _ (P : ℕ → Form → Proof → Type 0) (forms : List Form) where
-  pub all_left : (parts rest : List Proof) → rest ≡ reverse parts → PartsFrom P 0 forms parts → PartsFrom P 0 (drop 0 forms) (reverse rest)
-  all_left parts rest is w = rw (is, reverse-reverse parts) w
-
   pub next_left : (k : ℕ) (a : Form) (old rest : List Proof) (p : Proof) → k < length forms → a ≡ get_or forms k a → old ≡ rest ++ p ∷ [] → PartsFrom P k (drop k forms) (reverse old)
       → P k a p × PartsFrom P (k + 1) (drop (k + 1) forms) (reverse rest)
   next_left k a old rest p lt at is w =
