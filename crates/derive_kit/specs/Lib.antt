@@ -13,7 +13,9 @@ pub mod Numbering
 pub mod Placed
 pub mod Places
 pub mod Recursion
+pub mod Remaining
 pub mod Routes
 pub mod Settled
+pub mod Standing
 pub mod Steps
 pub mod Turned

@@ -1,5 +1,5 @@
 -- What the steps of the recursion build, as code meets it.
-use Rattle.std.specs.Prelude.{ℕ, Bool, true, false, not, ◌≡◌, map, get_or, List, [], ◌∷◌}
+use Rattle.std.specs.Prelude.{ℕ, Bool, true, false, not, ◌≡◌, map, get_or, List, [], ◌∷◌, refl}
 use Rattle.std.proofs.Common.{ap, subst, ◌∙◌}
 use Rattle.fof_terms.specs.declared.form.Form.{Form, Not, And, Or, Imp, Iff}
 use Rattle.clause_form.specs.Norm.{signed, node, join, norm_of, norm_of-Not}
@@ -7,7 +7,21 @@ use Rattle.kernel.specs.declared.proof.Proof.{Proof}
 use Rattle.derive_kit.specs.Steps.{Between, then_tree, denied_tree, denied_shows}
 use Rattle.derive_kit.specs.Connectives.{sides, sides_back, both_sides, imp_tree, imp_shows, iff_tree, iff_shows}
 use Rattle.derive_kit.specs.Links.{kind_of, arm_tree, Arms, link_tree}
-use Rattle.derive_kit.specs.Norms.{node_shows, pair_arms, by_other, norm_of_sides, norm_of_both}
+use Rattle.derive_kit.specs.Norms.{norm_of_node, node_shows, pair_arms, by_other, norm_of_sides, norm_of_both}
+
+-- the normal forms by those of the members
+module _ (g : Bool) where
+  pub node_norm : (conj k : Bool) (ms ns : List Form) (made : Form) → made ≡ join k ns → k ≡ kind_of conj g → ns ≡ map (norm_of g) ms → made ≡ norm_of g (node conj ms)
+  node_norm conj k ms ns made em ek en = rw (em, ek, en, norm_of_node conj g ms) refl
+
+  pub sides_norms : (ms : List Form) (l r x y : Form) → ms ≡ sides l r → x ≡ norm_of (not g) l → y ≡ norm_of g r → x ∷ y ∷ [] ≡ map (norm_of g) ms
+  sides_norms ms l r x y is ex ey = rw (is, ex, ey, norm_of-Not g l) refl
+
+  pub back_norms : (ms : List Form) (l r x y : Form) → ms ≡ sides_back l r → x ≡ norm_of g l → y ≡ norm_of (not g) r → x ∷ y ∷ [] ≡ map (norm_of g) ms
+  back_norms ms l r x y is ex ey = rw (is, ex, ey, norm_of-Not g r) refl
+
+  pub both_norms : (ms : List Form) (l r x y : Form) → ms ≡ both_sides l r → x ≡ norm_of g (Or (sides l r)) → y ≡ norm_of g (Or (sides_back l r)) → x ∷ y ∷ [] ≡ map (norm_of g) ms
+  both_norms ms l r x y is ex ey = rw (is, ex, ey) refl
 
 module _ (g forth : Bool) (n : ℕ) where
   pub node_made : (conj k1 k2 : Bool) (ms n1 n2 n3 : List Form) (ps : List Proof) (made linked joined : Proof) (first last whole : Form) → made ≡ then_tree forth first last linked joined → first ≡ signed g whole → whole ≡ node conj ms

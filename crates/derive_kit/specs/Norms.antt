@@ -4,9 +4,8 @@ use Rattle.std.specs.List.{AllByRecursion}
 use Rattle.std.proofs.Common.{arith, subst, zero, suc}
 use Rattle.fof_terms.specs.declared.form.Form.{Form, Not, And, Or, Imp, Iff}
 use Rattle.std.proofs.lemmas.List.{length-map}
-use Rattle.fof_terms.specs.Lift.{greatest}
 use Rattle.fof_terms.specs.Induction.{form_induction}
-use Rattle.fof_terms.specs.Sorts.{binder_depth, binder_depth-And, binder_depth-Or}
+use Rattle.fof_terms.specs.Sorts.{binder_depth}
 use Rattle.clause_form.specs.Norm.{signed, node, members_of, join, quantifier, quantified, norm_of, norm_of-Not, norm_of-And, norm_of-Or, norm_of-Imp, norm_of-Iff, norm_of-All, norm_of-Ex}
 use Rattle.clause_form.specs.NormSize.{norm_small, flat_size, norms_size}
 use Rattle.clause_form.specs.Sizes.{norm_size_of, norm_size_of-Atom, norm_size_of-Eq, norm_size_of-Not, norm_size_of-And, norm_size_of-Or, norm_size_of-Imp, norm_size_of-Iff, norm_size_of-All, norm_size_of-Ex}
@@ -101,14 +100,14 @@ both_size l r =
     rw (norm_size_of-And, two_sizes (Or (sides l r)) (Or (sides_back l r)), norm_size_of-Iff) (omega arith)
 
 -- The steps.
-pub not_plus : (g forth : Bool) (n : ℕ) (p : Proof) (a : Form) → g ≡ true → Between forth n p (signed (not g) a) (norm_of (not g) a) → Between forth n p (signed g (Not a)) (norm_of (not g) a)
-not_plus true forth n p a e l = l
-not_plus false forth n p a e l = absurd (let never : false ≡ true = e in cc)
+pub not_plus : (g forth : Bool) (n : ℕ) (p : Proof) (a b : Form) → g ≡ true → Between forth n p (signed (not g) a) b → Between forth n p (signed g (Not a)) b
+not_plus true forth n p a b e l = l
+not_plus false forth n p a b e l = absurd (let never : false ≡ true = e in cc)
 
-pub not_minus : (g forth : Bool) (n : ℕ) (p q : Proof) (a b : Form) → g ≡ false → q ≡ then_tree forth (Not (Not a)) b (twice_denied_tree forth a) p → b ≡ norm_of (not g) a
-    → Between forth n p (signed (not g) a) (norm_of (not g) a) → Between forth n q (signed g (Not a)) (norm_of (not g) a)
-not_minus true forth n p q a b e is eb l = absurd (let never : true ≡ false = e in cc)
-not_minus false forth n p q a b e is eb l = rw (is, eb) (then_shows forth n _ p (Not (Not a)) a (norm_of true a) (twice_denied_shows forth n a) l)
+pub not_minus : (g forth : Bool) (n : ℕ) (p q : Proof) (a b : Form) → g ≡ false → q ≡ then_tree forth (Not (Not a)) b (twice_denied_tree forth a) p
+    → Between forth n p (signed (not g) a) b → Between forth n q (signed g (Not a)) b
+not_minus true forth n p q a b e is l = absurd (let never : true ≡ false = e in cc)
+not_minus false forth n p q a b e is l = rw is (then_shows forth n _ p (Not (Not a)) a b (twice_denied_shows forth n a) l)
 
 pub node_shows : (conj g forth : Bool) (n : ℕ) (ms : List Form) (ps : List Proof) (q : Proof) → Arms conj g forth n ms ms ps
     → Between forth n q (node (kind_of conj g) (map (norm_of g) ms)) (join (kind_of conj g) (map (norm_of g) ms))
@@ -137,10 +136,6 @@ pub pair_arms : (conj g forth : Bool) (n : ℕ) (a b : Form) (p q : Proof) → B
 pair_arms conj g forth n a b p q l k = ((refl, (p, refl, l)), ((refl, (q, refl, k)), tt))
 
 -- Room for code.
-pub node_room : (conj : Bool) (ms : List Form) → norm_size_of (node conj ms) ≤ 100000 → greatest (map binder_depth ms) < 2 ^ 32
-node_room true ms le = let few = depth_within_size (And ms) in let same = binder_depth-And ms in omega arith
-node_room false ms le = let few = depth_within_size (Or ms) in let same = binder_depth-Or ms in omega arith
-
 pub room : (a : Form) → norm_size_of a ≤ 100000 → binder_depth a < 2 ^ 32
 room a le = let few = depth_within_size a in omega arith
 

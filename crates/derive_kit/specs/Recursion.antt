@@ -1,5 +1,5 @@
 -- What each arm of the recursion over a formula shows, and what it asks.
-use Rattle.std.specs.Prelude.{ℕ, Bool, true, false, not, ◌≡◌, ◌+◌, ◌≤◌, ◌<◌, ◌^◌, ◌-◌, max, length, map, take, get_or, List, [], ◌∷◌, ◌++◌, Some, slice_get}
+use Rattle.std.specs.Prelude.{ℕ, Bool, true, false, not, ◌≡◌, ◌+◌, ◌≤◌, ◌<◌, ◌^◌, ◌-◌, max, length, map, take, get_or, List, [], ◌∷◌, ◌++◌, Some, slice_get, refl}
 use Rattle.std.proofs.Common.{arith, sym, subst, ◌∙◌}
 use Rattle.fof_terms.specs.declared.form.Form.{Form, Not, Or, Imp, Iff}
 use Rattle.fof_terms.specs.Lift.{lift_reach}
@@ -13,15 +13,27 @@ use Rattle.derive_kit.specs.Steps.{Between, roomier, same_shows}
 use Rattle.derive_kit.specs.Connectives.{sides, sides_back}
 use Rattle.derive_kit.specs.Links.{kind_of, arm_tree, Arm, PartsFrom, parts_more}
 use Rattle.derive_kit.specs.Norms.{norm_of_quantifier, sides_small, iff_small}
+use Rattle.std.proofs.lemmas.List.{map-append}
+use Rattle.derive_kit.specs.Places.{take_more}
 use Rattle.derive_kit.specs.Placed.{IsPlaced, quantifier_depth, member_depth, placed_imp, placed_iff, norm_reach}
 
 -- between the formula, or under minus its negation, and its normal form
 abbrev pub IsStep : Bool → Bool → Form → Proof → Type 0
 IsStep g forth form made = Between forth (binder_depth form) made (signed g form) (norm_of g form)
 
+-- the members' proofs
+abbrev pub MemberSteps : Bool → Bool → List Form → List Proof → Type 0
+MemberSteps g forth = PartsFrom (λ k a p. IsStep g forth a p) 0
+
 module _ (g forth : Bool) (form : Form) (made : Proof) where
   pub normal_done : (f : Form) → g ≡ true → norm_of true form ≡ form → made ≡ ImpI f (Hyp 0) → f ≡ form → IsStep g forth form made
   normal_done f e same is ef = rw (e, same, is, ef) (same_shows forth (binder_depth form) form)
+
+  pub norm_done : (x b : Form) → form ≡ b → x ≡ norm_of g b → x ≡ norm_of g form
+  norm_done x b is e = rw is e
+
+  pub normal_norm : (x f : Form) → g ≡ true → norm_of true form ≡ form → x ≡ f → f ≡ form → x ≡ norm_of g form
+  normal_norm x f e same ex ef = rw (e, same, ex, ef) refl
 
   pub literal_done : norm_of g form ≡ signed g form → Between forth (binder_depth form) made (signed g form) (signed g form) → IsStep g forth form made
   literal_done e l = rw e l
@@ -144,3 +156,11 @@ part_more conj g forth ms ns ps k a q p lt at is en ep l before =
     let ep' : p ≡ arm_tree conj g forth ms (map (norm_of g) ms) k a q = rw en at ep in
     let arm : Arm conj g forth n ms k a p = (at, (q, ep', l')) in
     parts_more (Arm conj g forth n ms) ms ps p k a lt before (subst (λ b. Arm conj g forth n ms k b p) is arm)
+
+pub norms_more : (g : Bool) (ms ns more : List Form) (k : ℕ) (a x y : Form) → slice_get ms k ≡ Some a → more ≡ ns ++ y ∷ [] → y ≡ x → x ≡ norm_of g a → ns ≡ map (norm_of g) (take k ms) → more ≡ map (norm_of g) (take (k + 1) ms)
+norms_more g ms ns more k a x y at em ey ex en = rw (em, ey, ex, en, take_more ms k a at, map-append (norm_of g) (take k ms) (a ∷ [])) refl
+
+pub steps_more : (g forth : Bool) (ms : List Form) (ps more : List Proof) (k : ℕ) (a : Form) (p q : Proof) → k < length ms → a ≡ get_or ms k a → more ≡ ps ++ q ∷ [] → q ≡ p → IsStep g forth a p → MemberSteps g forth (take k ms) ps
+    → MemberSteps g forth (take (k + 1) ms) more
+steps_more g forth ms ps more k a p q lt is em ep step before =
+    rw (em, ep) (parts_more (λ i b r. IsStep g forth b r) ms ps p k a lt before (subst (λ b. IsStep g forth b p) is step))

@@ -65,7 +65,7 @@ ended_shows kind forth n flat k a e is = rw (joined_flat-ended kind flat (any_at
 pub alone_shows : (kind forth : Bool) (n : ℕ) (flat : List Form) (a : Form) → list_any (ends kind) flat ≡ false → flat ≡ a ∷ [] → Between forth n (alone_tree kind forth a) (node kind flat) (joined_flat kind flat)
 alone_shows kind forth n flat a e is = rw (joined_flat-alone kind flat e) (rw is (alone_flat kind forth n a))
 
-several : (kind : Bool) (flat : List Form) → (length flat ≡ 1 → ⊥) → alone kind flat ≡ node kind flat
+pub several : (kind : Bool) (flat : List Form) → (length flat ≡ 1 → ⊥) → alone kind flat ≡ node kind flat
 several kind [] other = refl
 several kind (a ∷ []) other = absurd (other refl)
 several kind (a ∷ b ∷ as_) other = refl

@@ -10,7 +10,7 @@ ghost use Rattle.derive_kit.specs.Bound.{at_variable, by_variable, bound_tree, d
 
 use crate::links::Way;
 use crate::nodes::{Part, all_e, all_i, ex_e, ex_i, hyp, imp_e, inhabit, not_e, not_i, raa};
-use crate::steps::{Whole, copy, denied, signed, then, under};
+use crate::steps::{Normed, Whole, copy, denied, signed, then, under};
 use fof_terms::{Form, SortId, Term, has_variable, instantiate, lift};
 use std::alloc::Global;
 use tptp_base::{Boxed, List, Memory};
@@ -207,32 +207,42 @@ fn dropped(
     under(alloc, copy(alloc, freed)?, whole)
 }
 
-// Between a quantified formula, or under minus its negation, and its normal form, by the part, which is between the body
-// and its normal form.
+// The normal form of a quantified formula, or under minus of its negation, with the proof between them, by that of the
+// body, which is given with its normal form.
 pub(crate) fn quantified_step(
     alloc: Global,
     way: Way,
     sort: SortId,
     body: &Form,
-    norm: &Form,
+    norm: Whole,
     part: Part,
-) -> Result<Part, Memory>
+) -> Result<Normed, Memory>
     requires body { lift_reach 1 1 body.now < 2 ^ 32 }
-    requires norm { lift_reach 1 1 norm.now < 2 ^ 32 }
-    requires depth { binder_depth norm.now < 2 ^ 32 - 1 }
-    ensures { IfOk result (λ made. (n : ℕ) → binder_depth norm.now ≤ binder_depth body.now → Between way.forth n part (signed_of way.positive body.now) norm.now
-        → Between way.forth (n + 1) made (signed_of way.positive (quantifier_of way.conjunction sort body.now)) (quantified (kind_of way.conjunction way.positive) sort norm.now)) }
+    requires norm { lift_reach 1 1 norm < 2 ^ 32 }
+    requires depth { binder_depth norm < 2 ^ 32 - 1 }
+    ensures norm { IfOk result (λ made. made.norm ≡ quantified (kind_of way.conjunction way.positive) sort norm) }
+    ensures part { IfOk result (λ made. (n : ℕ) → binder_depth norm ≤ binder_depth body.now → Between way.forth n part (signed_of way.positive body.now) norm
+        → Between way.forth (n + 1) made.part (signed_of way.positive (quantifier_of way.conjunction sort body.now)) (quantified (kind_of way.conjunction way.positive) sort norm)) }
 {
-    let linked = bound(alloc, way, sort, body, norm, part)?;
-    if has_variable(norm, 0) {
-        return Ok(linked);
+    let linked = bound(alloc, way, sort, body, norm.get(), part)?;
+    if has_variable(norm.get(), 0) {
+        let norm = quantifier(alloc, way.kind(), sort, norm.get())?;
+        return Ok(Normed { norm, part: linked });
     }
-    let freed = Boxed::new(alloc, instantiate(alloc, norm, &Term::Var(0))?)?;
-    let last = dropped(alloc, way.kind(), way.forth, sort, norm, freed.get())?;
+    let freed = Boxed::new(alloc, instantiate(alloc, norm.get(), &Term::Var(0))?)?;
+    let last = dropped(alloc, way.kind(), way.forth, sort, norm.get(), freed.get())?;
     let first = signed(
         alloc,
         way.positive,
         quantifier(alloc, way.conjunction, sort, body)?,
     )?;
-    then(alloc, way.forth, first, freed, linked, last)
+    let part = then(
+        alloc,
+        way.forth,
+        first,
+        copy(alloc, freed.get())?,
+        linked,
+        last,
+    )?;
+    Ok(Normed { norm: freed, part })
 }

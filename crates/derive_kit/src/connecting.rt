@@ -11,27 +11,21 @@ use crate::connectives::{both_sides, iff_sides, imp_sides, sides, sides_back, tw
 use crate::joins::{flatten, join_step};
 use crate::links::{Way, arm, link, toward};
 use crate::nodes::Part;
-use crate::steps::{Whole, between_denied, copy, denied, node, same, signed, then, twice_denied};
-use clause_form::{join_flat, norm_all, norm_signed};
-use fof_terms::{Form, equal};
+use crate::steps::{
+    Normed, Whole, between_denied, copy, denied, node, signed, then, twice_denied, unchanged,
+};
+use clause_form::{join_flat, norm_signed};
+use fof_terms::Form;
 use kernel::Proof;
 use std::alloc::Global;
 use tptp_base::{Boxed, List, Memory};
 
-// Whether the formula is its own normal form.
-pub(crate) fn is_normal(alloc: Global, form: &Form) -> Result<bool, Memory>
-    requires { norm_size_of form.now ≤ 100000 }
-    ensures { IfOk result (λ found. found ≡ true → norm_of true form.now ≡ form.now) }
+// An atom, or under minus its negation, as its own normal form.
+pub(crate) fn literal(alloc: Global, form: &Form, positive: bool) -> Result<Normed, Memory>
+    ensures norm { IfOk result (λ made. made.norm ≡ signed_of positive form.now) }
+    ensures part { IfOk result (λ made. (forth : Bool) (n : ℕ) → Between forth n made.part (signed_of positive form.now) (signed_of positive form.now)) }
 {
-    let norm = Boxed::new(alloc, norm_signed(alloc, form, true)?)?;
-    Ok(equal(norm.get(), form))
-}
-
-// From an atom, or under minus its negation, to itself.
-pub(crate) fn literal(alloc: Global, form: &Form, positive: bool) -> Result<Part, Memory>
-    ensures { IfOk result (λ made. (forth : Bool) (n : ℕ) → Between forth n made (signed_of positive form.now) (signed_of positive form.now)) }
-{
-    same(alloc, signed(alloc, positive, copy(alloc, form)?)?)
+    unchanged(alloc, signed(alloc, positive, copy(alloc, form)?)?)
 }
 
 // Between a negation and the normal form of the body, by the part for the body under the other sign.
@@ -40,19 +34,17 @@ pub(crate) fn not_step(
     positive: bool,
     forth: bool,
     body: &Form,
+    norm: &Form,
     part: Part,
 ) -> Result<Part, Memory>
-    requires { norm_size_of body.now ≤ 100000 }
-    ensures { IfOk result (λ made. (n : ℕ) → Between forth n part (signed_of (not positive) body.now) (norm_of (not positive) body.now)
-        → Between forth n made (signed_of positive (Not body.now)) (norm_of (not positive) body.now)) }
+    ensures { IfOk result (λ made. (n : ℕ) → Between forth n part (signed_of (not positive) body.now) norm.now → Between forth n made (signed_of positive (Not body.now)) norm.now) }
 {
     if positive {
         return Ok(part);
     }
     let outer = twice_denied(alloc, forth, body)?;
     let twice = denied(alloc, denied(alloc, copy(alloc, body)?)?)?;
-    let norm = Boxed::new(alloc, norm_signed(alloc, body, !positive)?)?;
-    then(alloc, forth, twice, norm, outer, part)
+    then(alloc, forth, twice, copy(alloc, norm)?, outer, part)
 }
 
 // Between a formula and the normal form of another one's negation, by the part between the formula's negation and the other
@@ -78,23 +70,28 @@ pub(crate) fn denied_step(
     then(alloc, forth, copy(alloc, form)?, norm, outer, inner)
 }
 
-// Between a node, or under minus its negation, and its normal form, by the members' parts.
+// The normal form of a node, or under minus of its negation, with the proof between them, by the members' normal forms and
+// parts.
 pub(crate) fn node_step(
     alloc: Global,
     way: Way,
     forms: &[Form],
+    norms: &[Form],
     parts: List<Proof>,
-) -> Result<Part, Memory>
-    requires { norm_size_of (node_of way.conjunction forms.now) ≤ 100000 }
-    ensures { IfOk result (λ made. (n : ℕ) → Arms way.conjunction way.positive way.forth n forms.now forms.now parts
-        → Between way.forth n made (signed_of way.positive (node_of way.conjunction forms.now)) (norm_of way.positive (node_of way.conjunction forms.now))) }
+) -> Result<Normed, Memory>
+    requires size { norm_size_of (node_of way.conjunction forms.now) ≤ 100000 }
+    requires norms { norms.now ≡ map (norm_of way.positive) forms.now }
+    ensures norm { IfOk result (λ made. made.norm ≡ norm_of way.positive (node_of way.conjunction forms.now)) }
+    ensures part { IfOk result (λ made. (n : ℕ) → Arms way.conjunction way.positive way.forth n forms.now forms.now parts
+        → Between way.forth n made.part (signed_of way.positive (node_of way.conjunction forms.now)) (norm_of way.positive (node_of way.conjunction forms.now))) }
 {
-    let norms = norm_all(alloc, forms, way.positive)?;
-    let linked = link(alloc, way, forms, norms.as_slice(), parts)?;
-    let joined = join_step(alloc, way.kind(), way.forth, norms.as_slice())?;
-    let last = joined_node(alloc, way.kind(), norms.as_slice())?;
+    let linked = link(alloc, way, forms, norms, parts)?;
+    let joined = join_step(alloc, way.kind(), way.forth, norms)?;
+    let norm = joined_node(alloc, way.kind(), norms)?;
     let first = signed(alloc, way.positive, node(alloc, way.conjunction, forms)?)?;
-    then(alloc, way.forth, first, last, linked, joined)
+    let last = copy(alloc, norm.get())?;
+    let part = then(alloc, way.forth, first, last, linked, joined)?;
+    Ok(Normed { norm, part })
 }
 
 // The joined node.
@@ -110,35 +107,66 @@ fn pair_step(
     alloc: Global,
     way: Way,
     forms: &[Form],
-    first: Part,
-    second: Part,
-) -> Result<Part, Memory>
+    first: Normed,
+    second: Normed,
+) -> Result<Normed, Memory>
     requires two { length forms.now ≡ 2 }
     requires size { norm_size_of (node_of way.conjunction forms.now) ≤ 100000 }
-    ensures { IfOk result (λ made. (n : ℕ) (a b : Formula) → forms.now ≡ a ∷ b ∷ [] → Between way.forth n first (signed_of way.positive a) (norm_of way.positive a)
-        → Between way.forth n second (signed_of way.positive b) (norm_of way.positive b)
-        → Between way.forth n made (signed_of way.positive (node_of way.conjunction forms.now)) (norm_of way.positive (node_of way.conjunction forms.now))) }
+    requires norms { first.norm ∷ second.norm ∷ [] ≡ map (norm_of way.positive) forms.now }
+    ensures norm { IfOk result (λ made. made.norm ≡ norm_of way.positive (node_of way.conjunction forms.now)) }
+    ensures part { IfOk result (λ made. (n : ℕ) (a b : Formula) → forms.now ≡ a ∷ b ∷ [] → Between way.forth n first.part (signed_of way.positive a) (norm_of way.positive a)
+        → Between way.forth n second.part (signed_of way.positive b) (norm_of way.positive b)
+        → Between way.forth n made.part (signed_of way.positive (node_of way.conjunction forms.now)) (norm_of way.positive (node_of way.conjunction forms.now))) }
 {
-    let norms = norm_all(alloc, forms, way.positive)?;
-    let one = arm(alloc, way, forms, norms.as_slice(), 0, &forms[0], first)?;
-    let other = arm(alloc, way, forms, norms.as_slice(), 1, &forms[1], second)?;
-    node_step(alloc, way, forms, two(alloc, one, other)?)
+    let norms = two_forms(alloc, first.norm, second.norm)?;
+    let one = arm(
+        alloc,
+        way,
+        forms,
+        norms.as_slice(),
+        0,
+        &forms[0],
+        first.part,
+    )?;
+    let other = arm(
+        alloc,
+        way,
+        forms,
+        norms.as_slice(),
+        1,
+        &forms[1],
+        second.part,
+    )?;
+    node_step(alloc, way, forms, norms.as_slice(), two(alloc, one, other)?)
 }
 
-// Between the disjunction of the sides of an implication and its normal form, by the parts for the sides.
+// Two formulas in a list.
+fn two_forms(alloc: Global, first: Whole, second: Whole) -> Result<List<Form>, Memory>
+    ensures { IfOk result (λ made. made ≡ first ∷ second ∷ []) }
+{
+    let mut made = List::new(alloc);
+    made.push(first.into_inner())?;
+    made.push(second.into_inner())?;
+    Ok(made)
+}
+
+// The normal form of the disjunction of the sides of an implication, with the proof between them, by those for the sides.
 pub(crate) fn sides_step(
     alloc: Global,
     positive: bool,
     forth: bool,
     left: &Form,
     right: &Form,
-    first: Part,
-    second: Part,
-) -> Result<Part, Memory>
-    requires { norm_size_of (Imp left.now right.now) ≤ 100000 }
-    ensures { IfOk result (λ made. (n : ℕ) → Between forth n first (signed_of (not positive) left.now) (norm_of (not positive) left.now)
-        → Between forth n second (signed_of positive right.now) (norm_of positive right.now)
-        → Between forth n made (signed_of positive (Or (sides_of left.now right.now))) (norm_of positive (Or (sides_of left.now right.now)))) }
+    first: Normed,
+    second: Normed,
+) -> Result<Normed, Memory>
+    requires size { norm_size_of (Imp left.now right.now) ≤ 100000 }
+    requires first { first.norm ≡ norm_of (not positive) left.now }
+    requires second { second.norm ≡ norm_of positive right.now }
+    ensures norm { IfOk result (λ made. made.norm ≡ norm_of positive (Or (sides_of left.now right.now))) }
+    ensures part { IfOk result (λ made. (n : ℕ) → Between forth n first.part (signed_of (not positive) left.now) (norm_of (not positive) left.now)
+        → Between forth n second.part (signed_of positive right.now) (norm_of positive right.now)
+        → Between forth n made.part (signed_of positive (Or (sides_of left.now right.now))) (norm_of positive (Or (sides_of left.now right.now)))) }
 {
     let way = Way {
         conjunction: false,
@@ -146,8 +174,9 @@ pub(crate) fn sides_step(
         forth,
     };
     let forms = sides(alloc, left, right)?;
-    let first = not_step(alloc, positive, forth, left, first)?;
-    pair_step(alloc, way, forms.as_slice(), first, second)
+    let Normed { norm, part } = first;
+    let part = not_step(alloc, positive, forth, left, norm.get(), part)?;
+    pair_step(alloc, way, forms.as_slice(), Normed { norm, part }, second)
 }
 
 // The same for the disjunction of the left side and the negated right one.
@@ -157,13 +186,16 @@ pub(crate) fn back_step(
     forth: bool,
     left: &Form,
     right: &Form,
-    first: Part,
-    second: Part,
-) -> Result<Part, Memory>
-    requires { norm_size_of (Imp left.now right.now) ≤ 100000 }
-    ensures { IfOk result (λ made. (n : ℕ) → Between forth n first (signed_of positive left.now) (norm_of positive left.now)
-        → Between forth n second (signed_of (not positive) right.now) (norm_of (not positive) right.now)
-        → Between forth n made (signed_of positive (Or (sides_back_of left.now right.now))) (norm_of positive (Or (sides_back_of left.now right.now)))) }
+    first: Normed,
+    second: Normed,
+) -> Result<Normed, Memory>
+    requires size { norm_size_of (Imp left.now right.now) ≤ 100000 }
+    requires first { first.norm ≡ norm_of positive left.now }
+    requires second { second.norm ≡ norm_of (not positive) right.now }
+    ensures norm { IfOk result (λ made. made.norm ≡ norm_of positive (Or (sides_back_of left.now right.now))) }
+    ensures part { IfOk result (λ made. (n : ℕ) → Between forth n first.part (signed_of positive left.now) (norm_of positive left.now)
+        → Between forth n second.part (signed_of (not positive) right.now) (norm_of (not positive) right.now)
+        → Between forth n made.part (signed_of positive (Or (sides_back_of left.now right.now))) (norm_of positive (Or (sides_back_of left.now right.now)))) }
 {
     let way = Way {
         conjunction: false,
@@ -171,8 +203,9 @@ pub(crate) fn back_step(
         forth,
     };
     let forms = sides_back(alloc, left, right)?;
-    let second = not_step(alloc, positive, forth, right, second)?;
-    pair_step(alloc, way, forms.as_slice(), first, second)
+    let Normed { norm, part } = second;
+    let part = not_step(alloc, positive, forth, right, norm.get(), part)?;
+    pair_step(alloc, way, forms.as_slice(), first, Normed { norm, part })
 }
 
 // Between two formulas, or under minus their negations, by a part between them, or under minus the other way.
@@ -192,20 +225,23 @@ fn under_sign(
     between_denied(alloc, forth, first, last, part)
 }
 
-// Between an implication and its normal form, by the parts for the sides.
+// The normal form of an implication, or under minus of its negation, with the proof between them, by those for the sides.
 pub(crate) fn imp_step(
     alloc: Global,
     positive: bool,
     forth: bool,
     left: &Form,
     right: &Form,
-    first: Part,
-    second: Part,
-) -> Result<Part, Memory>
-    requires { norm_size_of (Imp left.now right.now) ≤ 100000 }
-    ensures { IfOk result (λ made. (n : ℕ) → Between forth n first (signed_of (not positive) left.now) (norm_of (not positive) left.now)
-        → Between forth n second (signed_of positive right.now) (norm_of positive right.now)
-        → Between forth n made (signed_of positive (Imp left.now right.now)) (norm_of positive (Imp left.now right.now))) }
+    first: Normed,
+    second: Normed,
+) -> Result<Normed, Memory>
+    requires size { norm_size_of (Imp left.now right.now) ≤ 100000 }
+    requires first { first.norm ≡ norm_of (not positive) left.now }
+    requires second { second.norm ≡ norm_of positive right.now }
+    ensures norm { IfOk result (λ made. made.norm ≡ norm_of positive (Imp left.now right.now)) }
+    ensures part { IfOk result (λ made. (n : ℕ) → Between forth n first.part (signed_of (not positive) left.now) (norm_of (not positive) left.now)
+        → Between forth n second.part (signed_of positive right.now) (norm_of positive right.now)
+        → Between forth n made.part (signed_of positive (Imp left.now right.now)) (norm_of positive (Imp left.now right.now))) }
 {
     let inner = sides_step(alloc, positive, forth, left, right, first, second)?;
     let turned = imp_sides(alloc, toward(positive, forth), left, right)?;
@@ -215,20 +251,24 @@ pub(crate) fn imp_step(
     by_other(alloc, positive, forth, whole, other, turned, inner)
 }
 
-// Between an equivalence and its normal form, by the parts for the disjunctions of its sides.
+// The normal form of an equivalence, or under minus of its negation, with the proof between them, by those for the
+// disjunctions of its sides.
 pub(crate) fn iff_step(
     alloc: Global,
     positive: bool,
     forth: bool,
     left: &Form,
     right: &Form,
-    first: Part,
-    second: Part,
-) -> Result<Part, Memory>
-    requires { norm_size_of (Iff left.now right.now) ≤ 100000 }
-    ensures { IfOk result (λ made. (n : ℕ) → Between forth n first (signed_of positive (Or (sides_of left.now right.now))) (norm_of positive (Or (sides_of left.now right.now)))
-        → Between forth n second (signed_of positive (Or (sides_back_of left.now right.now))) (norm_of positive (Or (sides_back_of left.now right.now)))
-        → Between forth n made (signed_of positive (Iff left.now right.now)) (norm_of positive (Iff left.now right.now))) }
+    first: Normed,
+    second: Normed,
+) -> Result<Normed, Memory>
+    requires size { norm_size_of (Iff left.now right.now) ≤ 100000 }
+    requires first { first.norm ≡ norm_of positive (Or (sides_of left.now right.now)) }
+    requires second { second.norm ≡ norm_of positive (Or (sides_back_of left.now right.now)) }
+    ensures norm { IfOk result (λ made. made.norm ≡ norm_of positive (Iff left.now right.now)) }
+    ensures part { IfOk result (λ made. (n : ℕ) → Between forth n first.part (signed_of positive (Or (sides_of left.now right.now))) (norm_of positive (Or (sides_of left.now right.now)))
+        → Between forth n second.part (signed_of positive (Or (sides_back_of left.now right.now))) (norm_of positive (Or (sides_back_of left.now right.now)))
+        → Between forth n made.part (signed_of positive (Iff left.now right.now)) (norm_of positive (Iff left.now right.now))) }
 {
     let way = Way {
         conjunction: true,
@@ -243,7 +283,8 @@ pub(crate) fn iff_step(
     by_other(alloc, positive, forth, whole, other, turned, inner)
 }
 
-// Between a formula and its normal form, by a part between it and another formula of the same normal form.
+// The normal form of a formula, with the proof between them, by a part between it and another formula of the same normal
+// form.
 fn by_other(
     alloc: Global,
     positive: bool,
@@ -251,14 +292,17 @@ fn by_other(
     whole: Whole,
     other: Whole,
     turned: Part,
-    inner: Part,
-) -> Result<Part, Memory>
-    requires { norm_size_of other ≤ 100000 }
-    ensures { IfOk result (λ made. (n : ℕ) → norm_of positive other ≡ norm_of positive whole → Between (kind_of positive forth) n turned whole other
-        → Between forth n inner (signed_of positive other) (norm_of positive other) → Between forth n made (signed_of positive whole) (norm_of positive whole)) }
+    inner: Normed,
+) -> Result<Normed, Memory>
+    requires { inner.norm ≡ norm_of positive other }
+    ensures norm { IfOk result (λ made. made.norm ≡ inner.norm) }
+    ensures part { IfOk result (λ made. (n : ℕ) → norm_of positive other ≡ norm_of positive whole → Between (kind_of positive forth) n turned whole other
+        → Between forth n inner.part (signed_of positive other) (norm_of positive other) → Between forth n made.part (signed_of positive whole) (norm_of positive whole)) }
 {
-    let norm = Boxed::new(alloc, norm_signed(alloc, other.get(), positive)?)?;
+    let Normed { norm, part } = inner;
     let first = signed(alloc, positive, copy(alloc, whole.get())?)?;
     let before = under_sign(alloc, positive, forth, whole, other, turned)?;
-    then(alloc, forth, first, norm, before, inner)
+    let last = copy(alloc, norm.get())?;
+    let part = then(alloc, forth, first, last, before, part)?;
+    Ok(Normed { norm, part })
 }

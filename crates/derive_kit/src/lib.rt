@@ -2,6 +2,7 @@
 //! show theirs.
 #![tactic(auto)]
 
+mod arms;
 mod bounds;
 mod builders;
 mod connecting;
@@ -10,6 +11,7 @@ mod effort;
 mod joins;
 mod links;
 mod nodes;
+mod normal;
 mod norms;
 mod paths;
 mod steps;

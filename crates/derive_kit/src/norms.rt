@@ -8,15 +8,17 @@ ghost use Rattle.kernel.specs.Statements.{Statements};
 ghost use Rattle.derive_kit.specs.Placed.{IsPlaced, SortedSomewhere};
 ghost use Rattle.derive_kit.specs.Recursion.{IsStep};
 
+use crate::arms::arms_of;
 use crate::bounds::quantified_step;
 use crate::connecting::{
-    back_step, denied_step, iff_step, imp_step, is_normal, literal, node_step, not_step, sides_step,
+    back_step, denied_step, iff_step, imp_step, literal, node_step, not_step, sides_step,
 };
 use crate::effort::is_shorter_denied;
-use crate::links::{Way, arm};
+use crate::links::Way;
 use crate::nodes::Part;
-use crate::steps::{copy, same};
-use clause_form::{norm_all, norm_signed};
+use crate::normal::is_normal;
+use crate::steps::{Normed, copy, unchanged};
+use clause_form::norm_signed;
 use fof_terms::{Form, SortId, equal};
 use std::alloc::Global;
 use tptp_base::{Boxed, List, Memory};
@@ -55,7 +57,7 @@ fn whole_step(alloc: Global, form: &Form, forth: bool) -> Result<Part, Memory>
             return by_negation(alloc, forth, form, denied.get());
         }
     }
-    between(alloc, form, true, forth)
+    Ok(between(alloc, form, true, forth)?.part)
 }
 
 // Whether the normal form of the first formula's negation is that of the second formula.
@@ -77,21 +79,22 @@ fn by_negation(alloc: Global, forth: bool, form: &Form, denied: &Form) -> Result
     requires same { norm_of false denied.now ≡ norm_of true form.now }
     ensures { IfOk result (λ made. IsStep true forth form.now made) }
 {
-    let part = between(alloc, form, false, !forth)?;
-    let last = between(alloc, denied, false, forth)?;
+    let part = between(alloc, form, false, !forth)?.part;
+    let last = between(alloc, denied, false, forth)?.part;
     denied_step(alloc, forth, form, denied, part, last)
 }
 
-// Between the formula, or under minus its negation, and its normal form.
+// The normal form of the formula, or under minus of its negation, with the proof between them.
 #[cycle(between)]
-fn between(alloc: Global, form: &Form, positive: bool, forth: bool) -> Result<Part, Memory>
+fn between(alloc: Global, form: &Form, positive: bool, forth: bool) -> Result<Normed, Memory>
     requires size { norm_size_of form.now ≤ 100000 }
     requires placed { IsPlaced form.now }
-    ensures { IfOk result (λ made. IsStep positive forth form.now made) }
+    ensures norm { IfOk result (λ made. made.norm ≡ norm_of positive form.now) }
+    ensures part { IfOk result (λ made. IsStep positive forth form.now made.part) }
 {
     if positive {
-        if is_normal(alloc, form)? {
-            return same(alloc, copy(alloc, form)?);
+        if is_normal(form) {
+            return unchanged(alloc, copy(alloc, form)?);
         }
     }
     match form {
@@ -125,13 +128,15 @@ fn between(alloc: Global, form: &Form, positive: bool, forth: bool) -> Result<Pa
 
 // The same of the negation of a formula.
 #[cycle(between)]
-fn of_negation(alloc: Global, positive: bool, forth: bool, body: &Form) -> Result<Part, Memory>
+fn of_negation(alloc: Global, positive: bool, forth: bool, body: &Form) -> Result<Normed, Memory>
     requires size { norm_size_of body.now ≤ 100000 }
     requires placed { IsPlaced body.now }
-    ensures { IfOk result (λ made. IsStep positive forth (Not body.now) made) }
+    ensures norm { IfOk result (λ made. made.norm ≡ norm_of positive (Not body.now)) }
+    ensures part { IfOk result (λ made. IsStep positive forth (Not body.now) made.part) }
 {
-    let part = between(alloc, body, !positive, forth)?;
-    not_step(alloc, positive, forth, body, part)
+    let Normed { norm, part } = between(alloc, body, !positive, forth)?;
+    let part = not_step(alloc, positive, forth, body, norm.get(), part)?;
+    Ok(Normed { norm, part })
 }
 
 // The same of a conjunction, or else of a disjunction.
@@ -142,26 +147,26 @@ fn of_members(
     positive: bool,
     forth: bool,
     forms: &[Form],
-) -> Result<Part, Memory>
+) -> Result<Normed, Memory>
     requires size { norm_size_of (node_of conjunction forms.now) ≤ 100000 }
     requires placed { IsPlaced (node_of conjunction forms.now) }
-    ensures { IfOk result (λ made. IsStep positive forth (node_of conjunction forms.now) made) }
+    ensures norm { IfOk result (λ made. made.norm ≡ norm_of positive (node_of conjunction forms.now)) }
+    ensures part { IfOk result (λ made. IsStep positive forth (node_of conjunction forms.now) made.part) }
 {
     let way = Way {
         conjunction,
         positive,
         forth,
     };
-    let norms = norm_all(alloc, forms, positive)?;
+    let mut norms = List::new(alloc);
     let mut parts = List::new(alloc);
     for number in 0..forms.len() {
-        let form = &forms[number];
-        let part = between(alloc, form, positive, forth)?;
-        let norms = norms.as_slice();
-        let arm = arm(alloc, way, forms, norms, number as u32, form, part)?;
-        parts.push(arm.into_inner())?;
+        let Normed { norm, part } = between(alloc, &forms[number], positive, forth)?;
+        norms.push(norm.into_inner())?;
+        parts.push(part.into_inner())?;
     }
-    node_step(alloc, way, forms, parts)
+    let arms = arms_of(alloc, way, forms, norms.as_slice(), parts)?;
+    node_step(alloc, way, forms, norms.as_slice(), arms)
 }
 
 // The same of a universal quantifier, or else of an existential one.
@@ -173,17 +178,17 @@ fn of_quantifier(
     forth: bool,
     sort: SortId,
     body: &Form,
-) -> Result<Part, Memory>
+) -> Result<Normed, Memory>
     requires size { norm_size_of body.now ≤ 100000 }
     requires placed { IsPlaced (quantifier_of conjunction sort body.now) }
-    ensures { IfOk result (λ made. IsStep positive forth (quantifier_of conjunction sort body.now) made) }
+    ensures norm { IfOk result (λ made. made.norm ≡ norm_of positive (quantifier_of conjunction sort body.now)) }
+    ensures part { IfOk result (λ made. IsStep positive forth (quantifier_of conjunction sort body.now) made.part) }
 {
     let way = Way {
         conjunction,
         positive,
         forth,
     };
-    let part = between(alloc, body, positive, forth)?;
-    let norm = Boxed::new(alloc, norm_signed(alloc, body, positive)?)?;
-    quantified_step(alloc, way, sort, body, norm.get(), part)
+    let Normed { norm, part } = between(alloc, body, positive, forth)?;
+    quantified_step(alloc, way, sort, body, norm, part)
 }

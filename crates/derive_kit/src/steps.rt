@@ -12,6 +12,13 @@ use tptp_base::{Boxed, Memory};
 /// A formula in memory of its own.
 pub type Whole = Boxed<Form>;
 
+/// The normal form of a formula, or under minus of its negation, and a proof between them.
+#[derive(Drop)]
+pub(crate) struct Normed {
+    pub(crate) norm: Whole,
+    pub(crate) part: Part,
+}
+
 // And of the members, or under minus Or.
 pub(crate) fn node(alloc: Global, kind: bool, members: &[Form]) -> Result<Whole, Memory>
     ensures { IfOk result (λ made. made ≡ node_of kind members.now) }
@@ -57,6 +64,15 @@ pub(crate) fn same(alloc: Global, form: Whole) -> Result<Part, Memory>
     ensures { IfOk result (λ node. node ≡ ImpI form (Hyp 0)) }
 {
     under(alloc, form, hyp(alloc, 0)?)
+}
+
+// The formula as its own normal form.
+pub(crate) fn unchanged(alloc: Global, form: Whole) -> Result<Normed, Memory>
+    ensures norm { IfOk result (λ made. made.norm ≡ form) }
+    ensures part { IfOk result (λ made. made.part ≡ ImpI form (Hyp 0)) }
+{
+    let part = same(alloc, copy(alloc, form.get())?)?;
+    Ok(Normed { norm: form, part })
 }
 
 // From the first formula by a middle one to the last, or back.

@@ -1,16 +1,13 @@
 use Rattle.std.proofs.Common.{refl, ◌∙◌}
 use Rattle.derive_kit.specs.Built.{ok_map}
-use Rattle.derive_kit.specs.Norms.{not_plus, not_minus, room}
+use Rattle.derive_kit.specs.Norms.{not_plus, not_minus}
 use Rattle.derive_kit.proofs.connecting.not_step.Goals as goal
 
-pub norm_signed-requires : goal.norm_signed-requires
-norm_signed-requires c = room c.args.body.now c.requires
-
 pub returns-then-positive : goal.returns-then-positive
-returns-then-positive c = λ n l. not_plus c.args.positive c.args.forth n c.args.part c.args.body.now c.if-positive.true l
+returns-then-positive c = λ n l. not_plus c.args.positive c.args.forth n c.args.part c.args.body.now c.args.norm.now c.if-positive.true l
 
 pub returns : goal.returns
 returns c =
     ok_map c.then.result (λ made e n l.
-    not_minus c.args.positive c.args.forth n c.args.part made c.args.body.now c.in_ok-norm.norm c.if-positive.false
-    (e ∙ (rw (c.in_ok-twice.ensures, c.in_ok-denied.ensures, c.in_ok-copy.ensures, c.in_ok-outer.ensures) refl)) (c.in_ok-norm.ensures ∙ c.in_ok-norm_signed.ensures) l) c.then.ensures
+    not_minus c.args.positive c.args.forth n c.args.part made c.args.body.now c.args.norm.now c.if-positive.false
+    (e ∙ (rw (c.in_ok-twice.ensures, c.in_ok-denied.ensures, c.in_ok-copy.ensures, c.in_ok-outer.ensures, c.in_ok-copy-2.ensures) refl)) l) c.then.ensures
