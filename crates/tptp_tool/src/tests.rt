@@ -1,5 +1,6 @@
 mod checking;
 mod naming;
+mod nesting;
 mod parsing;
 mod rewriting;
 mod rules;
