@@ -13,7 +13,7 @@ use Rattle.clause_form.specs.declared.clause.Clause.{Clause}
 use Rattle.clause_form.specs.ClauseLaws.{get_image}
 use Rattle.clause_form.specs.Covers.{lit_apart, lit_image, scope_of, is_sorted_atom, AreSorted}
 use Rattle.clause_form.specs.Images.{image, IsImages}
-use Rattle.unify_terms.specs.declared.goal.Goal.{Goal, All, Any, Same}
+use Rattle.unify_terms.specs.declared.goal.Goal.{Goal}
 use Rattle.unify_terms.specs.declared.pair.Pair.{Pair}
 use Rattle.unify_terms.specs.Goals.{goal_sorted}
 use Rattle.unify_terms.specs.Substitution.{image_at}
@@ -24,13 +24,12 @@ use Rattle.clause_rules.specs.EqFactorSearch.{factor_needs, FoundFactor}
 use Rattle.clause_rules.specs.JointClauses.{IsJoinedOne}
 use Rattle.clause_rules.specs.Settled.{IsFit, Settles, IsSolution}
 use Rattle.clause_rules.specs.Steps.{AreCovered, equation, unequal, instances}
-use Rattle.clause_rules.specs.Ways.{MeetsNeeds, pair_of, cover_ways, cover_needs, goal_of_need, goal_of_needs}
+use Rattle.clause_rules.specs.Ways.{MeetsNeeds, goal_of_needs}
 use Rattle.clause_rules.proofs.Covering.{pair_forth, pair_back, covers_forth, covers_back}
 use Rattle.clause_rules.proofs.Equations.{equation_image, equation_parts, same_sides, map_set}
 use Rattle.clause_rules.proofs.Firsts.{one_at, there_at}
 use Rattle.clause_rules.proofs.JointImages.{sorted_further}
 use Rattle.clause_rules.proofs.NeedSorts.{Fits, Found, AllFit, NeedsFit, alone_fits, covers_fit, all_sorted_fit, goal_fits}
-use Rattle.clause_rules.proofs.ResolutionGoals.{covered_goals}
 use Rattle.clause_rules.proofs.ResolvedAt.{parents_fit}
 use Rattle.clause_rules.proofs.Settling.{settled_by, settles_like}
 

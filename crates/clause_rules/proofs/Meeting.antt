@@ -54,7 +54,7 @@ then_is (Some r) next pairs rest e =
     let found = with_is r.0 (next r.1) pairs rest e in
     (r.0, r.1, found.0, refl, found.1, found.2)
 
-meets_each : (images : List Term) (needs : List (List (List Pair))) (choices : List ℕ) (pairs : List Pair) (rest : List ℕ) → each_of (map asked (map goal_of_need needs)) choices ≡ Some (pairs, rest) → Unifies images pairs → MeetsNeeds images needs
+pub meets_each : (images : List Term) (needs : List (List (List Pair))) (choices : List ℕ) (pairs : List Pair) (rest : List ℕ) → each_of (map asked (map goal_of_need needs)) choices ≡ Some (pairs, rest) → Unifies images pairs → MeetsNeeds images needs
 meets_each images [] choices pairs rest e u = tt
 meets_each images (need ∷ needs) choices pairs rest e u =
     let parts = then_is (asked (goal_of_need need) choices) (each_of (map asked (map goal_of_need needs))) pairs rest e in

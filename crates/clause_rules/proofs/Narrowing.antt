@@ -1,5 +1,5 @@
 -- What narrower needs are met by, and that the ways to one target alone narrow those to all.
-use Rattle.std.specs.Prelude.{ℕ, ◌≡◌, ◌&&◌, Bool, true, List, [], ◌∷◌, ◌++◌, map, flat_map, Some, None, Option, slice_get, refl}
+use Rattle.std.specs.Prelude.{ℕ, ◌≡◌, true, List, [], ◌∷◌, ◌++◌, map, flat_map, Some, None, Option, slice_get, refl}
 use Rattle.std.specs.List.{list_all}
 use Rattle.std.proofs.Common.{ap, sym, subst, ◌∙◌, zero, suc}
 use Rattle.std.proofs.lemmas.List.{map-append}
@@ -12,12 +12,14 @@ use Rattle.clause_form.specs.declared.clause.Lit.{Lit}
 use Rattle.unify_terms.specs.declared.goal.Goal.{Goal, All}
 use Rattle.unify_terms.specs.declared.pair.Pair.{Pair}
 use Rattle.unify_terms.specs.declared.scope.Scope.{Scope}
-use Rattle.unify_terms.specs.Goals.{pair_sorted, goal_sorted, goal_sorted-All, asked-All}
+use Rattle.unify_terms.specs.Goals.{pair_sorted, goal_sorted, goal_sorted-All, asked-All, MeetsGoal, SolvesGoal}
+use Rattle.unify_terms.specs.Substitution.{image_at}
 use Rattle.clause_rules.specs.Narrow.{Narrows, NarrowEach, IsNarrow, AreNarrow}
+use Rattle.clause_rules.specs.Screens.{NeverTogether}
 use Rattle.clause_rules.specs.Settled.{IsGuessed, IsSolution}
 use Rattle.clause_rules.specs.Ways.{MeetsNeeds, goal_of_need, goal_of_needs, lit_ways, absurd_ways, cover_ways, cover_needs}
-use Rattle.clause_rules.proofs.Covering.{has_first, targets_back}
-use Rattle.clause_rules.proofs.Meeting.{met_each, solved_needs}
+use Rattle.clause_rules.proofs.Covering.{covers_forth, has_first, targets_back}
+use Rattle.clause_rules.proofs.Meeting.{meets_each, met_each, solved_needs}
 use Rattle.clause_rules.proofs.NeedSorts.{NeedFits, NeedsFit, goal_fits, needs_sorted}
 use Rattle.clause_rules.proofs.ResolutionGoals.{covered_goals}
 
@@ -109,3 +111,13 @@ covers_as targets lits xs ys e f = ap (λ ks. goal_of_needs (cover_needs ks ys))
 
 pub beside_as : (need : List (List Pair)) (targets lits xs ys : List Lit) → xs ≡ targets → ys ≡ lits → goal_of_needs (need ∷ cover_needs xs ys) ≡ goal_of_needs (need ∷ cover_needs targets lits)
 beside_as need targets lits xs ys e f = ap (λ ks. goal_of_needs (need ∷ cover_needs ks ys)) e ∙ ap (λ ks. goal_of_needs (need ∷ cover_needs targets ks)) f
+
+-- Where the literals never become the targets, there is no solution.
+goal_meets : (images : List Term) (needs : List (List (List Pair))) (choices : List ℕ) → MeetsGoal images (goal_of_needs needs) choices → MeetsNeeds images needs
+goal_meets images needs choices m = meets_each images needs choices m.pairs [] (sym (ap (λ w. w choices) (asked-All (map goal_of_need needs))) ∙ m.all) m.unifies
+
+pub none_covers : (v : Vocabulary) (scope : Scope) (targets lits : List Lit) → NeverTogether targets lits → SolvesGoal v scope (goal_of_needs (cover_needs targets lits)) None
+none_covers v scope targets lits never = λ target images sub choices m. never (image_at images) (covers_forth images targets lits (goal_meets images (cover_needs targets lits) choices m))
+
+pub none_beside : (v : Vocabulary) (scope : Scope) (need : List (List Pair)) (targets lits : List Lit) → NeverTogether targets lits → SolvesGoal v scope (goal_of_needs (need ∷ cover_needs targets lits)) None
+none_beside v scope need targets lits never = λ target images sub choices m. never (image_at images) (covers_forth images targets lits (goal_meets images (need ∷ cover_needs targets lits) choices m).1)

@@ -1,5 +1,5 @@
 -- The search for a paramodulation, as code makes it.
-use Rattle.std.specs.Prelude.{ℕ, Bool, true, false, ◌≡◌, ◌↔◌, ◌<◌, ◌≤◌, IsTrue, List, [], ◌∷◌, ◌++◌, length, map, remove, reverse, Option, Some, None, Result, IfOk, slice_get, slice_set, refl}
+use Rattle.std.specs.Prelude.{ℕ, Bool, true, false, ◌≡◌, ◌↔◌, ◌<◌, ◌≤◌, IsTrue, List, ◌++◌, length, remove, reverse, Option, Some, None, Result, IfOk, slice_get, slice_set, refl}
 use Rattle.std.specs.Option.{option_eq}
 use Rattle.std.proofs.Common.{ap, sym, subst, ◌∙◌, arith, eqb, inl, inr}
 use Rattle.std.proofs.lemmas.Bool.Decides.{eqb_tells}

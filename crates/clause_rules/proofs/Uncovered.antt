@@ -9,7 +9,7 @@ use Rattle.clause_form.specs.declared.clause.Lit.{Lit}
 use Rattle.clause_form.specs.ClauseLaws.{get_image}
 use Rattle.clause_form.specs.Covers.{at_terms, lit_image, IsSame, Denies, IsCovered}
 use Rattle.clause_form.specs.Images.{image}
-use Rattle.clause_rules.specs.Screens.{Stays, NeverEqual, NeverSame, NeverBecomes, NeverClash, NeverAbsurd, NeverAll, NeverCovered, NeverStays, NeverPivot, NeverOthers}
+use Rattle.clause_rules.specs.Screens.{Stays, NeverEqual, NeverSame, NeverBecomes, NeverClash, NeverAbsurd, NeverAll, NeverCovered, NeverStays, NeverPivot, NeverOthers, NeverAmong, NeverTogether}
 use Rattle.clause_rules.proofs.Firsts.{one_at}
 use Rattle.clause_rules.proofs.LitImages.{image_itself, same_maps}
 
@@ -141,3 +141,28 @@ never_others line lits i m k other there never = λ s all. never s (all m (lit_i
 
 pub never_all : (line lits : List Lit) (m : ℕ) (k : Lit) → slice_get lits m ≡ Some k → NeverCovered line k → NeverAll line lits
 never_all line lits m k there never = λ s all. never s (all m (lit_image s k) (get_image s lits m k there))
+
+-- the literal becomes none of the targets before that number
+abbrev pub NotYet : List Lit → Lit → ℕ → Type 0
+NotYet targets k n = (m : ℕ) → m < n → (l : Lit) → slice_get targets m ≡ Some l → NeverBecomes false k l
+
+pub not_yet_more : (targets : List Lit) (k : Lit) (n : ℕ) (x : Lit) → slice_get targets n ≡ Some x → NeverBecomes false k x → NotYet targets k n → NotYet targets k (n + 1)
+not_yet_more targets k n x at never before = below_more _ _ before (λ l e. subst (NeverBecomes false k) (one_at targets n x l at e) never)
+
+imaged : (s : ℕ → Term) (lits : List Lit) (i : ℕ) (l : Lit) → slice_get (map (lit_image s) lits) i ≡ Some l → (k : Lit) × (slice_get lits i ≡ Some k) × (lit_image s k ≡ l)
+imaged s [] i l e = cc
+imaged s (k ∷ lits) zero l e = (k, refl, cc)
+imaged s (k ∷ lits) (suc i) l e = imaged s lits i l e
+
+pub never_among : (targets : List Lit) (k : Lit) (n : ℕ) → length targets ≤ n → NotYet targets k n → NeverAbsurd k → NeverAmong targets k
+never_among targets k n end before never = λ s h.
+    elim h [
+      | inl w ↦
+          let found = imaged s targets w.0 w.1 w.2 in
+          let lt = slice_get_within targets w.0 found.0 found.1 in
+          before w.0 (omega arith) found.0 found.1 s s (no_line s) (subst (λ (x : Lit). IsSame (lit_image s k) x) (sym found.2) w.3)
+      | inr a ↦ never s a
+    ]
+
+pub never_together : (targets lits : List Lit) (m : ℕ) (k : Lit) → slice_get lits m ≡ Some k → NeverAmong targets k → NeverTogether targets lits
+never_together targets lits m k there never = λ s all. never s (all m (lit_image s k) (get_image s lits m k there))

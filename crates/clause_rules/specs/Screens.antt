@@ -60,6 +60,14 @@ NeverOthers line lits i = (s : ℕ → Term) → ((m : ℕ) (k : Lit) → m ≢ 
 abbrev pub NeverAll : List Lit → List Lit → Type 0
 NeverAll line lits = (s : ℕ → Term) → AreCovered line (instances s lits) → ⊥
 
+-- no instance of the literal is one of those of the targets under the same substitution, or false by its form
+abbrev pub NeverAmong : List Lit → Lit → Type 0
+NeverAmong targets k = (s : ℕ → Term) → IsCovered (instances s targets) (lit_image s k) → ⊥
+
+-- so it is with one of the literals under each substitution
+abbrev pub NeverTogether : List Lit → List Lit → Type 0
+NeverTogether targets lits = (s : ℕ → Term) → AreCovered (instances s targets) (instances s lits) → ⊥
+
 -- no substitution covers by the line all literals of the clause but that of this number
 abbrev pub NeverBeside : Vocabulary → Clause → Clause → ℕ → Type 0
 NeverBeside v line c i = (more : List ℕ) (s : ℕ → Term) → CoversBy v (scope_of c) (remove c.lits i) line more s → ⊥

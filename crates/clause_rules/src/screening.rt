@@ -1,6 +1,6 @@
 //! Cheap tests of literals: where one answers no, no substitution covers the literals that are to be covered.
 ghost use Rattle.std.specs.Prelude.{◌≡◌, ◌<◌, false, length};
-ghost use Rattle.clause_rules.specs.Screens.{NeverAbsurd, NeverAll, NeverBecomes, NeverClash, NeverCovered, NeverOthers, NeverPivot, NeverStays};
+ghost use Rattle.clause_rules.specs.Screens.{NeverAbsurd, NeverAll, NeverAmong, NeverBecomes, NeverClash, NeverCovered, NeverOthers, NeverPivot, NeverStays, NeverTogether};
 
 use crate::matching::{may_be_same, may_meet};
 use clause_form::{AtomOf, Lit};
@@ -101,4 +101,28 @@ pub fn may_all_be_covered(line: &[Lit], lits: &[Lit]) -> bool
         }
     }
     true
+}
+
+/// Whether instances of all the literals may be among those of the targets, or false by their form.
+pub fn may_all_become(targets: &[Lit], lits: &[Lit]) -> bool
+    ensures { result ≡ false → NeverTogether targets.now lits.now }
+{
+    for at in 0..lits.len() {
+        if !may_become_one(targets, &lits[at]) {
+            return false;
+        }
+    }
+    true
+}
+
+// Whether an instance of the literal may be one of those of the targets, or false by its form.
+fn may_become_one(targets: &[Lit], lit: &Lit) -> bool
+    ensures { result ≡ false → NeverAmong targets.now lit.now }
+{
+    for target in targets {
+        if may_become(lit, target, false) {
+            return true;
+        }
+    }
+    may_be_absurd(lit)
 }

@@ -8,6 +8,7 @@ ghost use Rattle.clause_rules.specs.Ways.{cover_needs, goal_of_need, goal_of_nee
 
 use crate::chances::may_be_met;
 use crate::narrow::all_narrowed;
+use crate::screening::may_all_become;
 use crate::ways::{all_covered, alone, one_pair};
 use clause_form::{Clause, Lit, Parent, as_clause};
 use fof_terms::{Signature, Term};
@@ -36,7 +37,7 @@ pub fn settle(
 }
 
 /// A substitution that covers the literals by the targets; None exactly where there is none. The goals of a guess come
-/// first.
+/// first, and then a cheap test.
 pub fn settle_covers(
     alloc: Global,
     sig: &Signature,
@@ -51,6 +52,9 @@ pub fn settle_covers(
     let guessed = settle_narrowed(alloc, sig, scope, lits, targets)?;
     if let Some(subst) = guessed {
         return Ok(Some(subst));
+    }
+    if !may_all_become(targets, lits) {
+        return Ok(None);
     }
     let goal = Goal::All(all_covered(alloc, lits, targets)?);
     settle(alloc, sig, scope, &goal)
@@ -91,6 +95,9 @@ pub fn settle_beside(
     let guessed = narrowed_beside(alloc, sig, scope, left, right, lits, targets)?;
     if let Some(subst) = guessed {
         return Ok(Some(subst));
+    }
+    if !may_all_become(targets, lits) {
+        return Ok(None);
     }
     let goals = all_covered(alloc, lits, targets)?;
     let goal = equal_and(alloc, left, right, goals)?;

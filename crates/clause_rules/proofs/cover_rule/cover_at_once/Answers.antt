@@ -1,4 +1,4 @@
-use Rattle.std.proofs.Common.{Some, sym, ◌∙◌}
+use Rattle.std.proofs.Common.{sym, ◌∙◌}
 use Rattle.clause_rules.proofs.CoverEnds.{norm_is_roomy, path_fits, shown_at_once}
 use Rattle.clause_rules.proofs.cover_rule.cover_at_once.Goals as goal
 

@@ -1,7 +1,7 @@
 use Rattle.std.proofs.Common.{below_more, subst}
 use Rattle.clause_rules.specs.Screens.{NeverPivot}
-use Rattle.clause_rules.proofs.Firsts.{ok_map, there_at}
-use Rattle.clause_rules.proofs.ResolutionLoops.{found_in_slot, no_pivot, none_in_slot, none_with}
+use Rattle.clause_rules.proofs.Firsts.{there_at}
+use Rattle.clause_rules.proofs.ResolutionLoops.{no_pivot, none_in_slot, none_with}
 use Rattle.clause_rules.proofs.resolution_rule.resolve_pivot.Goals as goal
 
 pub returns-then-not-may_be_pivot : goal.returns-then-not-may_be_pivot

@@ -2,7 +2,7 @@ use Rattle.std.proofs.Common.{ap, subst, ◌∙◌}
 use Rattle.unify_terms.specs.Goals.{goal_sorted}
 use Rattle.clause_rules.specs.Settled.{IsSolution}
 use Rattle.clause_rules.proofs.Firsts.{ok_map}
-use Rattle.clause_rules.proofs.Narrowing.{all_asked}
+use Rattle.clause_rules.proofs.Narrowing.{all_asked, none_covers}
 use Rattle.clause_rules.proofs.search.settle_covers.Goals as goal
 
 pub returns-in-Some : goal.returns-in-Some
@@ -13,3 +13,6 @@ settle-requires-clause-sorted c = ap (goal_sorted c.args.sig.now c.args.scope.no
 
 pub returns : goal.returns
 returns c = ok_map c.settle.result (λ found h. subst (λ g. IsSolution c.args.sig.now c.args.scope.now g found) (all_asked c.args.targets.now c.args.lits.now c.in_ok-all_covered.field-0 c.in_ok-all_covered.ensures) h) c.settle.ensures
+
+pub returns-then-not-may_all_become : goal.returns-then-not-may_all_become
+returns-then-not-may_all_become c = none_covers c.args.sig.now c.args.scope.now c.args.targets.now c.args.lits.now (c.may_all_become.ensures c.if-not-may_all_become.true)
