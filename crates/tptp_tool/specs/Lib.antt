@@ -7,6 +7,7 @@ pub mod Ending
 pub mod Ends
 pub mod Formatted
 pub mod GoodRuns
+pub mod LogName
 pub mod Options
 pub mod OtherFaults
 pub mod Outcome

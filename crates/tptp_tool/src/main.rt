@@ -1,6 +1,11 @@
 //! The program `tptp`.
 #![tactic(auto)]
 
+ghost use Rattle.std.specs.Prelude.{◌≡◌, None};
+ghost use Rattle.std.specs.Option.{option_copied};
+ghost use Rattle.tptp_tool.specs.LogName as spec;
+ghost use Rattle.tptp_tool.specs.Words.{texts, task_of, Request, IsForm, HaveNoForm};
+
 mod check;
 mod counts;
 mod denoted;
@@ -63,9 +68,23 @@ fn words_of<R: Env + AllocGlobal>(rt: &R) -> io::Result<Vec<String>> {
     Ok(words)
 }
 
-// The name of the log, if there is one.
-fn log_name(words: &[String]) -> Option<&str> {
-    match read_words(words)?.job {
+// The name of the log, if the words ask for one.
+#[tactic(auto, using(crate::proofs::Requests::one_task))]
+fn log_name(words: &[String]) -> Option<&str>
+    ensures asked { (request : Request) → IsForm (texts words.now) request → option_copied result ≡ spec.log_of request.task }
+    ensures nothing { HaveNoForm (texts words.now) → result ≡ None }
+{
+    match read_words(words) {
+        Some(command) => log_of(command.job),
+        None => None,
+    }
+}
+
+// The name of the log that is to be written, if the job names one.
+fn log_of(job: Job<'_>) -> Option<&str>
+    ensures { option_copied result ≡ spec.log_of (task_of job.entry) }
+{
+    match job {
         Job::Verify(_, _, log) => log,
         Job::Format(_) | Job::Parse(_) | Job::Check(_, _) => None,
     }
