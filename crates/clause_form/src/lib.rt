@@ -25,7 +25,7 @@ pub use laws::{
     clauses_are_counted, clauses_by_paths, cover_of_instance, empty_instance, image_of_image,
     instance_of_trivial, norm_no_larger, view_of_closed,
 };
-pub use normal::{MAX_NORM_SIZE, norm, norm_all, norm_signed};
+pub use normal::{MAX_NORM_SIZE, norm, norm_signed};
 pub use path::{Parent, Path};
 pub use reaching::{clause_of_path, clauses_of_paths};
 pub use sameness::{are_complementary, denies, is_trivial, same_atoms};

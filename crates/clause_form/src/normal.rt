@@ -100,15 +100,3 @@ fn norm_joined(alloc: Global, forms: &[Form], positive: bool, kind: bool) -> Res
     }
     Ok(join_flat(alloc, kind, flat))
 }
-
-/// The normal forms of the formulas.
-pub fn norm_all(alloc: Global, forms: &[Form], positive: bool) -> Result<List<Form>, Memory>
-    requires { greatest (map binder_depth forms.now) < 2 ^ 32 }
-    ensures { IfOk result (λ norms. norms ≡ map (norm_of positive) forms.now) }
-{
-    let mut norms = List::new(alloc);
-    for form in forms {
-        norms.push(norm_signed(alloc, form, positive)?)?;
-    }
-    Ok(norms)
-}

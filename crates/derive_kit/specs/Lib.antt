@@ -3,6 +3,7 @@ pub mod Bound
 pub mod Built
 pub mod Connectives
 pub mod Derived
+pub mod Fitting
 pub mod Gathered
 pub mod Instances
 pub mod Joining

@@ -80,12 +80,6 @@ bound_done conj g forth made part s a norm n1 en e l f =
 pub small_not : (form a b : Form) → form ≡ Not a → b ≡ a → norm_size_of form ≤ 100000 → norm_size_of b ≤ 100000
 small_not form a b is e le = rw e (rw (is, norm_size_of-Not) at le)
 
-pub small_imp : (form l r : Form) → form ≡ Imp l r → norm_size_of form ≤ 100000 → norm_size_of (Imp l r) ≤ 100000
-small_imp form l r is le = rw is at le
-
-pub small_iff : (form l r : Form) → form ≡ Iff l r → norm_size_of form ≤ 100000 → norm_size_of (Iff l r) ≤ 100000
-small_iff form l r is le = rw is at le
-
 pub small_body : (conj : Bool) (s : ℕ) (a : Form) → norm_size_of (quantifier conj s a) ≤ 100000 → norm_size_of a ≤ 100000
 small_body true s a le = let same = norm_size_of-All s a in omega arith
 small_body false s a le = let same = norm_size_of-Ex s a in omega arith

@@ -123,7 +123,7 @@ even_more [] (a ∷ as_) cs e = cc
 even_more (p ∷ ps) [] cs e = cc
 even_more (p ∷ ps) (a ∷ as_) cs e = let parts = some_more (reached p a) (each_reaches (map reached ps) as_) cs e in ap suc (even_more ps as_ parts.1 parts.3)
 
-reaches_at : (ps : List Path) (as_ : List Form) (cs : List Clause) (i : ℕ) (p : Path) (a : Form) (c : Clause) → each_reaches (map reached ps) as_ ≡ Some cs → i < length as_ → p ≡ get_or ps i p → a ≡ get_or as_ i a → c ≡ get_or cs i c → reached p a ≡ Some c
+pub reaches_at : (ps : List Path) (as_ : List Form) (cs : List Clause) (i : ℕ) (p : Path) (a : Form) (c : Clause) → each_reaches (map reached ps) as_ ≡ Some cs → i < length as_ → p ≡ get_or ps i p → a ≡ get_or as_ i a → c ≡ get_or cs i c → reached p a ≡ Some c
 reaches_at [] [] cs i p a c e lt ip ia ic = absurd (omega arith)
 reaches_at [] (b ∷ as_) cs i p a c e lt ip ia ic = cc
 reaches_at (q ∷ ps) [] cs i p a c e lt ip ia ic = absurd (omega arith)

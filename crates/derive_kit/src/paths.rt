@@ -10,6 +10,7 @@ ghost use Rattle.clause_form.specs.Reached.{Suits};
 ghost use Rattle.clause_form.specs.Sizes.{norm_size_of};
 ghost use Rattle.kernel.specs.Proves.{Proves};
 ghost use Rattle.kernel.specs.Statements.{Statements};
+ghost use Rattle.derive_kit.specs.Fitting.{Fits};
 ghost use Rattle.derive_kit.specs.Links.{PartsFrom};
 ghost use Rattle.derive_kit.specs.Placed.{SortedSomewhere};
 ghost use Rattle.derive_kit.specs.Steps.{Between};
@@ -41,6 +42,7 @@ pub fn path_proof(alloc: Global, norm: &Form, path: &Path) -> Result<Part, Memor
 fn along(alloc: Global, form: &Form, path: &Path) -> Result<Part, Memory>
     requires size { norm_size_of form.now ≤ 100000 }
     requires room { IsRoomy form.now }
+    requires fits { Fits path.now form.now }
     ensures { IfOk result (λ made. IsAlong path.now form.now made) }
 {
     match path {
@@ -49,24 +51,21 @@ fn along(alloc: Global, form: &Form, path: &Path) -> Result<Part, Memory>
             Form::And(members) => {
                 let place = *number as usize;
                 let members = members.as_slice();
-                if place >= members.len() {
-                    return Err(Memory);
-                }
                 let part = along(alloc, &members[place], rest.get())?;
                 pick(alloc, members, *number, part)
             }
-            _ => Err(Memory),
+            _ => unreachable!(),
         },
         Path::Each(ways) => match form {
             Form::Or(members) => each(alloc, members.as_slice(), ways.as_slice()),
-            _ => Err(Memory),
+            _ => unreachable!(),
         },
         Path::Under(rest) => match form {
             Form::All(sort, body) => {
                 let part = along(alloc, body.get(), rest.get())?;
                 below(alloc, *sort, body.get(), part)
             }
-            _ => Err(Memory),
+            _ => unreachable!(),
         },
     }
 }
@@ -76,10 +75,11 @@ fn along(alloc: Global, form: &Form, path: &Path) -> Result<Part, Memory>
 fn each(alloc: Global, forms: &[Form], paths: &[Path]) -> Result<Part, Memory>
     requires size { norm_size_of (Or forms.now) ≤ 100000 }
     requires room { IsRoomy (Or forms.now) }
+    requires fits { Fits (Each paths.now) (Or forms.now) }
     ensures { IfOk result (λ made. IsAlong (Each paths.now) (Or forms.now) made) }
 {
     let Some(clauses) = clauses_of_paths(alloc, forms, paths)? else {
-        return Err(Memory);
+        unreachable!()
     };
     let whole = all_beside(alloc, clauses.as_slice())?;
     if is_closed(alloc, &whole, forms)? {

@@ -3,25 +3,45 @@ use Rattle.fof_terms.specs.declared.form.Form.TheViews.{the_lemmas}
 use Rattle.clause_form.specs.ClauseView.{form_of_lit}
 use Rattle.clause_form.specs.Found.{roomy_member, roomy_body}
 use Rattle.derive_kit.specs.Built.{ok_map}
+use Rattle.derive_kit.specs.Fitting.{picks_only, takes_only, enters_only, picked_place, picked_fits, entered_fits, taken_there, taken_fits_at}
 use Rattle.derive_kit.specs.Places.{at_index}
 use Rattle.derive_kit.specs.Routes.{along_leaf, along_pick, along_under, along_each, itself_shows, few_paths, arm_next, pick_small, under_small, each_small, each_roomy, arms_start, arm_rooms, over_here, found_here}
 use Rattle.derive_kit.proofs.paths.+along.Goals as goal
 
+pub along-bounds-members-place : goal.along-bounds-members-place
+along-bounds-members-place t c = picked_place c.args.path.now c.in-Pick.rest c.in-Pick.number c.args.form.now c.in-And.members c.as_slice-members.result.now c.in-Pick.is c.in-And.is c.as_slice-members.ensures c.requires.fits
+
+pub along-unreachable-requires : goal.along-unreachable-requires
+along-unreachable-requires t c = picks_only c.args.path.now c.in-Pick.rest c.in-Pick.number c.args.form.now c.in-Pick.is c.in_default.not-And c.requires.fits
+
+pub along-unreachable-requires-in_default-form : goal.along-unreachable-requires-in_default-form
+along-unreachable-requires-in_default-form t c = takes_only c.args.path.now c.in-Each.ways c.args.form.now c.in-Each.is c.in_default-form.not-Or c.requires.fits
+
+pub along-unreachable-requires-in_default-form-2 : goal.along-unreachable-requires-in_default-form-2
+along-unreachable-requires-in_default-form-2 t c = enters_only c.args.path.now c.in-Under.rest c.args.form.now c.in-Under.is c.in_default-form-2.not-All c.requires.fits
+
 pub along-along-requires : goal.along-along-requires
-along-along-requires t c = (
-  search (rules, the_lemmas),
-  (
-    pick_small c.args.form.now c.index-members-place.result c.in-And.members c.as_slice-members.result.now c.in-Pick.number c.in-And.is c.as_slice-members.ensures (omega (arith, c.if-place-members.false)) c.index-members-place.is c.requires.size,
-    roomy_member c.args.form.now c.in-And.members c.as_slice-members.result.now c.in-Pick.number c.index-members-place.result c.in-And.is c.as_slice-members.ensures (omega (arith, c.if-place-members.false)) c.index-members-place.is c.requires.room,
-  ),
-)
+along-along-requires t c =
+    let there = picked_place c.args.path.now c.in-Pick.rest c.in-Pick.number c.args.form.now c.in-And.members c.as_slice-members.result.now c.in-Pick.is c.in-And.is c.as_slice-members.ensures c.requires.fits in (
+      search (rules, the_lemmas, there),
+      (
+        pick_small c.args.form.now c.index-members-place.result c.in-And.members c.as_slice-members.result.now c.in-Pick.number c.in-And.is c.as_slice-members.ensures there c.index-members-place.is c.requires.size,
+        (
+          roomy_member c.args.form.now c.in-And.members c.as_slice-members.result.now c.in-Pick.number c.index-members-place.result c.in-And.is c.as_slice-members.ensures there c.index-members-place.is c.requires.room,
+          picked_fits c.args.path.now c.in-Pick.rest c.get.result.now c.in-Pick.number c.args.form.now c.index-members-place.result c.in-And.members c.as_slice-members.result.now c.in-Pick.is c.in-And.is c.as_slice-members.ensures c.get.ensures there c.index-members-place.is c.requires.fits,
+        ),
+      ),
+    )
 
 pub along-along-requires-in-All : goal.along-along-requires-in-All
 along-along-requires-in-All t c = (
   search (rules, the_lemmas),
   (
     under_small c.args.form.now c.in-All.sort c.in-All.body c.get-in-All.result.now c.in-All.is c.get-in-All.ensures c.requires.size,
-    roomy_body c.args.form.now c.in-All.sort c.in-All.body c.get-in-All.result.now c.in-All.is c.get-in-All.ensures c.requires.room,
+    (
+      roomy_body c.args.form.now c.in-All.sort c.in-All.body c.get-in-All.result.now c.in-All.is c.get-in-All.ensures c.requires.room,
+      entered_fits c.args.path.now c.in-Under.rest c.get-in-All-2.result.now c.in-All.sort c.args.form.now c.in-All.body c.get-in-All.result.now c.in-Under.is c.in-All.is c.get-in-All.ensures c.get-in-All-2.ensures c.requires.fits,
+    ),
   ),
 )
 
@@ -31,8 +51,9 @@ along-returns-in_ok-copy-in-Leaf t c =
 
 pub along-returns-in_ok-part-in-And : goal.along-returns-in_ok-part-in-And
 along-returns-in_ok-part-in-And t c =
+    let there = picked_place c.args.path.now c.in-Pick.rest c.in-Pick.number c.args.form.now c.in-And.members c.as_slice-members.result.now c.in-Pick.is c.in-And.is c.as_slice-members.ensures c.requires.fits in
     ok_map c.pick.result (λ made e. along_pick c.args.path.now c.in-Pick.rest c.get.result.now c.in-Pick.number c.args.form.now c.index-members-place.result c.in-And.members c.as_slice-members.result.now c.in_ok-part-in-And.part made c.in-Pick.is c.in-And.is c.as_slice-members.ensures
-    (at_index c.as_slice-members.result.now c.in-Pick.number c.index-members-place.result (omega (arith, c.if-place-members.false)) c.index-members-place.is) c.get.ensures e c.in_ok-part-in-And.ensures) c.pick.ensures
+    (at_index c.as_slice-members.result.now c.in-Pick.number c.index-members-place.result there c.index-members-place.is) c.get.ensures e c.in_ok-part-in-And.ensures) c.pick.ensures
 
 pub along-returns-in_ok-part-in-All : goal.along-returns-in_ok-part-in-All
 along-returns-in_ok-part-in-All t c =
@@ -52,7 +73,10 @@ arms-along-requires t c = (
   search (rules, the_lemmas),
   (
     each_small c.args.forms.now c.loop-number.number c.index-forms-number.result c.loop-number-test.true c.index-forms-number.is c.requires.size,
-    each_roomy c.args.forms.now c.loop-number.number c.index-forms-number.result c.loop-number-test.true c.index-forms-number.is c.requires.room,
+    (
+      each_roomy c.args.forms.now c.loop-number.number c.index-forms-number.result c.loop-number-test.true c.index-forms-number.is c.requires.room,
+      taken_fits_at c.args.paths.now c.args.forms.now c.args.clauses.now c.loop-number.number c.index-paths-number.result c.index-forms-number.result c.requires.found c.loop-number-test.true c.index-paths-number.is c.index-forms-number.is,
+    ),
   ),
 )
 
@@ -86,6 +110,9 @@ arms-loop-number-preserved t c =
     rw (c.in_ok-push.ensures.ok, c.into_inner.ensures, c.len-before.ensures, c.len-start.ensures)
     (arm_next c.args.paths.now c.args.forms.now c.as_slice-in-loop-number.result.now c.args.clauses.now c.args.whole.now c.loop-number.number c.loop-number.before c.loop-number.start _ c.loop-number.made c.index-paths-number.result c.index-forms-number.result c.index-clauses-number.result c.in_ok-part.part c.in_ok-arm.arm
     c.requires.found c.loop-number-test.true c.index-paths-number.is c.index-forms-number.is c.index-clauses-number.is (c.as_slice-in-loop-number.ensures ∙ c.in_ok-members.ensures ∙ ap (map form_of_lit) c.as_slice.ensures) (rw (c.len.ensures, c.len-in-loop-number.ensures) refl) c.in_ok-part.ensures c.in_ok-arm.ensures c.loop-number.invariant)
+
+pub each-unreachable-requires : goal.each-unreachable-requires
+each-unreachable-requires t c = taken_there c.args.paths.now c.args.forms.now c.in_ok-clauses.field-0 c.in_ok-clauses.ensures c.in_default.not-Some c.requires.fits
 
 pub each-all_beside-requires : goal.each-all_beside-requires
 each-all_beside-requires t c = over_here c.args.paths.now c.args.forms.now c.in_ok-clauses.field-0 c.in-Some.clauses c.as_slice.result.now c.in_ok-clauses.ensures c.in-Some.is c.as_slice.ensures c.requires.room
