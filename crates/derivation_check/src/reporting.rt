@@ -6,7 +6,7 @@ ghost use Rattle.derivation_check.specs.Checks as spec;
 
 use std::alloc::Global;
 use szs_report::{Verdict, write_end, write_line};
-use tptp_base::{Memory, Name, SteadySink, Text};
+use tptp_base::{Memory, Name, SinkFault, SteadySink, Text};
 use verifier::{LineAnswer, answer_of};
 
 /// Whether all is verified.
@@ -65,7 +65,8 @@ fn put_line(
             report.extend_from_slice(line.bytes())?;
             Ok(())
         }
-        Err(_) => Err(Memory),
+        Err(SinkFault::Failed) => unreachable!(),
+        Err(SinkFault::Memory) => Err(Memory),
     }
 }
 
@@ -80,6 +81,7 @@ fn put_end(alloc: Global, verdict: &Verdict, report: &mut Vec<u8>) -> Result<(),
             report.extend_from_slice(lines.bytes())?;
             Ok(())
         }
-        Err(_) => Err(Memory),
+        Err(SinkFault::Failed) => unreachable!(),
+        Err(SinkFault::Memory) => Err(Memory),
     }
 }
