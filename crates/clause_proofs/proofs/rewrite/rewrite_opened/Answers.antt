@@ -1,4 +1,4 @@
-use Rattle.std.proofs.Common.{ap, length, ◌+◌, arith}
+use Rattle.std.proofs.Common.{ap, length}
 use Rattle.fof_terms.specs.Scope.{scope_sorts}
 use Rattle.fof_terms.specs.declared.sorting.Scope.{Outside}
 use Rattle.derive_kit.specs.Built.{ok_map}

@@ -1,5 +1,5 @@
-use Rattle.std.proofs.Common.{sym, subst, ap, ◌∙◌, arith, List, refl}
-use Rattle.std.specs.Prelude.{ℕ, ◌≡◌, Some, length, reverse, ◌++◌}
+use Rattle.std.proofs.Common.{sym, subst, ap, arith}
+use Rattle.std.specs.Prelude.{length}
 use Rattle.fof_terms.specs.Scope.{scope_sorts}
 use Rattle.fof_terms.specs.declared.sorting.Scope.{Outside}
 use Rattle.derive_kit.specs.Built.{ok_map}

@@ -1,11 +1,9 @@
-use Rattle.std.proofs.Common.{sym, subst, ap, ◌∙◌, arith, List}
+use Rattle.std.proofs.Common.{sym, subst, List}
 use Rattle.fof_terms.specs.Scope.{scope_sorts}
 use Rattle.fof_terms.specs.Sorts.{Sorted}
-use Rattle.derive_kit.specs.Built.{ok_map}
 use Rattle.clause_form.specs.declared.clause.Lit.{Lit}
 use Rattle.clause_form.specs.ClauseView.{form_of_lit}
 use Rattle.clause_form.specs.Covers.{IsTrivial}
-use Rattle.clause_proofs.specs.Refuting.{body}
 use Rattle.clause_proofs.proofs.CoveredLiterals.{there_at, in_line_sorted}
 use Rattle.std.specs.Prelude.{slice_get, ◌≡◌, Some}
 use Rattle.clause_proofs.proofs.tautology.true_by_form.Goals as goal
