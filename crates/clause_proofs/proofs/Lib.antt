@@ -4,6 +4,7 @@ pub mod ClosedLines
 pub mod CoverLines
 pub mod CoveredLiterals
 pub mod Factors
+pub mod FewImages
 pub mod Fillings
 pub mod Instances
 pub mod Joints

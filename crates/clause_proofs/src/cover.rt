@@ -1,5 +1,5 @@
 //! Lines that cover a clause of a parent.
-ghost use Rattle.std.specs.Prelude.{◌≡◌, ◌≤◌, true, ℕ, [], Some, List as ListOf, IfOk};
+ghost use Rattle.std.specs.Prelude.{◌≡◌, ◌≤◌, true, ℕ, [], length, Some, List as ListOf, IfOk};
 ghost use Rattle.fof_terms.specs.declared.form.Form.{Form as Formula};
 ghost use Rattle.fof_terms.specs.Scope.{scope_sorts};
 ghost use Rattle.clause_form.specs.ClauseView.{closed as closed_form, stated};
@@ -23,9 +23,11 @@ ghost use Rattle.clause_proofs.specs.Refuting.{IsGoal, RefutesBody, ShowsBody, b
 use crate::nodes;
 use crate::opening::{Opened, known_clause};
 use crate::premises::{Premise, instance_of_part, some_images};
-use crate::reach::{closed, variables_of};
+use crate::reach::{closed, few_variables_of};
 use crate::refuting::refuted;
-use clause_form::{AtomOf, Clause, Lit, Parent, Path, clause_of_path, form_of_lit, norm};
+use clause_form::{
+    AtomOf, Clause, FormFault, Lit, Parent, Path, clause_of_path, form_of_lit, norm,
+};
 use clause_rules::{Just, cover_step};
 use derive_kit::{Part, cut_under, imp_e, norm_forth, path_proof};
 use fof_terms::{Form, Scope, Signature};
@@ -62,7 +64,7 @@ pub fn by_cover(
             let proof = covered(alloc, signature, parents, line, parent, &path, &subst)?;
             Ok(Some(proof))
         }
-        Some(_) => Err(Memory),
+        Some(_) => unreachable!(),
         None => Ok(None),
     }
 }
@@ -100,6 +102,7 @@ fn reached_by(
     requires fits { (c : Disjunction) × (reached path.now (norm_of true parent.now.form) ≡ Some c) }
     ensures reached { IfOk result (λ made. reached path.now (norm_of true parent.now.form) ≡ Some made.clause.clause) }
     ensures clause { IfOk result (λ made. IsClosed signature.now made.clause) }
+    ensures few { IfOk result (λ made. length made.clause.clause.sorts ≤ 100000) }
     ensures fact { IfOk result (λ made. IsFact signature.now parent.now (closed_form made.clause.clause) made.fact) }
 {
     let own = norm_fact(alloc, signature, parent)?;
@@ -122,23 +125,28 @@ fn norm_fact(alloc: Global, signature: &Signature, parent: &Parent) -> Result<Pa
 
 // The normal form of the formula, whose norm size is within the limit.
 fn small_norm(alloc: Global, form: &Form) -> Result<Form, Memory>
+    requires { norm_size_of form.now ≤ 100000 }
     ensures { IfOk result (λ made. made ≡ norm_of true form.now) }
 {
     match norm(alloc, form) {
         Ok(made) => Ok(made),
-        Err(_) => Err(Memory),
+        Err(FormFault::Memory) => Err(Memory),
+        Err(FormFault::Wide) => unreachable!(),
     }
 }
 
 // The clause that the path reaches in the normal form, as its closed formula has it.
 fn reached_clause(alloc: Global, norm: &Form, path: &Path) -> Result<Opened, Memory>
-    requires { IsRoomy norm.now }
+    requires roomy { IsRoomy norm.now }
+    requires small { norm_size_of norm.now ≤ 100000 }
+    requires fits { (c : Disjunction) × (reached path.now norm.now ≡ Some c) }
     ensures reached { IfOk result (λ opened. reached path.now norm.now ≡ Some opened.clause) }
     ensures has { IfOk result (λ opened. HasClause (closed_form opened.clause) opened.clause opened.is_or) }
+    ensures few { IfOk result (λ opened. length opened.clause.sorts ≤ 100000) }
 {
     match clause_of_path(alloc, norm, path)? {
         Some(clause) => Ok(as_closed(clause)),
-        None => Err(Memory),
+        None => unreachable!(),
     }
 }
 
@@ -168,13 +176,14 @@ fn cover_opened(
 ) -> Result<Part, Memory>
     requires line { IsReadyClause signature.now line.now opened.now }
     requires clause { IsClosed signature.now clause.now }
+    requires few { length clause.now.clause.sorts ≤ 100000 }
     requires joint { IsJoint signature.now opened.now.clause (scope_of clause.now.clause) subst.now }
     requires covers { AreCovered opened.now.clause.lits (instances (images_of_parents opened.now.clause subst.now) clause.now.clause.lits) }
     ensures { IfOk result (λ proof. (formulas : ListOf Formula) → ShowsAnywhere signature.now formulas (closed_form clause.now.clause) fact → Proves (theory_of signature.now formulas) [] [] proof line.now) }
 {
     let own = opened.clause.sorts.as_slice();
     let sorts = clause.clause.sorts.as_slice();
-    let reach = variables_of(alloc, own, sorts, &[])?;
+    let reach = few_variables_of(alloc, own, sorts, &[])?;
     if reach.sorts.len() > 1_000_000_000 {
         return Err(Memory);
     }

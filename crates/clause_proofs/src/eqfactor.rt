@@ -20,7 +20,7 @@ ghost use Rattle.clause_proofs.specs.Refuting.{IsGoal, RefutesBody, RefutesIn, S
 use crate::covering::contrary;
 use crate::opening::{Opened, known_clause};
 use crate::premises::{Premise, instance_by, some_images};
-use crate::reach::{closed, variables_of};
+use crate::reach::{closed, few_variables_of};
 use crate::refuting::{by_pivot, denial};
 use crate::rewriting::{picked, read};
 use crate::turning::{known_sort, turned};
@@ -72,7 +72,7 @@ pub fn by_eqfactor(
             let proof = factored(alloc, signature, parents, line, parent, factor, &subst)?;
             Ok(Some(proof))
         }
-        Some(_) => Err(Memory),
+        Some(_) => unreachable!(),
         None => Ok(None),
     }
 }
@@ -119,7 +119,7 @@ fn factor_opened(
 {
     let own = opened.clause.sorts.as_slice();
     let sorts = clause.clause.sorts.as_slice();
-    let reach = variables_of(alloc, own, sorts, &[])?;
+    let reach = few_variables_of(alloc, own, sorts, &[])?;
     let images = some_images(alloc, subst, own.len(), sorts.len())?;
     let premise = instance_by(alloc, parent.number, clause, images)?;
     let scope = Scope::Outside(reach.sorts.as_slice());
@@ -163,17 +163,18 @@ fn two_equations(
     requires other { Sorted signature.now (scope_sorts scope.now) (lit_form other.now) }
     ensures { IfOk result (λ part. (formulas : ListOf Formula) → RefutesIn signature.now (scope_sorts scope.now) formulas (body line.now) (lit_form pivot.now) part) }
 {
-    match (&pivot.atom, &other.atom) {
-        (AtomOf::Eq(left, right), AtomOf::Eq(third, fourth)) => {
-            let side = picked(left, right, factor.first_flipped);
-            let first = picked(right, left, factor.first_flipped);
-            let second = picked(fourth, third, factor.second_flipped);
-            linked(
-                alloc, signature, scope, line, other, side, first, second, factor,
-            )
-        }
-        _ => Err(Memory),
-    }
+    let AtomOf::Eq(left, right) = &pivot.atom else {
+        unreachable!()
+    };
+    let AtomOf::Eq(third, fourth) = &other.atom else {
+        unreachable!()
+    };
+    let side = picked(left, right, factor.first_flipped);
+    let first = picked(right, left, factor.first_flipped);
+    let second = picked(fourth, third, factor.second_flipped);
+    linked(
+        alloc, signature, scope, line, other, side, first, second, factor,
+    )
 }
 
 // Falsehood by the equation of `side` and `first` and the negation of the line's body, which covers that of `side` and
@@ -261,11 +262,7 @@ fn chained(
     requires { Sorted signature.now (scope_sorts scope.now) (Equation side.now first.now) }
     ensures { IfOk result (IsChained signature.now (scope_sorts scope.now) side.now first.now same own) }
 {
-    match known_sort(first, signature, scope) {
-        Some(sort) => {
-            let hole = Form::Eq(lift_term(alloc, side, 1, 0)?, Term::Var(0));
-            subst(alloc, sort, hole, same, own)
-        }
-        None => Err(Memory),
-    }
+    let sort = known_sort(first, signature, scope)?;
+    let hole = Form::Eq(lift_term(alloc, side, 1, 0)?, Term::Var(0));
+    subst(alloc, sort, hole, same, own)
 }

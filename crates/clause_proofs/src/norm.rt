@@ -31,7 +31,7 @@ pub fn by_norm(
             let proof = normed(alloc, signature, &parents[parent as usize], line)?;
             Ok(Some(proof))
         }
-        Some(_) => Err(Memory),
+        Some(_) => unreachable!(),
         None => Ok(None),
     }
 }

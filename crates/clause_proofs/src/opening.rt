@@ -35,7 +35,7 @@ pub fn known_clause(alloc: Global, form: &Form) -> Result<Opened, Memory>
 {
     match open_clause(alloc, form)? {
         Some(opened) => Ok(opened),
-        None => Err(Memory),
+        None => unreachable!(),
     }
 }
 

@@ -1,5 +1,5 @@
 //! Lines that cover a parent in which an equation of a parent has rewritten one place.
-ghost use Rattle.std.specs.Prelude.{◌≡◌, ℕ, [], length, slice_get, slice_set, Some, List as ListOf, IfOk};
+ghost use Rattle.std.specs.Prelude.{◌≡◌, ◌≤◌, ℕ, [], length, slice_get, slice_set, Some, List as ListOf, IfOk};
 ghost use Rattle.fof_terms.specs.declared.form.Form.{Form as Formula};
 ghost use Rattle.fof_terms.specs.declared.term.Term.{Var};
 ghost use Rattle.fof_terms.specs.Scope.{scope_sorts};
@@ -17,7 +17,6 @@ ghost use Rattle.clause_proofs.specs.Shown.{IsByRule, ShowsLine};
 ghost use Rattle.clause_proofs.specs.Refuting.{IsGoal, RefutesBody, ShowsBody, body, theory_of};
 ghost use Rattle.clause_proofs.specs.Rewriting.{AreInstances};
 
-use crate::nodes::number;
 use crate::opening::{Opened, known_clause};
 use crate::premises::{Premise, instance_by, some_images};
 use crate::reach::{closed, variables_of};
@@ -74,7 +73,7 @@ pub fn by_paramodulation(
             )?;
             Ok(Some(proof))
         }
-        Some(_) => Err(Memory),
+        Some(_) => unreachable!(),
         None => Ok(None),
     }
 }
@@ -175,6 +174,7 @@ fn paramodulant(
     change: &Change,
 ) -> Result<Part, Memory>
     requires paramodulant { IsParamodulant line.now.clause.lits into.lits from.lits change.now.into_lit change.now.at change.now.from_lit change.now.flipped }
+    requires few { length images.now ≤ 1000000000 }
     requires place { HasPlace lits.now change.now.into_lit change.now.at }
     requires instances { AreInstances signature.now (scope_sorts scope.now) images.now lits.now into.lits }
     requires goal { IsGoal signature.now (scope_sorts scope.now) line.now }
@@ -184,7 +184,7 @@ fn paramodulant(
         → ShowsBody signature.now (scope_sorts scope.now) formulas from.is_or from.lits from.part → RefutesBody signature.now (scope_sorts scope.now) formulas (body line.now) part) }
 {
     let equation = from.lits.as_slice()[change.from_lit as usize].copy(alloc)?;
-    let mark = number(images.images.len())?;
+    let mark = images.images.len() as u32;
     let marked = marked_at(alloc, lits, change, mark)?;
     by_equation(
         alloc,

@@ -45,11 +45,26 @@ pub fn variables_of(
     ensures sorts { IfOk result (λ made. reverse made.sorts ≡ reverse line.now ++ made.more) }
     ensures more { IfOk result (λ made. made.more ≡ reverse left.now ++ reverse right.now) }
 {
-    let mut more = reversed(alloc, left)?;
-    more.append(reversed(alloc, right)?)?;
-    if line.len() >= 1_000_000_001 || more.len() >= 1_147_483_000 {
+    if line.len() + (left.len() + right.len()) >= 2_147_483_647 {
         return Err(Memory);
     }
+    few_variables_of(alloc, line, left, right)
+}
+
+/// The same of clauses with no more variables than a proof can have.
+pub fn few_variables_of(
+    alloc: Global,
+    line: &[SortId],
+    left: &[SortId],
+    right: &[SortId],
+) -> Result<Reach, Memory>
+    requires { length line.now + (length left.now + length right.now) < 2147483647 }
+    ensures few { IfOk result (λ made. length line.now + length made.more < 2147483647) }
+    ensures sorts { IfOk result (λ made. reverse made.sorts ≡ reverse line.now ++ made.more) }
+    ensures more { IfOk result (λ made. made.more ≡ reverse left.now ++ reverse right.now) }
+{
+    let mut more = reversed(alloc, left)?;
+    more.append(reversed(alloc, right)?)?;
     let mut sorts = List::from_slice(alloc, right)?;
     sorts.append(List::from_slice(alloc, left)?)?;
     sorts.append(List::from_slice(alloc, line)?)?;

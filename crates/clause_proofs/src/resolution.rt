@@ -51,7 +51,7 @@ pub fn by_resolution(
             )?;
             Ok(Some(proof))
         }
-        Some(_) => Err(Memory),
+        Some(_) => unreachable!(),
         None => Ok(None),
     }
 }

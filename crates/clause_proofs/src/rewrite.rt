@@ -1,5 +1,5 @@
 //! Lines that cover a parent in which a parent that is one equation has rewritten all occurrences of a term.
-ghost use Rattle.std.specs.Prelude.{◌≡◌, ◌+◌, [], ◌∷◌, length, slice_get, Some, List as ListOf, IfOk};
+ghost use Rattle.std.specs.Prelude.{◌≡◌, ◌≤◌, ◌+◌, [], ◌∷◌, length, slice_get, Some, List as ListOf, IfOk};
 ghost use Rattle.fof_terms.specs.declared.form.Form.{Form as Formula};
 ghost use Rattle.fof_terms.specs.declared.term.Term.{Var};
 ghost use Rattle.fof_terms.specs.Scope.{scope_sorts};
@@ -16,7 +16,6 @@ ghost use Rattle.clause_proofs.specs.Shown.{IsByRule, ShowsLine};
 ghost use Rattle.clause_proofs.specs.Refuting.{IsGoal, RefutesBody, ShowsBody, body, theory_of};
 ghost use Rattle.clause_proofs.specs.Rewriting.{IsRewriting, chained_images};
 
-use crate::nodes::number;
 use crate::opening::{Opened, known_clause};
 use crate::premises::{Premise, images_of, instance_by, some_images};
 use crate::reach::{closed, variables_of};
@@ -68,7 +67,7 @@ pub fn by_rewrite(
             let proof = rewritten(alloc, signature, parents, line, into, by, &change, &subst)?;
             Ok(Some(proof))
         }
-        Some(_) => Err(Memory),
+        Some(_) => unreachable!(),
         None => Ok(None),
     }
 }
@@ -189,6 +188,7 @@ fn rewriting(
     from: Premise,
     change: &Change,
 ) -> Result<Part, Memory>
+    requires few { length images.now ≤ 1000000000 }
     requires rewriting { (e : Literal) × (from.lits ≡ e ∷ []) × ((marked : ListOf Literal) → AreLitsRewritten change.now.target (Var (length images.now)) lits.now marked
         → IsRewriting signature.now (scope_sorts scope.now) line.now.clause.lits images.now marked into.lits e change.now.flipped) }
     requires goal { IsGoal signature.now (scope_sorts scope.now) line.now }
@@ -197,7 +197,7 @@ fn rewriting(
         → ShowsBody signature.now (scope_sorts scope.now) formulas from.is_or from.lits from.part → RefutesBody signature.now (scope_sorts scope.now) formulas (body line.now) part) }
 {
     let equation = from.lits.as_slice()[0].copy(alloc)?;
-    let mark = Term::Var(number(images.images.len())?);
+    let mark = Term::Var(images.images.len() as u32);
     let marked = replace_in_lits(alloc, lits, &change.target, &mark)?;
     by_equation(
         alloc,

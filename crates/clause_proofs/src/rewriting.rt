@@ -109,7 +109,7 @@ fn rewritten(
             )?;
             refuted(alloc, signature, scope, line, made, equation)
         }
-        _ => Err(Memory),
+        _ => unreachable!(),
     }
 }
 
@@ -134,17 +134,13 @@ fn filled(
     ensures shows { IfOk result (λ made. (formulas h : ListOf Formula) → slice_get h 0 ≡ Some (lit_form (equation_of flipped left.now right.now))
         → ShowsUnder signature.now (scope_sorts scope.now) formulas h (body_of into.is_or into.lits) into.part → ShowsUnder signature.now (scope_sorts scope.now) formulas h (body_of made.is_or made.lits) made.part) }
 {
-    match known_sort(left, signature, scope) {
-        Some(sort) => {
-            let is_or = into.is_or;
-            let own = read(alloc, signature, scope, left, right, flipped)?;
-            let hole = hole_of(alloc, is_or, marked, images)?;
-            let part = rewrite_in(alloc, sort, hole, own, into.part)?;
-            let lits = filled_with(alloc, images, marked, right)?;
-            Ok(Premise { is_or, lits, part })
-        }
-        None => Err(Memory),
-    }
+    let sort = known_sort(left, signature, scope)?;
+    let is_or = into.is_or;
+    let own = read(alloc, signature, scope, left, right, flipped)?;
+    let hole = hole_of(alloc, is_or, marked, images)?;
+    let part = rewrite_in(alloc, sort, hole, own, into.part)?;
+    let lits = filled_with(alloc, images, marked, right)?;
+    Ok(Premise { is_or, lits, part })
 }
 
 // The marked literals under the images, with the term for the mark.

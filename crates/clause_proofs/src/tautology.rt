@@ -14,7 +14,7 @@ ghost use Rattle.clause_proofs.specs.Refuting.{IsGoal, RefutesBody, body};
 
 use crate::covering::contrary;
 use crate::opening::{Opened, known_clause};
-use crate::reach::{closed, variables_of};
+use crate::reach::{closed, few_variables_of};
 use crate::refuting::{denial, negated};
 use clause_form::{Lit, Parent, are_complementary, denies, form_of_lit};
 use clause_rules::tautology_step;
@@ -46,7 +46,7 @@ fn trivial(alloc: Global, signature: &Signature, line: &Form) -> Result<Part, Me
     ensures { IfOk result (ShowsAlone signature.now line.now) }
 {
     let opened = known_clause(alloc, line)?;
-    let reach = variables_of(alloc, opened.clause.sorts.as_slice(), &[], &[])?;
+    let reach = few_variables_of(alloc, opened.clause.sorts.as_slice(), &[], &[])?;
     let scope = Scope::Outside(reach.sorts.as_slice());
     let part = true_by_form(alloc, signature, &scope, &opened)?;
     closed(alloc, line, &opened, reach.more.as_slice(), part)
@@ -66,7 +66,7 @@ fn true_by_form(
     let lits = line.clause.lits.as_slice();
     match twofold(lits) {
         Some(at) => both_covered(alloc, signature, scope, line, &lits[at]),
-        None => Err(Memory),
+        None => unreachable!(),
     }
 }
 

@@ -1,5 +1,5 @@
 //! Literals that are the same up to the sides of an equation.
-ghost use Rattle.std.specs.Prelude.{◌≡◌, ◌<◌, ◌↔◌, length, true, false, IsTrue, IfOk, IfSome, Some};
+ghost use Rattle.std.specs.Prelude.{◌≡◌, ◌<◌, ◌↔◌, ℕ, length, true, false, IsTrue, IfOk, Some};
 ghost use Rattle.fof_terms.specs.declared.form.Form.{Eq as Equation, Not as Denied};
 ghost use Rattle.fof_terms.specs.declared.term.Term.{Term as Inner};
 ghost use Rattle.fof_terms.specs.Scope.{scope_sorts};
@@ -16,19 +16,24 @@ use fof_terms::{Form, Scope, Signature, SortId, Term, equal_term, lift_term, sor
 use std::alloc::Global;
 use tptp_base::Memory;
 
-/// The sort of the term, which is one of the signature's.
-pub fn known_sort(term: &Term, signature: &Signature, scope: &Scope<'_>) -> Option<SortId>
-    ensures sort { IfSome result (λ s. sort_of_term signature.now (scope_sorts scope.now) term.now ≡ Some s) }
-    ensures there { IfSome result (λ s. s < length signature.now.sorts) }
+/// The sort of the term, which has one. A sort that the signature doesn't have, of which there is no term, is answered by
+/// want of memory.
+pub fn known_sort(term: &Term, signature: &Signature, scope: &Scope<'_>) -> Result<SortId, Memory>
+    requires { (s : ℕ) × (sort_of_term signature.now (scope_sorts scope.now) term.now ≡ Some s) }
+    ensures sort { IfOk result (λ s. sort_of_term signature.now (scope_sorts scope.now) term.now ≡ Some s) }
+    ensures there { IfOk result (λ s. s < length signature.now.sorts) }
 {
-    match sort_of(term, signature, scope) {
-        Some(sort) if sort < signature.sort_count() => Some(sort),
-        _ => None,
+    let Some(sort) = sort_of(term, signature, scope) else {
+        unreachable!()
+    };
+    if sort < signature.sort_count() {
+        Ok(sort)
+    } else {
+        Err(Memory)
     }
 }
 
-/// The equation with its sides exchanged, by a part that shows it. A term whose sort isn't there, of which there is none,
-/// is answered by want of memory.
+/// The equation with its sides exchanged, by a part that shows it.
 pub fn turned(
     alloc: Global,
     signature: &Signature,
@@ -40,14 +45,10 @@ pub fn turned(
     requires { Sorted signature.now (scope_sorts scope.now) (Equation left.now right.now) }
     ensures { IfOk result (IsTurned signature.now (scope_sorts scope.now) left.now part) }
 {
-    match known_sort(left, signature, scope) {
-        Some(sort) => {
-            let hole = Form::Eq(Term::Var(0), lift_term(alloc, left, 1, 0)?);
-            let own = refl(alloc, left.copy(alloc)?)?;
-            subst(alloc, sort, hole, part, own)
-        }
-        None => Err(Memory),
-    }
+    let sort = known_sort(left, signature, scope)?;
+    let hole = Form::Eq(Term::Var(0), lift_term(alloc, left, 1, 0)?);
+    let own = refl(alloc, left.copy(alloc)?)?;
+    subst(alloc, sort, hole, part, own)
 }
 
 // Whether the atom is an equation whose left side is the term.

@@ -3,10 +3,13 @@ use Rattle.fof_terms.specs.Scope.{scope_sorts}
 use Rattle.fof_terms.specs.declared.sorting.Scope.{Outside}
 use Rattle.derive_kit.specs.Built.{ok_map}
 use Rattle.clause_proofs.proofs.Joints.{part_is}
-use Rattle.clause_proofs.proofs.LineGoals.{scope_is, goal_in, shown_in}
+use Rattle.clause_proofs.proofs.LineGoals.{few_sorts, scope_is, goal_in, shown_in}
 use Rattle.clause_proofs.proofs.Factors.{one_reach}
 use Rattle.clause_proofs.proofs.CoverLines.{clause_exists, premise_covered, premise_sorted, premise_shown, few_here}
 use Rattle.clause_proofs.proofs.cover.cover_opened.Goals as goal
+
+pub few_variables_of-requires : goal.few_variables_of-requires
+few_variables_of-requires c = omega (arith, ap length c.as_slice-own.ensures, ap length c.as_slice-sorts.ensures, few_sorts c.args.signature.now c.args.line.now c.args.opened.now.clause c.args.opened.now.is_or c.requires.line.ready c.requires.line.opening.1, c.requires.few)
 
 pub refute_covered-requires-clause-covered : goal.refute_covered-requires-clause-covered
 refute_covered-requires-clause-covered c = premise_covered c.args.signature.now c.args.clause.now c.requires.clause c.args.opened.now.clause c.args.subst.now c.requires.joint c.in_ok-images.images (part_is c.args.subst.now c.in_ok-images.images _ _ (length c.args.clause.now.clause.sorts) (length c.args.opened.now.clause.sorts) c.in_ok-images.ensures (ap length c.as_slice-sorts.ensures) (ap length c.as_slice-own.ensures)) c.args.fact c.in_ok-premise.premise c.in_ok-premise.ensures c.requires.covers

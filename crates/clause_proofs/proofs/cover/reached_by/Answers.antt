@@ -1,8 +1,16 @@
+use Rattle.std.proofs.Common.{ap, ◌∙◌}
+use Rattle.clause_form.specs.Paths.{reached}
 use Rattle.clause_proofs.proofs.CoverLines.{made_small, made_roomy, along_shown}
 use Rattle.clause_proofs.proofs.cover.reached_by.Goals as goal
 
-pub reached_clause-requires : goal.reached_clause-requires
-reached_clause-requires c = made_roomy c.args.signature.now c.args.parent.now c.in_ok-norm.norm c.in_ok-own.own c.requires.small c.in_ok-norm.ensures c.in_ok-own.ensures
+pub reached_clause-requires-clause-roomy : goal.reached_clause-requires-clause-roomy
+reached_clause-requires-clause-roomy c = made_roomy c.args.signature.now c.args.parent.now c.in_ok-norm.norm c.in_ok-own.own c.requires.small c.in_ok-norm.ensures c.in_ok-own.ensures
+
+pub reached_clause-requires-clause-small : goal.reached_clause-requires-clause-small
+reached_clause-requires-clause-small c = made_small c.args.signature.now c.args.parent.now c.in_ok-norm.norm c.in_ok-own.own c.requires.small c.in_ok-norm.ensures c.in_ok-own.ensures
+
+pub reached_clause-requires-clause-fits : goal.reached_clause-requires-clause-fits
+reached_clause-requires-clause-fits c = (c.requires.fits.0, ap (reached c.args.path.now) c.in_ok-norm.ensures ∙ c.requires.fits.1)
 
 pub path_proof-requires-clause-size : goal.path_proof-requires-clause-size
 path_proof-requires-clause-size c = made_small c.args.signature.now c.args.parent.now c.in_ok-norm.norm c.in_ok-own.own c.requires.small c.in_ok-norm.ensures c.in_ok-own.ensures

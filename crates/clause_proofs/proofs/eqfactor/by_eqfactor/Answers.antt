@@ -4,8 +4,8 @@ use Rattle.clause_proofs.proofs.Joints.{answer_shows}
 use Rattle.clause_proofs.proofs.Factors.{eqfactor_holds}
 use Rattle.clause_proofs.proofs.eqfactor.by_eqfactor.Goals as goal
 
-pub returns-in-Some-EqFactor : goal.returns-in-Some-EqFactor
-returns-in-Some-EqFactor c = (
+pub returns-in_ok-proof-in-Some-EqFactor : goal.returns-in_ok-proof-in-Some-EqFactor
+returns-in_ok-proof-in-Some-EqFactor c = (
   eqfactor_holds c.args.signature.now c.args.parents.now c.args.line.now c.in-Some-EqFactor.parent c.in-Some-EqFactor.first c.in-Some-EqFactor.first_flipped c.in-Some-EqFactor.second c.in-Some-EqFactor.second_flipped c.in-Some-EqFactor.subst
       (answer_shows c.args.signature.now c.args.parents.now c.args.line.now eqfactor c.in_ok-parent.field-0 _ (c.in-Some-EqFactor.is ∙ ap Some c.in-Some-EqFactor.field-0-is) c.in_ok-parent.ensures),
   c.in_ok-proof-in-Some-EqFactor.ensures,

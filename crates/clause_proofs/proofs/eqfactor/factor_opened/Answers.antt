@@ -1,11 +1,15 @@
-use Rattle.std.proofs.Common.{ap, length, [], refl}
+use Rattle.std.proofs.Common.{ap, length, arith, [], refl}
 use Rattle.fof_terms.specs.Scope.{scope_sorts}
 use Rattle.fof_terms.specs.declared.sorting.Scope.{Outside}
 use Rattle.derive_kit.specs.Built.{ok_map}
 use Rattle.clause_proofs.proofs.Joints.{part_is}
-use Rattle.clause_proofs.proofs.LineGoals.{scope_is, goal_in, shown_in}
+use Rattle.clause_proofs.proofs.LineGoals.{few_sorts, scope_is, goal_in, shown_in}
 use Rattle.clause_proofs.proofs.Factors.{one_reach, one_exists, factored_of, one_sorted, one_shown}
 use Rattle.clause_proofs.proofs.eqfactor.factor_opened.Goals as goal
+
+pub few_variables_of-requires : goal.few_variables_of-requires
+few_variables_of-requires c =
+    omega (arith, ap length c.as_slice-own.ensures, ap length c.as_slice-sorts.ensures, few_sorts c.args.signature.now c.args.line.now c.args.opened.now.clause c.args.opened.now.is_or c.requires.line.ready c.requires.line.opening.1, few_sorts c.args.signature.now c.args.parent.now.form c.args.clause.now.clause c.args.clause.now.is_or c.requires.parent.ready c.requires.parent.opening.1)
 
 pub refute_factor-requires-clause-factored : goal.refute_factor-requires-clause-factored
 refute_factor-requires-clause-factored c =

@@ -11,9 +11,9 @@ use Rattle.clause_proofs.proofs.paramodulation.paramodulant.Goals as goal
 
 pub by_equation-requires-clause-rewriting : goal.by_equation-requires-clause-rewriting
 by_equation-requires-clause-rewriting c =
-    let mark : c.in_ok-mark.mark ≡ length c.args.images.now = c.in_ok-mark.ensures ∙ c.len.ensures ∙ ap length c.images.view_is in
+    let mark : c.len-mark.result ≡ length c.args.images.now = c.len-mark.ensures ∙ ap length c.images.view_is in
     paramodulant_rewrites c.args.signature.now (scope_sorts c.args.scope.now) c.args.images.now c.args.lits.now c.args.into.lits c.requires.instances c.args.line.now.clause.lits c.args.from.lits c.args.change.now.into_lit c.args.change.now.at c.args.change.now.from_lit c.args.change.now.flipped c.requires.paramodulant c.requires.place c.as_slice-2.result.now
-    (marks_here c.args.images.now c.args.lits.now c.args.change.now.into_lit c.args.change.now.at c.requires.place c.in_ok-marked.marked c.as_slice-2.result.now c.in_ok-mark.mark c.as_slice-2.ensures mark c.in_ok-marked.ensures)
+    (marks_here c.args.images.now c.args.lits.now c.args.change.now.into_lit c.args.change.now.at c.requires.place c.in_ok-marked.marked c.as_slice-2.result.now c.len-mark.result c.as_slice-2.ensures mark c.in_ok-marked.ensures)
     c.in_ok-equation.equation (c.in_ok-equation.ensures ∙ there_at c.args.from.lits c.as_slice.result.now c.args.change.now.from_lit (equation c.args.change.now.flipped c.requires.paramodulant.left c.requires.paramodulant.right) c.index-as_slice-change.result c.as_slice.ensures c.requires.paramodulant.in_from c.index-as_slice-change.is)
 
 pub by_equation-requires-clause-settled : goal.by_equation-requires-clause-settled

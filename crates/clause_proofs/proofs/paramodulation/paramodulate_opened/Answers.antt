@@ -2,9 +2,13 @@ use Rattle.std.proofs.Common.{ap, length, ◌+◌, arith}
 use Rattle.fof_terms.specs.Scope.{scope_sorts}
 use Rattle.fof_terms.specs.declared.sorting.Scope.{Outside}
 use Rattle.derive_kit.specs.Built.{ok_map}
+use Rattle.clause_proofs.proofs.FewImages.{few_images}
 use Rattle.clause_proofs.proofs.Joints.{part_is, reach_is, parents_exist, paramodulant_of, left_are, left_premise_sorted, right_premise_sorted, left_shown, right_shown}
 use Rattle.clause_proofs.proofs.LineGoals.{scope_is, goal_in, shown_in}
 use Rattle.clause_proofs.proofs.paramodulation.paramodulate_opened.Goals as goal
+
+pub paramodulant-requires-clause-few : goal.paramodulant-requires-clause-few
+paramodulant-requires-clause-few c = few_images c.args.signature.now c.args.left.now.form c.args.left_opened.now c.args.subst.now c.in_ok-images.images (length c.args.opened.now.clause.sorts) c.requires.left (part_is c.args.subst.now c.in_ok-images.images _ _ (length c.args.left_opened.now.clause.sorts) (length c.args.opened.now.clause.sorts) c.in_ok-images.ensures (ap length c.as_slice-left_sorts.ensures) (ap length c.as_slice-own.ensures))
 
 pub paramodulant-requires-clause-paramodulant : goal.paramodulant-requires-clause-paramodulant
 paramodulant-requires-clause-paramodulant c =

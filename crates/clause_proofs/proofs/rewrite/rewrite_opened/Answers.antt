@@ -1,8 +1,9 @@
-use Rattle.std.proofs.Common.{ap, length, ◌+◌, arith}
+use Rattle.std.proofs.Common.{ap, length}
 use Rattle.fof_terms.specs.Scope.{scope_sorts}
 use Rattle.fof_terms.specs.declared.sorting.Scope.{Outside}
 use Rattle.derive_kit.specs.Built.{ok_map}
 use Rattle.clause_proofs.proofs.Chains.{rewriting_here, equation_sorted, clause_shown, equation_shown, matching_size, joint_size}
+use Rattle.clause_proofs.proofs.FewImages.{few_images}
 use Rattle.clause_proofs.proofs.Joints.{part_is, reach_is, parents_exist}
 use Rattle.clause_proofs.proofs.LineGoals.{scope_is, goal_in, shown_in}
 use Rattle.clause_proofs.proofs.rewrite.rewrite_opened.Goals as goal
@@ -12,6 +13,9 @@ chained-requires-clause-matching c = matching_size c.args.signature.now c.args.l
 
 pub chained-requires-clause-subst : goal.chained-requires-clause-subst
 chained-requires-clause-subst c = joint_size c.args.signature.now c.args.opened.now.clause c.args.left_opened.now.clause c.args.right_opened.now.clause c.args.subst.now c.requires.joint
+
+pub rewriting-requires-clause-few : goal.rewriting-requires-clause-few
+rewriting-requires-clause-few c = few_images c.args.signature.now c.args.left.now.form c.args.left_opened.now c.args.subst.now c.in_ok-images.images (length c.args.opened.now.clause.sorts) c.requires.left (part_is c.args.subst.now c.in_ok-images.images _ _ (length c.args.left_opened.now.clause.sorts) (length c.args.opened.now.clause.sorts) c.in_ok-images.ensures (ap length c.as_slice-left_sorts.ensures) (ap length c.as_slice-own.ensures))
 
 pub rewriting-requires-clause-rewriting : goal.rewriting-requires-clause-rewriting
 rewriting-requires-clause-rewriting c =

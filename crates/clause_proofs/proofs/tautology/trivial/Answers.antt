@@ -1,15 +1,18 @@
-use Rattle.std.proofs.Common.{sym, subst, ap, ◌∙◌, arith, List, refl}
-use Rattle.std.specs.Prelude.{ℕ, ◌≡◌, Some, reverse, ◌++◌}
+use Rattle.std.proofs.Common.{sym, subst, ap, arith}
+use Rattle.std.specs.Prelude.{length}
 use Rattle.fof_terms.specs.Scope.{scope_sorts}
 use Rattle.fof_terms.specs.declared.sorting.Scope.{Outside}
 use Rattle.derive_kit.specs.Built.{ok_map}
 use Rattle.clause_form.specs.declared.clause.Clause.{Clause}
 use Rattle.clause_form.specs.Covers.{IsTrivial}
-use Rattle.clause_proofs.proofs.LineGoals.{Exist, scope_is, goal_in, shown_in, opened_clause}
+use Rattle.clause_proofs.proofs.LineGoals.{Exist, few_sorts, scope_is, goal_in, shown_in, opened_clause}
 use Rattle.clause_proofs.proofs.tautology.trivial.Goals as goal
 
 pub known_clause-requires : goal.known_clause-requires
 known_clause-requires c = (c.requires.trivial.0, c.requires.trivial.1)
+
+pub few_variables_of-requires : goal.few_variables_of-requires
+few_variables_of-requires c = omega (arith, ap length c.as_slice.ensures, few_sorts c.args.signature.now c.args.line.now c.in_ok-opened.opened.clause c.in_ok-opened.opened.is_or c.requires.ready c.in_ok-opened.ensures.1)
 
 pub true_by_form-requires-clause-trivial : goal.true_by_form-requires-clause-trivial
 true_by_form-requires-clause-trivial c = subst (λ (x : Clause). IsTrivial x.lits) (sym (opened_clause c.args.line.now c.in_ok-opened.opened c.requires.trivial.0 c.in_ok-opened.ensures c.requires.trivial.1)) c.requires.trivial.2

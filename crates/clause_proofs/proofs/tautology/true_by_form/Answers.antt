@@ -1,13 +1,15 @@
-use Rattle.std.proofs.Common.{sym, subst, ap, ◌∙◌, arith, List}
+use Rattle.std.proofs.Common.{sym, subst, List}
 use Rattle.fof_terms.specs.Scope.{scope_sorts}
 use Rattle.fof_terms.specs.Sorts.{Sorted}
-use Rattle.derive_kit.specs.Built.{ok_map}
 use Rattle.clause_form.specs.declared.clause.Lit.{Lit}
 use Rattle.clause_form.specs.ClauseView.{form_of_lit}
-use Rattle.clause_proofs.specs.Refuting.{body}
+use Rattle.clause_form.specs.Covers.{IsTrivial}
 use Rattle.clause_proofs.proofs.CoveredLiterals.{there_at, in_line_sorted}
 use Rattle.std.specs.Prelude.{slice_get, ◌≡◌, Some}
 use Rattle.clause_proofs.proofs.tautology.true_by_form.Goals as goal
+
+pub unreachable-requires : goal.unreachable-requires
+unreachable-requires c = c.in-None.ensures.none (subst (λ (ls : List Lit). IsTrivial ls) (sym c.as_slice-lits.ensures) c.requires.trivial)
 
 pub both_covered-requires-clause-sorted : goal.both_covered-requires-clause-sorted
 both_covered-requires-clause-sorted c =
