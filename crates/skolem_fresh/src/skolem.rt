@@ -45,20 +45,10 @@ pub fn skolem_step(
         let parent = &parents[i].form;
         let found = given_by(alloc, theory, parent, made.get(), leaves.as_slice())?;
         if let Some(uses) = found {
-            return justified(i, uses);
+            return Ok(Some(SkolemJust::Skolem { parent: i, uses }));
         }
     }
     Ok(None)
-}
-
-// The justification with this parent.
-fn justified(i: usize, uses: List<Use>) -> Result<Option<SkolemJust>, Memory>
-    ensures { IfOk result (λ just. just ≡ Some (Skolem i uses)) }
-{
-    match u32::try_from(i) {
-        Ok(parent) => Ok(Some(SkolemJust::Skolem { parent, uses })),
-        Err(_) => Err(Memory),
-    }
 }
 
 // The normal form of the formula, if its norm size is not over the limit.
