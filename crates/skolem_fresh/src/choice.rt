@@ -1,5 +1,5 @@
 // The rule `choice`.
-ghost use Rattle.std.specs.Prelude.{◌≡◌, [], IfOk, MatchOption};
+ghost use Rattle.std.specs.Prelude.{[], IfOk, MatchOption};
 ghost use Rattle.fof_terms.specs.Scope.{scope_sorts};
 ghost use Rattle.fof_terms.specs.Sorts.{SortedTo};
 ghost use Rattle.fof_terms.specs.declared.form.Form.{Imp};

@@ -1,12 +1,11 @@
 // The rule `skolem`.
-ghost use Rattle.std.specs.Prelude.{◌≡◌, ◌↔◌, ◌<◌, ◌≤◌, [], Some, IfOk, IsTrue, MatchOption};
+ghost use Rattle.std.specs.Prelude.{◌≡◌, ◌↔◌, ◌<◌, ◌≤◌, [], IfOk, IsTrue, MatchOption};
 ghost use Rattle.std.specs.List.{All as Each, AllByRecursion};
 ghost use Rattle.fof_terms.specs.Sorts.{SortedTo};
 ghost use Rattle.clause_form.specs.Sizes.{norm_size_of};
 ghost use Rattle.clause_form.specs.declared.path.Parent.{Parent as Stated};
 ghost use Rattle.kernel.specs.Entries.{IsFresh};
 ghost use Rattle.skolem_fresh.specs.declared.just.Use.{Use as Used};
-ghost use Rattle.skolem_fresh.specs.declared.just.SkolemJust.TheVariants.{Skolem};
 ghost use Rattle.skolem_fresh.specs.Justified.{ShowsSkolem};
 ghost use Rattle.skolem_fresh.specs.Leaves.{leaves_of};
 ghost use Rattle.skolem_fresh.specs.SkolemRule.{HasNorm, IsSkolemStep, forms_of};
