@@ -1,7 +1,7 @@
 -- Lines that say of functions that they choose.
 use Rattle.std.specs.Prelude.{ℕ, ◌≡◌, ◌+◌, ◌-◌, ◌<◌, ◌≤◌, ◌==◌, Bool, true, false, IsTrue, ◌↔◌, nat_eq, List, [], ◌∷◌, ◌++◌, length, reverse, Option, Some, None, get_or, slice_get, refl}
 use Rattle.std.specs.List.{AllByRecursion as Each, IsDistinct}
-use Rattle.std.proofs.Common.{ap, sym, subst, ◌∙◌, arith, append_assoc, zero, suc}
+use Rattle.std.proofs.Common.{ap, sym, subst, ◌∙◌, arith, append_assoc}
 use Rattle.std.proofs.lemmas.List.{reverse-append, append-nil}
 use Rattle.fof_terms.specs.declared.form.Form.{Form, Imp, All}
 use Rattle.fof_terms.specs.declared.form.Form.TheOpen as form
@@ -9,15 +9,14 @@ use Rattle.fof_terms.specs.declared.form.Form.TheViews.{out-Form, outs-All, outs
 use Rattle.fof_terms.specs.Vocabulary.{Vocabulary}
 use Rattle.fof_terms.specs.Trees.{All-injective, Imp-injective}
 use Rattle.fof_terms.specs.Occurs.{occurs_in}
-use Rattle.fof_terms.specs.Sorts.{Sorted, SortedTo, binder_depth, binder_depth-Imp, binder_depth-All}
+use Rattle.fof_terms.specs.Sorts.{SortedTo, binder_depth, binder_depth-Imp, binder_depth-All}
 use Rattle.fof_terms.specs.Scoped.{raised, sorted_of_imp, sorted_of_all}
 use Rattle.kernel.specs.Statements.{Statements}
 use Rattle.kernel.specs.Entries.{for_all, IsFresh}
 use Rattle.skolem_fresh.specs.declared.just.Use.{Use}
-use Rattle.skolem_fresh.specs.Heads.{is_head, is_head-Imp, is_head-All}
 use Rattle.skolem_fresh.specs.Leading.{leading}
 use Rattle.skolem_fresh.specs.Only.{only_has}
-use Rattle.skolem_fresh.specs.Uses.{functions_of, Fits, AreArguments, AreNew}
+use Rattle.skolem_fresh.specs.Uses.{functions_of, Fits, AreArguments}
 use Rattle.skolem_fresh.specs.ChoiceRule.{IsOpened, MayChooseFor, Chooses, IsChoiceStep}
 use Rattle.skolem_fresh.specs.Choosing.{IsWithin, IsRead, IsChosen, ChoosesUnder, IsChosenUnder, IsFree, MayChooseIfFit}
 use Rattle.skolem_fresh.proofs.Distinct.{among_contains, contains_among}
@@ -140,13 +139,14 @@ scope_under s sorts scope = ap (λ (ss : List ℕ). ss ++ scope) (reverse-append
 pub never_both : (s : ℕ) (a l r : Form) → All s a ≡ Imp l r → ⊥
 never_both s a l r e = let layers : form.All s a ≡ form.Imp l r = sym (outs-All s a) ∙ ap out-Form e ∙ outs-Imp l r in cc
 
-head_of : (sorts : List ℕ) (l r : Form) → is_head (for_all sorts (Imp l r)) ≡ true
-head_of [] l r = is_head-Imp l r
-head_of (s ∷ sorts) l r = is_head-All s (for_all sorts (Imp l r))
+-- a line over some sorts is universal, or an implication
+pub line_kinds : (line l r : Form) → ((s : ℕ) (a : Form) → line ≡ All s a → ⊥) → ((a b : Form) → line ≡ Imp a b → ⊥) → (sorts : List ℕ) → line ≡ for_all sorts (Imp l r) → ⊥
+line_kinds line l r no_all no_imp [] is = no_imp l r is
+line_kinds line l r no_all no_imp (s ∷ sorts) is = no_all s (for_all sorts (Imp l r)) is
 
 module _ (t : Statements) (scope : List ℕ) (line : Form) where
-  pub no_head : (b : Bool) → b ≡ false → b ≡ is_head line → IsChosenUnder t scope line None
-  no_head b e f sorts left right k uses c = let on_ : is_head line ≡ true = ap is_head c.is ∙ head_of sorts left right in let off : is_head line ≡ false = sym f ∙ e in cc
+  pub other_kind : ((s : ℕ) (a : Form) → line ≡ All s a → ⊥) → ((a b : Form) → line ≡ Imp a b → ⊥) → IsChosenUnder t scope line None
+  other_kind no_all no_imp sorts left right k uses c = line_kinds line left right no_all no_imp sorts c.is
 
   not_under : (s : ℕ) (body : Form) → line ≡ All s body → IsChosenUnder t (s ∷ scope) body None → (left right : Form) (k : ℕ) (uses : List Use) (sorts : List ℕ) → ChoosesUnder t scope line sorts left right k uses → ⊥
   not_under s body is h left right k uses [] c = never_both s body left right (sym is ∙ c.is)

@@ -1,14 +1,14 @@
 -- The steps of the proof that functions lead to, as code makes them.
-use Rattle.std.specs.Prelude.{ℕ, ◌≡◌, ◌+◌, ◌-◌, ◌<◌, ◌≤◌, ◌^◌, Bool, true, false, List, [], ◌∷◌, ◌++◌, length, map, take, drop, slice_get, Some, refl}
-use Rattle.std.specs.List.{AllByRecursion as Each}
+use Rattle.std.specs.Prelude.{ℕ, ◌≡◌, ◌+◌, ◌-◌, ◌<◌, ◌≤◌, ◌^◌, true, false, List, [], ◌∷◌, ◌++◌, length, map, take, drop, get_or, Some, refl}
 use Rattle.std.proofs.Common.{ap, sym, subst, ◌∙◌, arith, append_assoc, inl, inr, zero, suc}
-use Rattle.std.proofs.lemmas.List.{append-nil, take_all}
+use Rattle.std.proofs.lemmas.List.{append-nil, take_all, take_rest}
+use Rattle.std.proofs.lemmas.Option.{slice_get-get_or}
 use Rattle.fof_terms.specs.declared.term.Term.{Var}
 use Rattle.fof_terms.specs.declared.form.Form.{Form, Ex, Imp}
 use Rattle.fof_terms.specs.Vocabulary.{Vocabulary}
 use Rattle.fof_terms.specs.Instance.{instance_of, instance_at, instance_reach}
 use Rattle.fof_terms.specs.Variables.{has_variable}
-use Rattle.fof_terms.specs.Sorts.{Sorted, binder_depth}
+use Rattle.fof_terms.specs.Sorts.{binder_depth}
 use Rattle.kernel.specs.Statements.{Statements}
 use Rattle.kernel.specs.Proves.{Proves}
 use Rattle.kernel.specs.Building.{by_line, by_imp_e}
@@ -20,10 +20,20 @@ use Rattle.fof_terms.specs.declared.term.Term.{Term}
 use Rattle.skolem_fresh.specs.declared.just.Use.{Use}
 use Rattle.skolem_fresh.specs.Renamed.{renamed}
 use Rattle.skolem_fresh.specs.Uses.{value_of}
+use Rattle.skolem_fresh.specs.ChoiceRule.{IsOpened}
 use Rattle.skolem_fresh.specs.Choosing.{IsWithin}
 use Rattle.skolem_fresh.specs.Told.{AreTold, IsOpenable, Leads, IsLed}
 use Rattle.skolem_fresh.proofs.Opened.{body_room, value_reaches, unused_reaches, more_than_none}
 use Rattle.skolem_fresh.proofs.Openable.{first_use, open_unused, open_used, opened_ways, fits_sort, few_all, PartShows, unused_leads, used_leads}
+
+-- what is to be opened is existential
+pub opens_some : (count : ℕ) (uses : List Use) (form right : Form) → (count ≡ 0 → ⊥) → IsOpened count uses form right → ((s : ℕ) (b : Form) → form ≡ Ex s b → ⊥) → ⊥
+opens_some zero uses form right some o none = some refl
+opens_some (suc k) uses form right some o none = none o.0 o.1 o.2
+
+not_empty : (uses : List Use) → (uses ≡ [] → ⊥) → 0 < length uses
+not_empty [] h = absurd (h refl)
+not_empty (u ∷ uses) h = omega arith
 
 -- nothing to open
 pub led_none : (count : ℕ) (uses : List Use) (form right : Form) (n : ℕ) (part : Proof) (old : List Entry) → count ≡ 0 → IsLed count uses form right n part old old part
@@ -68,12 +78,15 @@ module _ (count s : ℕ) (form body b0 right : Form) (uses : List Use) (some : c
       lead_used next e = rw e (open_used v scope (count - 1) s form body right form_is uses tail u parts on_ again)
 
     -- there is a function where the variable occurs
-    pub lead_some : has_variable 0 body ≡ true → uses ≡ [] → ⊥
-    lead_some on_ e =
+    pub lead_some : has_variable 0 body ≡ true → 0 < length uses
+    lead_some on_ = not_empty uses (λ e.
         elim (opened_ways v scope (count - 1) s form body right form_is uses again.opened) [
           | inl h ↦ let never : [] ≡ h.1.0 ∷ h.1.1 = sym e ∙ h.1.2 in cc
           | inr h ↦ let never : true ≡ false = sym on_ ∙ h.0 in cc
-        ]
+        ])
+
+    pub lead_first : has_variable 0 body ≡ true → (u : Use) → u ≡ get_or uses 0 u → uses ≡ u ∷ take (length uses - 1) (drop 1 uses)
+    lead_first on_ u is = first_use uses (take (length uses - 1) (drop 1 uses)) u (slice_get-get_or uses 0 u (lead_some on_) ∙ ap Some (sym is)) (take_rest uses 1)
 
   module _ (n : ℕ) (old new : List Entry) (part step made : Proof) (next : Form) where
     pub led_unused : (goal : Form) (own : Proof) → has_variable 0 body ≡ false → next ≡ instance_of body (Var 0) → goal ≡ next → own ≡ Hyp 0 → step ≡ ExE goal part own → IsLed (count - 1) uses next right n step old new made

@@ -3,7 +3,7 @@ use Rattle.std.specs.Prelude.{ℕ, ◌≡◌, ◌+◌, ◌-◌, ◌<◌, ◌≤�
 use Rattle.std.specs.List.{AllByRecursion as Each}
 use Rattle.std.specs.Option.{option_map}
 use Rattle.std.proofs.Common.{ap, sym, subst, ◌∙◌, arith, append_assoc, ◌⊎◌, inl, inr, zero, suc}
-use Rattle.fof_terms.specs.declared.term.Term.{Term, Var, App}
+use Rattle.fof_terms.specs.declared.term.Term.{Term, Var}
 use Rattle.fof_terms.specs.declared.term.Term.TheOpen as term
 use Rattle.fof_terms.specs.declared.term.Term.TheViews.{out-Term}
 use Rattle.fof_terms.specs.declared.form.Form.{Form, Ex}
@@ -11,9 +11,8 @@ use Rattle.fof_terms.specs.Vocabulary.{Vocabulary}
 use Rattle.fof_terms.specs.Trees.{Ex-injective}
 use Rattle.fof_terms.specs.Induction.{form_induction}
 use Rattle.fof_terms.specs.Instance.{instance_of, instance_at, instance_term, instance_reach}
-use Rattle.fof_terms.specs.Lift.{lifted}
 use Rattle.fof_terms.specs.Variables.{has_variable}
-use Rattle.fof_terms.specs.Sorts.{Sorted, SortedTo, IsScope, sort_of_term, binder_depth, binder_depth-Ex}
+use Rattle.fof_terms.specs.Sorts.{SortedTo, sort_of_term, binder_depth, binder_depth-Ex}
 use Rattle.fof_terms.specs.Scoped.{sorted_of_ex}
 use Rattle.fof_terms.specs.Moved.{body_instance_sorted, of_lifted_over}
 use Rattle.fof_terms.specs.MoreReaches.{instance_reach_fits}
@@ -81,6 +80,20 @@ pub read_sort : (s : ℕ) (ls ms : List Leaf) (u : Use) → read s ls ms ≡ Som
 read_sort s [] ms u e = cc
 read_sort s (l ∷ ls) [] u e = cc
 read_sort s (l ∷ ls) (m ∷ ms) u e = read_or_sort (read s ls ms) (found_term l.depth l.term m.term) m.depth s u (read_sort s ls ms u) e
+
+-- a formula that begins with existential quantifiers is existential
+pub leading_none : (a : Form) → ((s : ℕ) (b : Form) → a ≡ Ex s b → ⊥) → leading a ≡ 0
+leading_none = form_induction (λ a. ((s : ℕ) (b : Form) → a ≡ Ex s b → ⊥) → leading a ≡ 0) (record {
+  atom = λ p ts none. leading-Atom p ts;
+  eq = λ l r none. leading-Eq l r;
+  not = λ a ih none. leading-Not a;
+  and = λ as_ all none. leading-And as_;
+  or = λ as_ all none. leading-Or as_;
+  imp = λ a b ih jh none. leading-Imp a b;
+  iff = λ a b ih jh none. leading-Iff a b;
+  all = λ s a ih none. leading-All s a;
+  ex = λ s a ih none. absurd (none s a refl);
+})
 
 -- how many quantifiers it begins with
 leading_walk : (f : ℕ → Term → Term) (g : ℕ → Form → Form) → FormWalk f g → (a : Form) (d : ℕ) → leading (g d a) ≡ leading a

@@ -1,20 +1,18 @@
 -- Lines that say of functions that they choose, taken apart.
-use Rattle.std.specs.Prelude.{ℕ, ◌≡◌, ◌+◌, ◌-◌, ◌<◌, ◌≤◌, ◌^◌, ◌||◌, ◌==◌, Bool, true, false, nat_eq, List, [], ◌∷◌, ◌++◌, length, map, reverse, slice_get, Option, Some, None, refl}
-use Rattle.std.specs.List.{AllByRecursion as Each, All as Every, IsDistinct}
-use Rattle.std.proofs.Common.{ap, sym, subst, ◌∙◌, arith, append_assoc, ◌⊎◌, inl, inr, zero, suc}
+use Rattle.std.specs.Prelude.{ℕ, ◌≡◌, ◌-◌, ◌<◌, ◌≤◌, ◌^◌, ◌||◌, ◌==◌, Bool, true, false, List, [], ◌∷◌, ◌++◌, length, reverse, slice_get, Some, refl}
+use Rattle.std.specs.List.{AllByRecursion as Each}
+use Rattle.std.proofs.Common.{ap, sym, subst, ◌∙◌, arith, append_assoc, ◌⊎◌, inl, inr}
 use Rattle.std.proofs.lemmas.Bool.Decides.{nat_tests}
 use Rattle.std.proofs.lemmas.Option.{slice_get_within}
 use Rattle.std.proofs.lemmas.List.{append-nil}
 use Rattle.std.proofs.lemmas.Map.Steps.{length-le_from_distinct_below}
-use Rattle.fof_terms.specs.declared.form.Form.{Form, Imp, All, Ex}
+use Rattle.fof_terms.specs.declared.form.Form.{Form, Imp, All}
 use Rattle.fof_terms.specs.Vocabulary.{Vocabulary}
 use Rattle.fof_terms.specs.Trees.{Imp-injective, All-injective}
 use Rattle.fof_terms.specs.Occurs.{occurs_in, occurs_in-Imp}
 use Rattle.fof_terms.specs.Sorts.{Sorted, SortedTo, is_sort, are_sorts, sort_of_term, sort_of_term-Var, binder_depth}
-use Rattle.fof_terms.specs.Scoped.{raised}
 use Rattle.fof_terms.specs.Laws.{both}
 use Rattle.fof_terms.specs.declared.term.Term.{Var}
-use Rattle.fof_terms.specs.Variables.{has_variable}
 use Rattle.kernel.specs.Statements.{Statements}
 use Rattle.kernel.specs.Proves.{Proves, all_over}
 use Rattle.kernel.specs.Building.{by_hyp, by_imp_i, by_all_i}
@@ -23,17 +21,17 @@ use Rattle.kernel.specs.EntryLaws.{admits_more}
 use Rattle.kernel.specs.declared.proof.Proof.{Proof, Hyp, ImpI, AllI}
 use Rattle.kernel.specs.declared.entry.Entry.{Entry}
 use Rattle.kernel.specs.declared.entry.Entry.TheVariants.{Lemma}
-use Rattle.derive_kit.specs.Derived.{IsDerivedFrom, HasCited, Adds, SpeakOf, with_formulas}
+use Rattle.derive_kit.specs.Derived.{IsDerivedFrom, HasCited, Adds, with_formulas}
 use Rattle.skolem_fresh.specs.declared.just.Use.{Use}
 use Rattle.skolem_fresh.specs.declared.just.SkolemJust.{SkolemJust}
-use Rattle.skolem_fresh.specs.declared.just.SkolemJust.TheVariants.{Choice}
+use Rattle.skolem_fresh.specs.declared.just.SkolemJust.TheVariants.{Skolem, Choice}
 use Rattle.skolem_fresh.specs.Justified.{ShowsChoice}
 use Rattle.skolem_fresh.specs.Leading.{leading}
 use Rattle.skolem_fresh.specs.Only.{is_among, only_has}
-use Rattle.skolem_fresh.specs.Uses.{Fits, AreArguments, AreNew}
+use Rattle.skolem_fresh.specs.Uses.{Fits, AreArguments}
 use Rattle.skolem_fresh.specs.ChoiceRule.{IsOpened, MayChooseFor, Chooses}
 use Rattle.skolem_fresh.specs.Choosing.{IsWithin, ChoosesUnder}
-use Rattle.skolem_fresh.specs.Told.{AreTold, AddedFrom, IsOpenable, Leads, IsLed, IsTellable, ToldUnder, ShowsUnder, IsShown}
+use Rattle.skolem_fresh.specs.Told.{AreTold, IsOpenable, IsLed, IsTellable, ToldUnder, IsShown}
 use Rattle.skolem_fresh.proofs.Chosen.{scope_under, never_both, imp_room, within_all, within_left, within_start, arguments_only}
 use Rattle.skolem_fresh.proofs.Distinct.{same_among}
 use Rattle.skolem_fresh.proofs.Opened.{leading_opened}
@@ -223,6 +221,10 @@ module _ (line l0 r0 l r : Form) (uses : List Use) (is : line ≡ Imp l0 r0) (el
       shown_imp line l r uses imp_is n old new part made (em ∙ ap (λ a. ImpI a part) ef) p'
 
 -- as code meets the whole
+pub is_choice : (t : Statements) (line : Form) (just : SkolemJust) → ShowsChoice t line just → ((uses : List Use) → just ≡ Choice uses → ⊥) → ⊥
+is_choice t line (Skolem i uses) h none = h
+is_choice t line (Choice uses) h none = none uses refl
+
 pub told_from : (t : Statements) (line : Form) (just : SkolemJust) (uses slice : List Use) → just ≡ Choice uses → slice ≡ uses → SortedTo 1000000000 t.vocabulary [] line → ShowsChoice t line just → IsTellable t [] line slice
 told_from t line just uses slice ej es s h =
     let c : ShowsChoice t line (Choice uses) = subst (ShowsChoice t line) ej h in

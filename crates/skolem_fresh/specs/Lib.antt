@@ -2,7 +2,6 @@ pub mod Alike
 pub mod ChoiceRule
 pub mod Choosing
 pub mod Entered
-pub mod Heads
 pub mod Justified
 pub mod Leading
 pub mod Leaves

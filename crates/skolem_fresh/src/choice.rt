@@ -1,11 +1,10 @@
 // The rule `choice`.
-ghost use Rattle.std.specs.Prelude.{◌≡◌, [], IfOk, MatchOption};
+ghost use Rattle.std.specs.Prelude.{[], IfOk, MatchOption};
 ghost use Rattle.fof_terms.specs.Scope.{scope_sorts};
 ghost use Rattle.fof_terms.specs.Sorts.{SortedTo};
 ghost use Rattle.fof_terms.specs.declared.form.Form.{Imp};
 ghost use Rattle.skolem_fresh.specs.ChoiceRule.{IsChoiceStep};
 ghost use Rattle.skolem_fresh.specs.Choosing.{IsChosen, IsChosenUnder, IsWithin};
-ghost use Rattle.skolem_fresh.specs.Heads.{is_head as is_head_of};
 ghost use Rattle.skolem_fresh.specs.Justified.{ShowsChoice};
 
 use crate::choosing::may_choose;
@@ -43,32 +42,12 @@ fn chosen_under(
     requires { IsWithin theory.now.vocabulary (scope_sorts scope.now) line.now }
     ensures { IfOk result (λ answer. IsChosenUnder theory.now (scope_sorts scope.now) line.now answer) }
 {
-    if !is_head(line) {
-        return Ok(None);
-    }
     match line {
         Form::All(sort, body) => {
             chosen_under(alloc, theory, &Scope::Under(*sort, &*scope), body.get())
         }
         Form::Imp(left, right) => chosen(alloc, theory, scope, left.get(), right.get()),
-        _ => Err(Memory),
-    }
-}
-
-// Whether the formula is an implication or universal.
-#[tactic(auto, using(crate::specs::Heads::head_equations))]
-fn is_head(form: &Form) -> bool
-    ensures { result ≡ is_head_of form.now }
-{
-    match form {
-        Form::All(_, _) | Form::Imp(_, _) => true,
-        Form::Atom(_, _)
-        | Form::Eq(_, _)
-        | Form::Not(_)
-        | Form::And(_)
-        | Form::Or(_)
-        | Form::Iff(_, _)
-        | Form::Ex(_, _) => false,
+        _ => Ok(None),
     }
 }
 

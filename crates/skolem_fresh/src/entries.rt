@@ -24,7 +24,7 @@ pub fn choice_entries(
     ensures { IfOk result (λ entries. (cites : Listed ℕ) → IsDerivedFrom theory.now cites entries line.now) }
 {
     let SkolemJust::Choice { uses } = just else {
-        return Err(Memory);
+        unreachable!()
     };
     let mut entries = List::new(alloc);
     let proof = tell(alloc, line, uses.as_slice(), theory.len(), &mut entries)?;

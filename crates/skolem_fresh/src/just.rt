@@ -18,7 +18,7 @@ pub struct Use {
 pub enum SkolemJust {
     /// The parent of that number, counted from 0, and a function for each existential quantifier of its normal form, from
     /// the left.
-    Skolem { parent: u32, uses: List<Use> },
+    Skolem { parent: usize, uses: List<Use> },
     /// A function for each of the existential variables that occur, the outermost first.
     Choice { uses: List<Use> },
 }

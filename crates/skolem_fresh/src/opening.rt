@@ -66,25 +66,23 @@ pub(crate) fn read_uses(
     if count == 0 {
         return Ok(equal(form, right));
     }
-    match form {
-        Form::Ex(sort, body) => {
-            match next_form(alloc, sig, scope, *sort, body.get(), leaves, uses)? {
-                Some(next) => {
-                    read_uses(
-                        alloc,
-                        sig,
-                        scope,
-                        count - 1,
-                        next.get(),
-                        right,
-                        leaves,
-                        uses,
-                    )
-                }
-                None => Ok(false),
-            }
+    let Form::Ex(sort, body) = form else {
+        unreachable!()
+    };
+    match next_form(alloc, sig, scope, *sort, body.get(), leaves, uses)? {
+        Some(next) => {
+            read_uses(
+                alloc,
+                sig,
+                scope,
+                count - 1,
+                next.get(),
+                right,
+                leaves,
+                uses,
+            )
         }
-        _ => Err(Memory),
+        None => Ok(false),
     }
 }
 

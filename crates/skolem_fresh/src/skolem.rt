@@ -1,12 +1,11 @@
 // The rule `skolem`.
-ghost use Rattle.std.specs.Prelude.{◌≡◌, ◌↔◌, ◌<◌, ◌≤◌, [], Some, IfOk, IsTrue, MatchOption};
+ghost use Rattle.std.specs.Prelude.{◌≡◌, ◌↔◌, ◌<◌, ◌≤◌, [], IfOk, IsTrue, MatchOption};
 ghost use Rattle.std.specs.List.{All as Each, AllByRecursion};
 ghost use Rattle.fof_terms.specs.Sorts.{SortedTo};
 ghost use Rattle.clause_form.specs.Sizes.{norm_size_of};
 ghost use Rattle.clause_form.specs.declared.path.Parent.{Parent as Stated};
 ghost use Rattle.kernel.specs.Entries.{IsFresh};
 ghost use Rattle.skolem_fresh.specs.declared.just.Use.{Use as Used};
-ghost use Rattle.skolem_fresh.specs.declared.just.SkolemJust.TheVariants.{Skolem};
 ghost use Rattle.skolem_fresh.specs.Justified.{ShowsSkolem};
 ghost use Rattle.skolem_fresh.specs.Leaves.{leaves_of};
 ghost use Rattle.skolem_fresh.specs.SkolemRule.{HasNorm, IsSkolemStep, forms_of};
@@ -45,20 +44,10 @@ pub fn skolem_step(
         let parent = &parents[i].form;
         let found = given_by(alloc, theory, parent, made.get(), leaves.as_slice())?;
         if let Some(uses) = found {
-            return justified(i, uses);
+            return Ok(Some(SkolemJust::Skolem { parent: i, uses }));
         }
     }
     Ok(None)
-}
-
-// The justification with this parent.
-fn justified(i: usize, uses: List<Use>) -> Result<Option<SkolemJust>, Memory>
-    ensures { IfOk result (λ just. just ≡ Some (Skolem i uses)) }
-{
-    match u32::try_from(i) {
-        Ok(parent) => Ok(Some(SkolemJust::Skolem { parent, uses })),
-        Err(_) => Err(Memory),
-    }
 }
 
 // The normal form of the formula, if its norm size is not over the limit.

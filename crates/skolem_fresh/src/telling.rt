@@ -55,7 +55,7 @@ pub(crate) fn tell(
             )?;
             imp_i(alloc, left.copy(alloc)?, part)
         }
-        _ => Err(Memory),
+        _ => unreachable!(),
     }
 }
 
@@ -77,48 +77,44 @@ fn lead(
     if count == 0 {
         return Ok(part);
     }
-    match form {
-        Form::Ex(_, body) => {
-            let body = body.get();
-            if !has_variable(body, 0) {
-                let next = Boxed::new(alloc, instantiate(alloc, body, &Term::Var(0))?)?;
-                let own = hyp(alloc, 0)?;
-                let part = ex_e(alloc, next.get().copy(alloc)?, part, own)?;
-                return lead(
-                    alloc,
-                    next.get(),
-                    right,
-                    uses,
-                    count - 1,
-                    first,
-                    part,
-                    entries,
-                );
-            }
-            if uses.is_empty() {
-                return Err(Memory);
-            }
-            let chosen = &uses[0];
-            if first == u64::MAX {
-                return Err(Memory);
-            }
-            let part = chosen_part(alloc, chosen, first, part)?;
-            let told = rename(alloc, chosen.variables.as_slice(), body, 1)?;
-            entries.push(Entry::Choice(chosen.function, told))?;
-            let next = next_of(alloc, body, chosen)?;
-            lead(
-                alloc,
-                next.get(),
-                right,
-                &uses[1..],
-                count - 1,
-                first + 1,
-                part,
-                entries,
-            )
-        }
-        _ => Err(Memory),
+    let Form::Ex(_, body) = form else {
+        unreachable!()
+    };
+    let body = body.get();
+    if !has_variable(body, 0) {
+        let next = Boxed::new(alloc, instantiate(alloc, body, &Term::Var(0))?)?;
+        let own = hyp(alloc, 0)?;
+        let part = ex_e(alloc, next.get().copy(alloc)?, part, own)?;
+        return lead(
+            alloc,
+            next.get(),
+            right,
+            uses,
+            count - 1,
+            first,
+            part,
+            entries,
+        );
     }
+    let chosen = &uses[0];
+    if first == u64::MAX {
+        // A limit of the type of numbers, which no memory reaches.
+        return Err(Memory);
+    }
+    let part = chosen_part(alloc, chosen, first, part)?;
+    let told = rename(alloc, chosen.variables.as_slice(), body, 1)?;
+    entries.push(Entry::Choice(chosen.function, told))?;
+    let next = next_of(alloc, body, chosen)?;
+    lead(
+        alloc,
+        next.get(),
+        right,
+        &uses[1..],
+        count - 1,
+        first + 1,
+        part,
+        entries,
+    )
 }
 
 // What stands under the quantifier, with the value of the function in place of its variable.

@@ -26,7 +26,7 @@ use Rattle.derive_kit.specs.Derived.{AreOfTheory, numbers_of, HasCited, Adds, Is
 use Rattle.derive_kit.specs.Placed.{SortedSomewhere}
 use Rattle.skolem_fresh.specs.declared.just.Use.{Use}
 use Rattle.skolem_fresh.specs.declared.just.SkolemJust.{SkolemJust}
-use Rattle.skolem_fresh.specs.declared.just.SkolemJust.TheVariants.{Skolem}
+use Rattle.skolem_fresh.specs.declared.just.SkolemJust.TheVariants.{Skolem, Choice}
 use Rattle.skolem_fresh.specs.Choosing.{IsWithin}
 use Rattle.skolem_fresh.specs.Entered.{formulas_told}
 use Rattle.skolem_fresh.specs.Justified.{ShowsSkolem}
@@ -80,6 +80,10 @@ somewhere v a s = (v, [], omega arith, raised v [] 1000000000 2147483647 a (omeg
 -- as code meets the justification
 pub shown_by : (t : Statements) (parents : List Parent) (line : Form) (just : SkolemJust) (i : ℕ) (uses slice : List Use) → just ≡ Skolem i uses → slice ≡ uses → ShowsSkolem t (forms_of parents) line just → ShowsSkolem t (forms_of parents) line (Skolem i slice)
 shown_by t parents line just i uses slice ej es h = subst (λ us. ShowsSkolem t (forms_of parents) line (Skolem i us)) (sym es) (subst (ShowsSkolem t (forms_of parents) line) ej h)
+
+pub is_skolem : (t : Statements) (parents : List Form) (line : Form) (just : SkolemJust) → ShowsSkolem t parents line just → ((i : ℕ) (uses : List Use) → just ≡ Skolem i uses → ⊥) → ⊥
+is_skolem t parents line (Skolem i uses) h none = none i uses refl
+is_skolem t parents line (Choice uses) h none = h
 
 module _ (t : Statements) (parents : List Parent) (line : Form) (i : ℕ) (uses : List Use) (shows : ShowsSkolem t (forms_of parents) line (Skolem i uses)) where
   pub there : i < length parents

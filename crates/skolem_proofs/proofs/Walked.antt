@@ -3,8 +3,8 @@ use Rattle.std.specs.Prelude.{ℕ, ◌≡◌, ◌+◌, ◌<◌, ◌^◌, Bool, t
 use Rattle.std.proofs.Common.{ap, sym, subst, ◌∙◌, arith, append_assoc, zero, suc}
 use Rattle.std.proofs.lemmas.List.{append-nil, length-append}
 use Rattle.fof_terms.specs.declared.term.Term.{Term}
-use Rattle.fof_terms.specs.declared.form.Form.{Form, Atom, Eq, Not, And, Or, All, Ex}
-use Rattle.fof_terms.specs.declared.form.Form.TheViews.{outs-Atom, outs-Eq, outs-Not}
+use Rattle.fof_terms.specs.declared.form.Form.{Form, Atom, Eq, Not, And, Or, Imp, Iff, All, Ex}
+use Rattle.fof_terms.specs.declared.form.Form.TheViews.{outs-Atom, outs-Eq, outs-Not, outs-Imp, outs-Iff}
 use Rattle.fof_terms.specs.Instance.{instance_of, instance_reach}
 use Rattle.fof_terms.specs.Sorts.{binder_depth}
 use Rattle.fof_terms.specs.Vocabulary.{Vocabulary}
@@ -81,6 +81,17 @@ module _ (a : Form) (v : Vocabulary) (scope : List ℕ) (us : List Use) (g : Goe
       let h' : IsSkolemized v scope ws (Not b) c = subst (λ x. IsSkolemized v scope ws x c) e h in
       let d : (ws ≡ []) × (c ≡ Not b) = subst (λ y. SkolemizedIn v scope ws y (Not b) c) (outs-Not b) (skolemized_in v scope ws (Not b) c h') in
       (d.0, d.1 ∙ sym e))
+
+-- It is neither an implication nor an equivalence.
+module _ (a : Form) (v : Vocabulary) (scope : List ℕ) (us : List Use) (g : Goes v scope a us) (l r : Form) where
+  at_form : (b : Form) → a ≡ b → IsSkolemized v scope g.taken b g.result
+  at_form b e = subst (λ c. IsSkolemized v scope g.taken c g.result) e g.is
+
+  pub no_implication : a ≡ Imp l r → ⊥
+  no_implication e = subst (λ y. SkolemizedIn v scope g.taken y (Imp l r) g.result) (outs-Imp l r) (skolemized_in v scope g.taken (Imp l r) g.result (at_form (Imp l r) e))
+
+  pub no_equivalence : a ≡ Iff l r → ⊥
+  no_equivalence e = subst (λ y. SkolemizedIn v scope g.taken y (Iff l r) g.result) (outs-Iff l r) (skolemized_in v scope g.taken (Iff l r) g.result (at_form (Iff l r) e))
 
 -- A node.
 module _ (conj : Bool) (a : Form) (members m0 : List Form) (is : a ≡ node conj m0) (em : members ≡ m0) where

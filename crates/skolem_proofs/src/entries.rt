@@ -38,9 +38,9 @@ pub fn skolem_entries(
     ensures choose { IfOk result (ChooseAndEnd just.now) }
 {
     let SkolemJust::Skolem { parent, uses } = just else {
-        return Err(Memory);
+        unreachable!()
     };
-    let parent = &parents[*parent as usize];
+    let parent = &parents[*parent];
     let norm = norm_signed(alloc, &parent.form, true)?;
     let made = skolem_proof(alloc, &norm, uses.as_slice(), theory.len())?;
     let Skolemized {

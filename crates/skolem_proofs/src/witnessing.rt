@@ -71,8 +71,8 @@ pub(crate) fn witness(
             Ok(Witnessed { form, part })
         }
         Form::Ex(sort, body) => witness_some(alloc, *sort, body.get(), uses, first, entries),
-        Form::Imp(_, _) => Err(Memory),
-        Form::Iff(_, _) => Err(Memory),
+        Form::Imp(_, _) => unreachable!(),
+        Form::Iff(_, _) => unreachable!(),
     }
 }
 
@@ -117,6 +117,7 @@ fn witness_some(
     prove!(at < uses.len());
     let chosen = &uses[at];
     let Some(number) = first.checked_add(at as u64) else {
+        // A limit of the type of numbers, which no memory reaches.
         return Err(Memory);
     };
     let step = chosen_part(alloc, chosen, number, hyp(alloc, 0)?)?;

@@ -2,11 +2,8 @@ use Rattle.std.proofs.Common.{rules}
 use Rattle.fof_terms.specs.Scope.{scope_sorts, scope_sorts-Under}
 use Rattle.fof_terms.specs.declared.form.Form.TheViews.{the_lemmas}
 use Rattle.skolem_fresh.proofs.Opened.{on_ok}
-use Rattle.skolem_fresh.proofs.Chosen.{code_within, code_all, code_imp, no_head}
+use Rattle.skolem_fresh.proofs.Chosen.{code_within, code_all, code_imp, other_kind}
 use Rattle.skolem_fresh.proofs.choice.+chosen_under.Goals as goal
-
-pub returns-then-not-is_head : goal.returns-then-not-is_head
-returns-then-not-is_head t c = no_head c.args.theory.now (scope_sorts c.args.scope.now) c.args.line.now c.is_head.result c.if-not-is_head.true c.is_head.ensures
 
 pub chosen_under-requires : goal.chosen_under-requires
 chosen_under-requires t c = (
@@ -25,3 +22,6 @@ returns-in-Imp t c =
     on_ok c.chosen.result
     (λ answer h. code_imp c.args.theory.now (scope_sorts c.args.scope.now) c.args.line.now c.in-Imp.left c.in-Imp.right c.get-in-Imp.result.now c.get-in-Imp-2.result.now answer c.in-Imp.is c.get-in-Imp.ensures c.get-in-Imp-2.ensures h)
     c.chosen.ensures
+
+pub returns-in_default : goal.returns-in_default
+returns-in_default t c = other_kind c.args.theory.now (scope_sorts c.args.scope.now) c.args.line.now c.in_default.not-All c.in_default.not-Imp

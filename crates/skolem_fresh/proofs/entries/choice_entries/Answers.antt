@@ -1,7 +1,9 @@
-use Rattle.std.proofs.Common.{sym, ap, subst, ◌∙◌, []}
-use Rattle.skolem_fresh.specs.Justified.{ShowsChoice}
-use Rattle.skolem_fresh.proofs.WholeLines.{tellable, derived, told_from, told_by}
+use Rattle.std.proofs.Common.{[]}
+use Rattle.skolem_fresh.proofs.WholeLines.{is_choice, told_from, told_by}
 use Rattle.skolem_fresh.proofs.entries.choice_entries.Goals as goal
+
+pub unreachable-requires : goal.unreachable-requires
+unreachable-requires c = is_choice c.args.theory.now c.args.line.now c.args.just.now c.requires.shows c.in_default.not-Choice
 
 pub tell-requires : goal.tell-requires
 tell-requires c = (c.args.theory.now, [], told_from c.args.theory.now c.args.line.now c.args.just.now c.in-Choice.uses c.as_slice.result.now c.in-Choice.is c.as_slice.ensures c.requires.ready c.requires.shows)

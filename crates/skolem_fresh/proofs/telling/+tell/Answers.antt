@@ -1,6 +1,7 @@
-use Rattle.std.proofs.Common.{rules, arith, sym, ap, refl, ◌∙◌, ◌∷◌, subst}
-use Rattle.fof_terms.specs.declared.form.Form.{All, Imp}
+use Rattle.std.proofs.Common.{rules, sym, ap, ◌∙◌, ◌∷◌}
+use Rattle.fof_terms.specs.declared.form.Form.{All}
 use Rattle.fof_terms.specs.declared.form.Form.TheViews.{the_lemmas}
+use Rattle.skolem_fresh.proofs.Chosen.{line_kinds}
 use Rattle.skolem_fresh.proofs.Opened.{on_ok}
 use Rattle.skolem_fresh.proofs.WholeLines.{inner, shown_all, imp_depths, imp_less, imp_openable_at, shown_imp_at}
 use Rattle.skolem_fresh.proofs.telling.+tell.Goals as goal
@@ -31,3 +32,6 @@ returns-in_ok-copy-in-Imp t c =
     on_ok c.imp_i.result
     (λ made e. shown_imp_at c.args.line.now c.in-Imp.left c.in-Imp.right c.get-left.result.now c.get-right.result.now c.args.uses.now c.in-Imp.is c.get-left.ensures c.get-right.ensures c.leading-before.result c.leading-after.result c.leading-before.ensures.value c.leading-after.ensures.value c.args.first c.args.entries.now c.lead.new.entries c.in_ok-own-in-Imp.own c.in_ok-part-in-Imp.part made c.in_ok-copy-in-Imp.field-0 c.in_ok-own-in-Imp.ensures c.in_ok-copy-in-Imp.ensures e c.in_ok-part-in-Imp.ensures)
     c.imp_i.ensures
+
+pub unreachable-requires : goal.unreachable-requires
+unreachable-requires t c = let d = c.requires.2 in line_kinds c.args.line.now d.left d.right c.in_default.not-All c.in_default.not-Imp d.sorts d.chooses.is

@@ -1,9 +1,13 @@
 use Rattle.std.proofs.Common.{sym, ap, ◌∙◌, ◌++◌, ◌∷◌, []}
 use Rattle.kernel.specs.declared.entry.Entry.TheVariants.{Lemma}
 use Rattle.skolem_fresh.specs.declared.just.SkolemJust.TheVariants.{Skolem}
+use Rattle.skolem_fresh.specs.SkolemRule.{forms_of}
 use Rattle.skolem_fresh.proofs.SkolemSteps.{parent_at}
-use Rattle.skolem_proofs.proofs.Lines.{somewhere, shown_by, there, parent_small, small, fits, result_small, result_somewhere, form_made, choose_and_end, derived}
+use Rattle.skolem_proofs.proofs.Lines.{somewhere, is_skolem, shown_by, there, parent_small, small, fits, result_small, result_somewhere, form_made, choose_and_end, derived}
 use Rattle.skolem_proofs.proofs.entries.skolem_entries.Goals as goal
+
+pub unreachable-requires : goal.unreachable-requires
+unreachable-requires c = is_skolem c.args.theory.now (forms_of c.args.parents.now) c.args.line.now c.args.just.now c.requires.shows c.in_default.not-Skolem
 
 pub skolem_proof-requires-clause-small : goal.skolem_proof-requires-clause-small
 skolem_proof-requires-clause-small c =

@@ -7,7 +7,7 @@ use Rattle.skolem_fresh.specs.Renamed.{renamed}
 use Rattle.skolem_fresh.specs.Uses.{value_of}
 use Rattle.skolem_fresh.proofs.WalkCode.{node_size, all_size, one_size, instance_size}
 use Rattle.skolem_proofs.specs.Witnessed.{cases, StepShows}
-use Rattle.skolem_proofs.proofs.Walked.{ok_both, atom_went, equation_went, negation_went, members_may, conjunction_went, disjunction_went, under_may, all_went, some_size, some_may, there_is, its_reach, its_room, next_may, some_went}
+use Rattle.skolem_proofs.proofs.Walked.{ok_both, no_implication, no_equivalence, atom_went, equation_went, negation_went, members_may, conjunction_went, disjunction_went, under_may, all_went, some_size, some_may, there_is, its_reach, its_room, next_may, some_went}
 use Rattle.skolem_proofs.proofs.Looped.{few_there, few_results, starts, one_goes, one_may, goes_on, numbered_on, ends}
 use Rattle.skolem_proofs.proofs.witnessing.+witness.Goals as goal
 
@@ -55,6 +55,12 @@ pub witness-returns-in-Not : goal.witness-returns-in-Not
 witness-returns-in-Not t c =
     ok_both c.itself-in-Not.result
     (λ made ef ep v scope g. negation_went c.args.form.now v scope (drop (length c.args.entries.now) c.args.uses.now) g (c.args.first + length c.args.entries.now) c.args.entries.now made.form made.part ef ep c.in-Not.field-0 c.in-Not.is) c.itself-in-Not.ensures.form c.itself-in-Not.ensures.part
+
+pub witness-unreachable-requires : goal.witness-unreachable-requires
+witness-unreachable-requires t c = no_implication c.args.form.now c.requires.0 c.requires.1 (drop (length c.args.entries.now) c.args.uses.now) c.requires.2.goes c.in-Imp.field-0 c.in-Imp.field-1 c.in-Imp.is
+
+pub witness-unreachable-requires-in-Iff : goal.witness-unreachable-requires-in-Iff
+witness-unreachable-requires-in-Iff t c = no_equivalence c.args.form.now c.requires.0 c.requires.1 (drop (length c.args.entries.now) c.args.uses.now) c.requires.2.goes c.in-Iff.field-0 c.in-Iff.field-1 c.in-Iff.is
 
 pub witness-returns-in_ok-part-in-And : goal.witness-returns-in_ok-part-in-And
 witness-returns-in_ok-part-in-And t c v scope g =
