@@ -1,10 +1,5 @@
-use Rattle.std.proofs.Common.{map}
-use Rattle.fof_terms.specs.declared.term.Term.{Var}
 use Rattle.split_defs.proofs.Derivation.{predicate_args, predicate_ok}
 use Rattle.split_defs.proofs.defining.predicate_entries.Goals as goal
-
-pub unreachable-requires : goal.unreachable-requires
-unreachable-requires c = c.in_default.not-Atom c.args.symbol (map Var c.requires.heads.1.0) c.requires.heads.1.1
 
 pub over_arguments-requires : goal.over_arguments-requires
 over_arguments-requires c =

@@ -13,9 +13,6 @@ use Rattle.split_defs.proofs.proving.by_stages.Goals as goal
 pub whole_of-requires : goal.whole_of-requires
 whole_of-requires c = rw c.as_slice.ensures (stages_fit c.args.sig.now c.args.parents.now c.args.line.now 1 c.args.stages c.requires.stages)
 
-pub contradicted-requires-clause-short : goal.contradicted-requires-clause-short
-contradicted-requires-clause-short c = rw c.as_slice-3.ensures c.requires.short
-
 pub contradicted-requires-clause-goals : goal.contradicted-requires-clause-goals
 contradicted-requires-clause-goals c =
     let whole_is = c.in_ok-whole.ensures.clause ∙ ap (λ (ss : List Stage). together (stage_clauses ss)) c.as_slice.ensures in
