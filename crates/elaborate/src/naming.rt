@@ -71,7 +71,7 @@ pub fn defined(alloc: Global, theory: &Theory, line: &Form) -> Result<Option<Lis
             let entries = definition_entries(alloc, theory, symbol, first, line)?;
             Ok(Some(entries))
         }
-        Some(SplitJust::Split { .. }) => Err(Memory),
+        Some(SplitJust::Split { .. }) => unreachable!(),
         None => Ok(None),
     }
 }

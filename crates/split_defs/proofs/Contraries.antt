@@ -80,6 +80,10 @@ module _ (w : Vocabulary) (parents : List Parent) (line : Form) (o : Opened) (r 
 pub sides_are : (e d : Clause) (form name meaning : Form) (n : Names e form d) → form ≡ Iff name meaning → (name ≡ Atom n.name []) × (meaning ≡ n.meaning)
 sides_are e d form name meaning n is = Iff-injective name meaning (Atom n.name []) n.meaning (sym is ∙ n.is)
 
+-- a parent that says what a name stands for is an equivalence
+pub is_equivalence : (parents : List Parent) (e : Clause) (a : ℕ) (r : Parent) → r ≡ get_or parents a r → (p : Parent) (d : Clause) → slice_get parents a ≡ Some p → Names e p.form d → ((name meaning : Form) → r.form ≡ Iff name meaning → ⊥) → ⊥
+is_equivalence parents e a r read p d there n other = other (Atom n.name []) n.meaning (ap (λ (x : Parent). x.form) (parent_at parents a p r there read) ∙ n.is)
+
 module _ (parents : List Parent) (e : Clause) (a : ℕ) (r : Parent) (read : r ≡ get_or parents a r) (name meaning : Form) (form : r.form ≡ Iff name meaning) (p : Parent) (d : Clause) (there : slice_get parents a ≡ Some p) (n : Names e p.form d) where
   same_parent : r ≡ p
   same_parent = parent_at parents a p r there read

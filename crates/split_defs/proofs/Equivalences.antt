@@ -10,6 +10,7 @@ use Rattle.kernel.specs.Building.{shown_sorted, by_imp_i, by_imp_e, by_iff_i, by
 use Rattle.kernel.specs.declared.proof.Proof.{Proof, Hyp, ImpI, IffI, IffL, IffR}
 use Rattle.derive_kit.specs.Built.{ok_map}
 use Rattle.derive_kit.specs.Steps.{first, second}
+use Rattle.split_defs.specs.DefinitionRule.{Relates}
 use Rattle.split_defs.specs.DefinitionSearch.{RelatesBy}
 use Rattle.split_defs.specs.Trees.{turned_tree, forth_tree, back_tree}
 use Rattle.split_defs.proofs.DefinitionEnds.{imp_not_iff}
@@ -42,6 +43,13 @@ module _ (t : Statements) (v : List ℕ) (h : List Form) (l r : Form) (p : Proof
       let to = by_iff_r t v (l ∷ h1) (Hyp 1) (Hyp 0) r l (second t v h l (Iff r l) s) (first t v h1 l parts.1) in
       let rest = by_imp_i t v h1 l r (IffR (Hyp 1) (Hyp 0)) parts.1 to in
       by_imp_e t v h (ImpI (Iff r l) (ImpI l (IffR (Hyp 1) (Hyp 0)))) p (Iff r l) (Imp l r) (by_imp_i t v h (Iff r l) (Imp l r) (ImpI l (IffR (Hyp 1) (Hyp 0))) s rest) w
+
+-- what relates a head to its meaning is an equivalence or an implication
+pub is_relation : (is_first : Bool) (head a body : Form) → Relates is_first head a body → ((l r : Form) → body ≡ Iff l r → ⊥) → ((l r : Form) → body ≡ Imp l r → ⊥) → ⊥
+is_relation true head a body (inl e) iff imp = iff head a e
+is_relation true head a body (inr e) iff imp = imp head a e
+is_relation false head a body (inl e) iff imp = iff a head e
+is_relation false head a body (inr e) iff imp = imp a head e
 
 shown_as : (t : Statements) (v : List ℕ) (h : List Form) (p : Proof) (a b : Form) → a ≡ b → Proves t v h p a → Proves t v h p b
 shown_as t v h p a b e w = subst (λ (x : Form). Proves t v h p x) e w

@@ -1,7 +1,7 @@
 -- What the search for a definition finds at two sides.
 use Rattle.std.proofs.Common.{ℕ, ◌≡◌, ◌<◌, ◌↔◌, ◌||◌, Bool, true, false, not, List, [], ◌∷◌, map, take, length, get_or, nat_eq, arith, zero, suc, refl, sym, ap, subst, ◌∙◌, Option, Some, None, slice_get}
 use Rattle.std.specs.Prelude.{IsTrue}
-use Rattle.std.specs.List.{list_any, All as Each}
+use Rattle.std.specs.List.{list_any, All as Each, IsDistinct}
 use Rattle.std.proofs.lemmas.List.{length-map}
 use Rattle.fof_terms.specs.Occurs.{occurs_in, occurs_in_term}
 use Rattle.fof_terms.specs.declared.signature.Symbol.{Symbol}
@@ -133,6 +133,12 @@ no_heads t l r o p eo ep ho hp k false h = let none : (j : ℕ) → Heads t r l 
 pub no_values : (t : Statements) (l r : Term) (o p : Option ℕ) → o ≡ None → p ≡ None → IsFoundSymbol (Values t l r) o → IsFoundSymbol (Values t r l) p → (k : ℕ) (first : Bool) → ValuesAt t l r k first → ⊥
 no_values t l r o p eo ep ho hp k true h = let none : (j : ℕ) → Values t l r j → ⊥ = subst (λ (x : Option ℕ). IsFoundSymbol (Values t l r) x) eo ho in none k h
 no_values t l r o p eo ep ho hp k false h = let none : (j : ℕ) → Values t r l j → ⊥ = subst (λ (x : Option ℕ). IsFoundSymbol (Values t r l) x) ep hp in none k h
+
+-- Distinct variables have names.
+pub have_names : {S : Type 0} (slice : List Term) (o : Option (IndexSet ℕ S)) → AreNames slice o → o ≡ None → (xs : List ℕ) → slice ≡ map Var xs → IsDistinct nat_eq xs → ⊥
+have_names {S} slice o names none xs are distinct =
+    let no : (ys : List ℕ) → AreVariables slice ys → ⊥ = subst (λ (p : Option (IndexSet ℕ S)). AreNames slice p) none names in
+    no xs (record { are = are; distinct = distinct })
 
 -- The variables that were found are those of the arguments.
 module _ {S : Type 0} (slice : List Term) (o : Option (IndexSet ℕ S)) (set : IndexSet ℕ S) (names : AreNames slice o) (some : o ≡ Some set) where

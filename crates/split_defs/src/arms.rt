@@ -1,12 +1,11 @@
 //! Falsehood from each literal of what is supposed false.
-ghost use Rattle.std.specs.Prelude.{◌≡◌, ◌≤◌, ◌++◌, List as ListOf, IfOk, OnOk};
+ghost use Rattle.std.specs.Prelude.{◌≡◌, ◌<◌, ◌≤◌, ◌^◌, ◌++◌, List as ListOf, length, IfOk, OnOk};
 ghost use Rattle.fof_terms.specs.Scope.{scope_sorts};
 ghost use Rattle.clause_proofs.specs.Refuting.{IsGoal, body};
 ghost use Rattle.clause_rules.specs.Settled.{IsFit};
 ghost use Rattle.kernel.specs.declared.proof.Proof.{Proof as Deduction};
 ghost use Rattle.split_defs.specs.SplitProof.{AllArms, AreGoals, EachRefutes, goal_of as moved_goal, variables_in};
 
-use crate::names::number;
 use crate::stages::Stage;
 use clause_form::Clause;
 use clause_proofs::{Opened, contrary};
@@ -27,6 +26,7 @@ pub fn all_arms(
     requires goals { AreGoals sig.now (scope_sorts scope.now) stages.now }
     requires all { count ≡ variables_in stages.now }
     requires few { count ≤ 1000000000 }
+    requires short { length stages.now < 2 ^ 32 }
     ensures { IfOk result (AllArms sig.now (scope_sorts scope.now) stages.now) }
 {
     let mut arms = List::new(alloc);
@@ -34,7 +34,7 @@ pub fn all_arms(
     for i in 0..stages.len() {
         let opened = &stages[i].opened;
         left -= opened.clause.sorts.len() as u32;
-        let denial = number(stages.len() - i)?;
+        let denial = (stages.len() - i) as u32;
         let goal = goal_of(alloc, sig, opened, left)?;
         push_arms(alloc, sig, scope, &goal, denial, &mut arms)?;
     }

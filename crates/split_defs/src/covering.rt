@@ -1,10 +1,9 @@
 //! A parent that the line covers together with what its names stand for.
-ghost use Rattle.std.specs.Prelude.{◌≡◌, IfOk, Some};
+ghost use Rattle.std.specs.Prelude.{IfOk};
 ghost use Rattle.clause_rules.specs.Settled.{IsFit};
 ghost use Rattle.clause_rules.specs.Steps.{AreReady, IsReady};
 ghost use Rattle.split_defs.specs.SplitSearch.{IsCoveredAmong, IsCovering, forms_of};
 
-use crate::names::number;
 use clause_form::{Clause, Parent, as_clause};
 use clause_rules::cover_clause;
 use fof_terms::{Form, Signature};
@@ -15,7 +14,7 @@ use unify_terms::Subst;
 /// A parent, by its number, and the substitution that covers it.
 #[derive(Drop)]
 pub struct Covered {
-    pub parent: u32,
+    pub parent: usize,
     pub subst: Subst,
 }
 
@@ -33,18 +32,10 @@ pub fn covered_among(
     for n in 0..parents.len() {
         let found = covering_of(alloc, sig, &parents[n].form, whole)?;
         if let Some(subst) = found {
-            return covered_at(n, subst);
+            return Ok(Some(Covered { parent: n, subst }));
         }
     }
     Ok(None)
-}
-
-// The parent of that number, with its substitution.
-fn covered_at(n: usize, subst: Subst) -> Result<Option<Covered>, Memory>
-    ensures { IfOk result (λ found. found ≡ Some (record { parent = n; subst = subst })) }
-{
-    let parent = number(n)?;
-    Ok(Some(Covered { parent, subst }))
 }
 
 // A substitution that covers the clause that the formula is.

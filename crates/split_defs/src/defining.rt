@@ -38,7 +38,7 @@ pub fn predicate_entries(
     ensures { IfOk result (λ entries. IsDerivedFrom theory.now [] entries line.now) }
 {
     let Form::Atom(_, args) = head else {
-        return Err(Memory);
+        unreachable!()
     };
     let args = args.as_slice();
     let own = over_arguments(alloc, args, meaning)?;
@@ -55,7 +55,7 @@ fn over_arguments(alloc: Global, args: &[Term], meaning: &Form) -> Result<Boxed<
 {
     match names_of(alloc, args)? {
         Some(names) => Ok(Boxed::new(alloc, rename(alloc, &names, meaning, 0)?)?),
-        None => Err(Memory),
+        None => unreachable!(),
     }
 }
 
@@ -69,6 +69,7 @@ pub fn at_arguments(alloc: Global, number: u64, args: &[Term]) -> Result<Part, M
 
 // The body, which relates the head to its meaning, by their equivalence.
 fn related(alloc: Global, body: &Form, first: bool, fact: Part) -> Result<Part, Memory>
+    requires { (head : Formula) × (meaning : Formula) × Relates first head meaning body.now }
     ensures { IfOk result (RelatesBy first body.now fact) }
 {
     match body {
@@ -86,7 +87,7 @@ fn related(alloc: Global, body: &Form, first: bool, fact: Part) -> Result<Part, 
                 back(alloc, left.get(), right.get(), fact)
             }
         }
-        _ => Err(Memory),
+        _ => unreachable!(),
     }
 }
 

@@ -44,7 +44,7 @@ pub fn definition_entries(
         Form::Eq(left, right) => {
             equation_entries(alloc, theory, symbol, first, line, body, left, right)
         }
-        _ => Err(Memory),
+        _ => unreachable!(),
     }
 }
 

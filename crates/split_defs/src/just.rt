@@ -14,8 +14,8 @@ pub enum SplitJust {
     /// has the images of the variables of the parts, those of the last definition first, then of the line's variables, all
     /// of which stand for themselves, and then of the parent's variables.
     Split {
-        parent: u32,
-        definitions: List<u32>,
+        parent: usize,
+        definitions: List<usize>,
         subst: Subst,
     },
 }

@@ -12,7 +12,7 @@ use tptp_base::{List, Memory};
 /// The parents that say what a literal of the line stands for, by their numbers, and what each stands for.
 #[derive(Drop)]
 pub struct Named {
-    pub numbers: List<u32>,
+    pub numbers: List<usize>,
     pub clauses: List<Clause>,
 }
 
@@ -56,7 +56,7 @@ fn with_clause(named: Named, i: usize, clause: Clause) -> Result<Named, Memory>
         mut numbers,
         mut clauses,
     } = named;
-    numbers.push(number(i)?)?;
+    numbers.push(i)?;
     clauses.push(clause)?;
     Ok(Named { numbers, clauses })
 }
@@ -112,15 +112,5 @@ fn is_name_lit(lit: &Lit, symbol: SymId) -> bool
     match &lit.atom {
         AtomOf::Pred(other, args) => lit.positive && *other == symbol && args.is_empty(),
         _ => false,
-    }
-}
-
-/// The place in a list as a number. A place after the 2^32nd, which no number names, is answered by want of memory.
-pub fn number(at: usize) -> Result<u32, Memory>
-    ensures { IfOk result (λ found. found ≡ at) }
-{
-    match u32::try_from(at) {
-        Ok(at) => Ok(at),
-        Err(_) => Err(Memory),
     }
 }

@@ -1,5 +1,5 @@
 //! The entry by which a theory takes a line that has names for parts of a parent.
-ghost use Rattle.std.specs.Prelude.{◌≡◌, ◌≤◌, ◌∷◌, [], ℕ, true, length, List as ListOf, Some, IfOk, slice_get};
+ghost use Rattle.std.specs.Prelude.{◌≡◌, ◌<◌, ◌≤◌, ◌^◌, ◌∷◌, [], ℕ, true, length, List as ListOf, Some, IfOk, slice_get};
 ghost use Rattle.std.specs.List.{AllByRecursion};
 ghost use Rattle.clause_rules.specs.Settled.{IsFit};
 ghost use Rattle.fof_terms.specs.declared.form.Form.{Form as Formula, Or};
@@ -20,7 +20,7 @@ ghost use Rattle.split_defs.specs.SplitSearch.{ShowsSplit, forms_of};
 use crate::arms::all_arms;
 use crate::just::SplitJust;
 use crate::stages::{Stage, all_stages};
-use crate::together::together;
+use crate::together::{few_variables, together};
 use clause_form::{Clause, Parent};
 use clause_proofs::{
     Opened, Premise, body_form, for_all, inhabited, instance_by, known_clause, refute_covered,
@@ -65,7 +65,7 @@ pub fn split_entries(
             )?;
             lemma(alloc, proof)
         }
-        SplitJust::Definition { .. } => Err(Memory),
+        SplitJust::Definition { .. } => unreachable!(),
     }
 }
 
@@ -84,8 +84,8 @@ fn split_proof(
     sig: &Signature,
     parents: &[Parent],
     line: &Form,
-    parent: u32,
-    names: &[u32],
+    parent: usize,
+    names: &[usize],
     subst: &Subst,
 ) -> Result<Part, Memory>
     requires ready { AreReady sig.now parents.now }
@@ -95,7 +95,7 @@ fn split_proof(
 {
     let opened = known_clause(alloc, line)?;
     let stages = all_stages(alloc, sig, parents, line, &opened, names)?;
-    let parent = &parents[parent as usize];
+    let parent = &parents[parent];
     let clause = known_clause(alloc, &parent.form)?;
     by_stages(alloc, sig, parents, line, stages, parent, &clause, subst)
 }
@@ -113,6 +113,7 @@ fn by_stages(
 ) -> Result<Part, Memory>
     requires line { IsReady sig.now line.now }
     requires stages { AreStages sig.now parents.now line.now 1 stages }
+    requires short { length stages < 2 ^ 32 }
     requires there { (n : ℕ) × (slice_get parents.now n ≡ Some parent.now) }
     requires parent { IsReadyClause sig.now parent.now.form clause.now }
     requires joint { IsJoint sig.now (clauses_together (stage_clauses stages)) (scope_of clause.now.clause) subst.now }
@@ -123,9 +124,7 @@ fn by_stages(
     let own = whole.clause.sorts.as_slice();
     let sorts = clause.clause.sorts.as_slice();
     let reach = variables_of(alloc, own, sorts, &[])?;
-    if reach.sorts.len() > 1_000_000_000 {
-        return Err(Memory);
-    }
+    few_variables(reach.sorts.len())?;
     let images = some_images(alloc, subst, own.len(), sorts.len())?;
     let premise = instance_by(alloc, parent.number, clause, images)?;
     let scope = Scope::Outside(reach.sorts.as_slice());
@@ -169,6 +168,7 @@ fn contradicted(
     requires whole { whole.now.clause ≡ clauses_together (stage_clauses stages.now) }
     requires is_or { whole.now.is_or ≡ true }
     requires few { length whole.now.clause.sorts ≤ 1000000000 }
+    requires short { length stages.now < 2 ^ 32 }
     requires goals { AreGoals sig.now (scope_sorts scope.now) stages.now }
     requires goal { IsGoal sig.now (scope_sorts scope.now) whole.now }
     requires covered { AreCovered whole.now.clause.lits premise.lits }

@@ -1,15 +1,15 @@
 //! What is supposed false in turn: the line, and what its names stand for.
-ghost use Rattle.std.specs.Prelude.{◌≡◌, ◌∷◌, [], ℕ, List as ListOf, Some, IfOk, slice_get};
+ghost use Rattle.std.specs.Prelude.{◌≡◌, ◌<◌, ◌^◌, ◌∷◌, [], ℕ, List as ListOf, length, Some, IfOk, slice_get};
 ghost use Rattle.fof_terms.specs.declared.form.Form.{Atom as Stated};
 ghost use Rattle.clause_form.specs.declared.clause.Clause.{Clause as Disjunction};
 ghost use Rattle.clause_form.specs.declared.path.Parent.{Parent as Given};
 ghost use Rattle.clause_proofs.specs.Bodies.{IsReadyClause};
 ghost use Rattle.clause_rules.specs.Steps.{AreReady, IsReady};
 ghost use Rattle.split_defs.specs.SplitProof.{AreNamed, AreStages, IsStage, name_tree, stage_clauses};
-ghost use Rattle.split_defs.specs.SplitRule.{Names, name_lit};
+ghost use Rattle.split_defs.specs.SplitRule.{HasName, Names, name_lit};
 ghost use Rattle.split_defs.specs.SplitSearch.{forms_of};
 
-use crate::names::{number, place_of_name};
+use crate::names::place_of_name;
 use clause_form::Parent;
 use clause_proofs::{Opened, for_all, injected, known_clause, line as formula};
 use derive_kit::{Part, hyp, iff_r, not_e};
@@ -33,25 +33,33 @@ pub fn all_stages(
     parents: &[Parent],
     form: &Form,
     line: &Opened,
-    names: &[u32],
+    names: &[usize],
 ) -> Result<List<Stage>, Memory>
     requires ready { AreReady sig.now parents.now }
     requires line { IsReadyClause sig.now form.now line.now }
     requires named { (ds : ListOf Disjunction) × AreNamed (forms_of parents.now) line.now.clause names.now ds }
     ensures stages { IfOk result (AreStages sig.now parents.now form.now 1) }
+    ensures short { IfOk result (λ stages. length stages < 2 ^ 32) }
     ensures clauses { IfOk result (λ stages. (ds : ListOf Disjunction) → AreNamed (forms_of parents.now) line.now.clause names.now ds → stage_clauses stages ≡ line.now.clause ∷ ds) }
 {
     let mut stages = List::new(alloc);
     stages.push(line_stage(alloc, sig, parents, form, line)?)?;
     for i in 0..names.len() {
-        let denial = number(i)?;
-        if denial > 4_000_000_000 {
-            return Err(Memory);
-        }
-        let stage = named_stage(alloc, sig, parents, form, line, names[i], denial + 2)?;
+        let denial = hypothesis(i + 2)?;
+        let stage = named_stage(alloc, sig, parents, form, line, names[i], denial)?;
         stages.push(stage)?;
     }
     Ok(stages)
+}
+
+// The place of a hypothesis as its number. A place after the 2^32nd, which no proof names, is answered by want of memory.
+fn hypothesis(place: usize) -> Result<u32, Memory>
+    ensures { IfOk result (λ number. number ≡ place) }
+{
+    match u32::try_from(place) {
+        Ok(number) => Ok(number),
+        Err(_) => Err(Memory),
+    }
 }
 
 // The line itself.
@@ -83,7 +91,7 @@ fn named_stage(
     parents: &[Parent],
     form: &Form,
     line: &Opened,
-    at: u32,
+    at: usize,
     denial: u32,
 ) -> Result<Stage, Memory>
     requires ready { AreReady sig.now parents.now }
@@ -92,11 +100,11 @@ fn named_stage(
     ensures stage { IfOk result (IsStage sig.now parents.now form.now denial) }
     ensures clause { IfOk result (λ stage. (p : Given) (d : Disjunction) → slice_get parents.now at ≡ Some p → Names line.now.clause p.form d → stage.opened.clause ≡ d) }
 {
-    let parent = &parents[at as usize];
+    let parent = &parents[at];
     let Form::Iff(name, meaning) = &parent.form else {
-        return Err(Memory);
+        unreachable!()
     };
-    let place = known_place(line, name.get())?;
+    let place = known_place(line, name.get());
     let contrary = by_name(alloc, line, place, parent.number, denial)?;
     let opened = known_clause(alloc, meaning.get())?;
     let form = Boxed::new(alloc, meaning.get().copy(alloc)?)?;
@@ -108,15 +116,16 @@ fn named_stage(
 }
 
 // The place at which the predicate stands in the line as a literal.
-fn known_place(line: &Opened, name: &Form) -> Result<u32, Memory>
-    ensures { IfOk result (λ place. (q : ℕ) → name.now ≡ Stated q [] → slice_get line.now.clause.lits place ≡ Some (name_lit q)) }
+fn known_place(line: &Opened, name: &Form) -> usize
+    requires { (q : ℕ) × (name.now ≡ Stated q []) × HasName line.now.clause q }
+    ensures { (q : ℕ) → name.now ≡ Stated q [] → slice_get line.now.clause.lits result ≡ Some (name_lit q) }
 {
     let Form::Atom(symbol, _) = name else {
-        return Err(Memory);
+        unreachable!()
     };
     match place_of_name(line.clause.lits.as_slice(), *symbol) {
-        Some(place) => number(place),
-        None => Err(Memory),
+        Some(place) => place,
+        None => unreachable!(),
     }
 }
 
@@ -125,14 +134,14 @@ fn known_place(line: &Opened, name: &Form) -> Result<u32, Memory>
 fn by_name(
     alloc: Global,
     line: &Opened,
-    place: u32,
+    place: usize,
     number: u64,
     denial: u32,
 ) -> Result<Part, Memory>
     ensures { IfOk result (λ made. made ≡ name_tree line.now place number denial) }
 {
     let name = iff_r(alloc, formula(alloc, number)?, hyp(alloc, 0)?)?;
-    let own = injected(alloc, line, place as usize, name)?;
+    let own = injected(alloc, line, place, name)?;
     let whole = for_all(alloc, line.clause.sorts.as_slice(), own)?;
     not_e(alloc, hyp(alloc, denial)?, whole)
 }

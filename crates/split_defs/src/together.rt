@@ -10,20 +10,28 @@ use fof_terms::{Signature, SortId};
 use std::alloc::Global;
 use tptp_base::{List, Memory};
 
-/// The clauses as one, those of the last numbered first. More than 1,000,000,000 variables, of which no memory has the
-/// formulas, are answered by want of memory.
+/// The clauses as one, those of the last numbered first. They have no more variables than `few_variables` takes.
 pub fn together(alloc: Global, sig: &Signature, clauses: &[Clause]) -> Result<Clause, Memory>
     requires { AllByRecursion (IsFit sig.now) clauses.now }
     ensures is { IfOk result (λ whole. whole ≡ clauses_together clauses.now) }
     ensures few { IfOk result (λ whole. length whole.sorts ≤ 1000000000) }
 {
     let sorts = all_sorts(alloc, clauses)?;
-    let count = sorts.len();
+    let count = few_variables(sorts.len())?;
+    let lits = all_lits(alloc, sig, clauses, count)?;
+    Ok(Clause { sorts, lits })
+}
+
+/// So many variables as a number. More than 1,000,000,000, of which no memory has the formulas, are answered by want of
+/// memory.
+pub fn few_variables(count: usize) -> Result<u32, Memory>
+    ensures is { IfOk result (λ found. found ≡ count) }
+    ensures few { IfOk result (λ found. found ≤ 1000000000) }
+{
     if count > 1_000_000_000 {
         return Err(Memory);
     }
-    let lits = all_lits(alloc, sig, clauses, count as u32)?;
-    Ok(Clause { sorts, lits })
+    Ok(count as u32)
 }
 
 // The sorts of all clauses, those of the first outermost.

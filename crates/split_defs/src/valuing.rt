@@ -39,7 +39,7 @@ pub fn function_entries(
     ensures { IfOk result (λ entries. IsDerivedFrom theory.now [] entries line.now) }
 {
     let Term::App(_, args) = head else {
-        return Err(Memory);
+        unreachable!()
     };
     let Some(result) = result_of(theory.signature(), symbol) else {
         return Err(Memory);
@@ -77,7 +77,7 @@ fn value_over(alloc: Global, args: &[Term], value: &Term) -> Result<Term, Memory
 {
     match names_of(alloc, args)? {
         Some(names) => rename_term(alloc, &names, value, 0),
-        None => Err(Memory),
+        None => unreachable!(),
     }
 }
 

@@ -1,4 +1,4 @@
-use Rattle.std.proofs.Common.{◌≡◌, ap, sym, subst, ◌+◌, ◌-◌, length, drop, arith}
+use Rattle.std.proofs.Common.{◌≡◌, refl, ap, sym, subst, ◌+◌, ◌-◌, length, drop, arith}
 use Rattle.fof_terms.specs.Scope.{scope_sorts}
 use Rattle.split_defs.specs.declared.stages.Stage.{Stage}
 use Rattle.split_defs.specs.SplitProof.{goal_of, variables_in}
@@ -21,7 +21,7 @@ loop-i-preserved c =
       left = rest;
       few = omega (arith, c.loop-i.invariant.few);
       goals = goals.1;
-      arms = arms_here w v stages c.loop-i.i s c.loop-i-test.true c.index-stages-i.is left c.in_ok-denial.denial c.in_ok-goal.goal c.loop-i.arms c.push_arms.new.arms c.in_ok-push_arms.ensures.0 rest c.in_ok-denial.ensures moved c.in_ok-push_arms.ensures.1 c.in_ok-push_arms.ensures.2 c.loop-i.invariant.arms;
+      arms = arms_here w v stages c.loop-i.i s c.loop-i-test.true c.index-stages-i.is left (length stages - c.loop-i.i) c.in_ok-goal.goal c.loop-i.arms c.push_arms.new.arms c.in_ok-push_arms.ensures.0 rest refl moved c.in_ok-push_arms.ensures.1 c.in_ok-push_arms.ensures.2 c.loop-i.invariant.arms;
     }
 
 pub returns : goal.returns

@@ -1,4 +1,4 @@
-use Rattle.split_defs.proofs.DefinitionEnds.{joins_at, define_heads, define_values, in_body}
+use Rattle.split_defs.proofs.DefinitionEnds.{joins_at, define_heads, define_values, in_body, nothing_found}
 use Rattle.split_defs.proofs.entries.definition_entries.Goals as goal
 
 pub relation_entries-requires-clause-joins : goal.relation_entries-requires-clause-joins
@@ -12,3 +12,6 @@ relation_entries-requires-clause-heads c =
 pub equation_entries-requires-clause-values : goal.equation_entries-requires-clause-values
 equation_entries-requires-clause-values c =
     define_values c.args.theory.now c.args.line.now c.body_of-body.result.now c.body_of-body.ensures.body c.in-Eq.left c.in-Eq.right c.in-Eq.is c.args.symbol c.args.first (in_body c.args.theory.now c.args.line.now c.body_of-body.result.now c.body_of-body.ensures.body c.args.symbol c.args.first c.requires.shown)
+
+pub unreachable-requires : goal.unreachable-requires
+unreachable-requires c = nothing_found c.args.theory.now c.args.line.now c.body_of-body.result.now c.body_of-body.ensures.body c.in_default.not-Iff c.in_default.not-Imp c.in_default.not-Eq c.args.symbol c.args.first c.requires.shown

@@ -18,7 +18,7 @@ contradicted-requires-clause-goals c =
     let whole_is = c.in_ok-whole.ensures.clause ∙ ap (λ (ss : List Stage). together (stage_clauses ss)) c.as_slice.ensures in
     let v_is = all_reached c.as_slice-2.result c.in_ok-reach.reach.sorts c.as_slice-own.result.now c.in_ok-whole.whole.clause.sorts c.in_ok-reach.reach.more c.as_slice-2.ensures c.in_ok-reach.ensures.sorts c.as_slice-own.ensures in
     let more_is = more_reached c.as_slice-sorts.result.now [] c.args.clause.now.clause.sorts c.in_ok-reach.reach.more c.in_ok-reach.ensures.more refl c.as_slice-sorts.ensures in
-    let few = few_here c.as_slice-2.result c.in_ok-reach.reach.sorts c.as_slice-2.ensures (omega (arith, c.if-len-gt1000000000.false, c.len.ensures)) in
+    let few = few_here c.as_slice-2.result c.in_ok-reach.reach.sorts c.as_slice-2.ensures (omega (arith, c.in_ok-few_variables.ensures.is, c.in_ok-few_variables.ensures.few, c.len.ensures)) in
     rw c.as_slice-3.ensures (stage_goals c.args.sig.now c.args.parents.now c.args.line.now c.requires.line c.args.stages c.requires.stages c.in_ok-whole.whole whole_is c.in_ok-whole.ensures.is_or c.args.parent.now c.args.clause.now c.requires.parent (scope_sorts (Outside c.as_slice-2.result)) c.in_ok-reach.reach.more v_is more_is few)
 
 pub contradicted-requires-clause-goal : goal.contradicted-requires-clause-goal
@@ -26,7 +26,7 @@ contradicted-requires-clause-goal c =
     let whole_is = c.in_ok-whole.ensures.clause ∙ ap (λ (ss : List Stage). together (stage_clauses ss)) c.as_slice.ensures in
     let v_is = all_reached c.as_slice-2.result c.in_ok-reach.reach.sorts c.as_slice-own.result.now c.in_ok-whole.whole.clause.sorts c.in_ok-reach.reach.more c.as_slice-2.ensures c.in_ok-reach.ensures.sorts c.as_slice-own.ensures in
     let more_is = more_reached c.as_slice-sorts.result.now [] c.args.clause.now.clause.sorts c.in_ok-reach.reach.more c.in_ok-reach.ensures.more refl c.as_slice-sorts.ensures in
-    let few = few_here c.as_slice-2.result c.in_ok-reach.reach.sorts c.as_slice-2.ensures (omega (arith, c.if-len-gt1000000000.false, c.len.ensures)) in
+    let few = few_here c.as_slice-2.result c.in_ok-reach.reach.sorts c.as_slice-2.ensures (omega (arith, c.in_ok-few_variables.ensures.is, c.in_ok-few_variables.ensures.few, c.len.ensures)) in
     whole_goal c.args.sig.now c.args.parents.now c.args.line.now c.requires.line c.args.stages c.requires.stages c.in_ok-whole.whole whole_is c.in_ok-whole.ensures.is_or c.args.parent.now c.args.clause.now c.requires.parent (scope_sorts (Outside c.as_slice-2.result)) c.in_ok-reach.reach.more v_is more_is few
 
 pub contradicted-requires-clause-covered : goal.contradicted-requires-clause-covered
@@ -34,7 +34,7 @@ contradicted-requires-clause-covered c =
     let whole_is = c.in_ok-whole.ensures.clause ∙ ap (λ (ss : List Stage). together (stage_clauses ss)) c.as_slice.ensures in
     let v_is = all_reached c.as_slice-2.result c.in_ok-reach.reach.sorts c.as_slice-own.result.now c.in_ok-whole.whole.clause.sorts c.in_ok-reach.reach.more c.as_slice-2.ensures c.in_ok-reach.ensures.sorts c.as_slice-own.ensures in
     let more_is = more_reached c.as_slice-sorts.result.now [] c.args.clause.now.clause.sorts c.in_ok-reach.reach.more c.in_ok-reach.ensures.more refl c.as_slice-sorts.ensures in
-    let few = few_here c.as_slice-2.result c.in_ok-reach.reach.sorts c.as_slice-2.ensures (omega (arith, c.if-len-gt1000000000.false, c.len.ensures)) in
+    let few = few_here c.as_slice-2.result c.in_ok-reach.reach.sorts c.as_slice-2.ensures (omega (arith, c.in_ok-few_variables.ensures.is, c.in_ok-few_variables.ensures.few, c.len.ensures)) in
     let li = part_is c.args.subst.now c.in_ok-images.images _ _ (length c.args.clause.now.clause.sorts) (length c.in_ok-whole.whole.clause.sorts) c.in_ok-images.ensures (ap length c.as_slice-sorts.ensures) (ap length c.as_slice-own.ensures) in
     premise_covered c.args.sig.now c.args.parents.now c.args.line.now c.requires.line c.args.stages c.requires.stages c.in_ok-whole.whole whole_is c.in_ok-whole.ensures.is_or c.args.parent.now c.args.clause.now c.requires.parent (scope_sorts (Outside c.as_slice-2.result)) c.in_ok-reach.reach.more v_is more_is few c.args.subst.now c.requires.joint c.in_ok-images.images li c.in_ok-premise.premise c.in_ok-premise.ensures c.requires.covers
 
@@ -43,7 +43,7 @@ contradicted-requires-clause-sorted c =
     let whole_is = c.in_ok-whole.ensures.clause ∙ ap (λ (ss : List Stage). together (stage_clauses ss)) c.as_slice.ensures in
     let v_is = all_reached c.as_slice-2.result c.in_ok-reach.reach.sorts c.as_slice-own.result.now c.in_ok-whole.whole.clause.sorts c.in_ok-reach.reach.more c.as_slice-2.ensures c.in_ok-reach.ensures.sorts c.as_slice-own.ensures in
     let more_is = more_reached c.as_slice-sorts.result.now [] c.args.clause.now.clause.sorts c.in_ok-reach.reach.more c.in_ok-reach.ensures.more refl c.as_slice-sorts.ensures in
-    let few = few_here c.as_slice-2.result c.in_ok-reach.reach.sorts c.as_slice-2.ensures (omega (arith, c.if-len-gt1000000000.false, c.len.ensures)) in
+    let few = few_here c.as_slice-2.result c.in_ok-reach.reach.sorts c.as_slice-2.ensures (omega (arith, c.in_ok-few_variables.ensures.is, c.in_ok-few_variables.ensures.few, c.len.ensures)) in
     let li = part_is c.args.subst.now c.in_ok-images.images _ _ (length c.args.clause.now.clause.sorts) (length c.in_ok-whole.whole.clause.sorts) c.in_ok-images.ensures (ap length c.as_slice-sorts.ensures) (ap length c.as_slice-own.ensures) in
     premise_sorted c.args.sig.now c.args.parents.now c.args.line.now c.requires.line c.args.stages c.requires.stages c.in_ok-whole.whole whole_is c.in_ok-whole.ensures.is_or c.args.parent.now c.args.clause.now c.requires.parent (scope_sorts (Outside c.as_slice-2.result)) c.in_ok-reach.reach.more v_is more_is few c.args.subst.now c.requires.joint c.in_ok-images.images li c.in_ok-premise.premise c.in_ok-premise.ensures
 
@@ -52,7 +52,7 @@ returns c =
     let whole_is = c.in_ok-whole.ensures.clause ∙ ap (λ (ss : List Stage). together (stage_clauses ss)) c.as_slice.ensures in
     let v_is = all_reached c.as_slice-2.result c.in_ok-reach.reach.sorts c.as_slice-own.result.now c.in_ok-whole.whole.clause.sorts c.in_ok-reach.reach.more c.as_slice-2.ensures c.in_ok-reach.ensures.sorts c.as_slice-own.ensures in
     let more_is = more_reached c.as_slice-sorts.result.now [] c.args.clause.now.clause.sorts c.in_ok-reach.reach.more c.in_ok-reach.ensures.more refl c.as_slice-sorts.ensures in
-    let few = few_here c.as_slice-2.result c.in_ok-reach.reach.sorts c.as_slice-2.ensures (omega (arith, c.if-len-gt1000000000.false, c.len.ensures)) in
+    let few = few_here c.as_slice-2.result c.in_ok-reach.reach.sorts c.as_slice-2.ensures (omega (arith, c.in_ok-few_variables.ensures.is, c.in_ok-few_variables.ensures.few, c.len.ensures)) in
     let li = part_is c.args.subst.now c.in_ok-images.images _ _ (length c.args.clause.now.clause.sorts) (length c.in_ok-whole.whole.clause.sorts) c.in_ok-images.ensures (ap length c.as_slice-sorts.ensures) (ap length c.as_slice-own.ensures) in
     ok_map c.enclosed.result
     (λ tree e. line_shown c.args.sig.now c.args.parents.now c.args.line.now c.requires.line c.args.stages c.requires.stages c.in_ok-whole.whole whole_is c.in_ok-whole.ensures.is_or c.args.parent.now c.args.clause.now c.requires.parent (scope_sorts (Outside c.as_slice-2.result)) c.in_ok-reach.reach.more v_is more_is few c.args.subst.now c.requires.joint c.in_ok-images.images li c.in_ok-premise.premise c.in_ok-premise.ensures c.requires.there.0 c.in_ok-core.core tree c.requires.there.1 (rw c.as_slice-4.ensures at e) (rw c.as_slice-3.ensures at c.in_ok-core.ensures))
