@@ -27,6 +27,7 @@ mod verify;
 mod words;
 
 use run::run_tptp;
+use std::io::ErrorKind;
 use std::process::ExitCode;
 use std::rt::{Env, Files};
 use std::{env, fs, io};
@@ -39,8 +40,11 @@ fn main(rt: HostRuntime) -> ExitCode {
 
 // Runs the command over the files and the standard output of the runtime.
 fn status_of<R: Env + Files + Print + AllocGlobal>(rt: &R) -> u8 {
-    let Ok(words) = words_of(rt) else {
-        return 6;
+    let words = match words_of(rt) {
+        Ok(words) => words,
+        // A word that is no UTF-8 is in no form of a command, as no words at all are in none.
+        Err(error) if error.kind() == ErrorKind::InvalidData => Vec::new(rt.alloc()),
+        Err(_) => return 6,
     };
     let mut store = RealStore::new(rt);
     let mut out = RealSink::new(Some(io::writer(rt)));
