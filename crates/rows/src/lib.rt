@@ -7,10 +7,10 @@ mod difference;
 mod ending;
 mod fault;
 mod line;
-mod part;
 mod reading;
 mod row;
 mod running;
+mod setting;
 mod trial;
 
 pub use running::run_rows;

@@ -3,6 +3,8 @@
 /// What a line of a row sets. The texts are those behind the line's first word.
 #[derive(Clone, Copy)]
 pub enum Setting<'a> {
+    /// The row's own lines begin, and it has this name.
+    Name(&'a str),
     Words(&'a str),
     Word(&'a str),
     File(&'a str),
@@ -28,6 +30,7 @@ pub enum Line<'a> {
     Given,
     /// A row of this name begins.
     Row(&'a str),
+    /// It belongs to what is given, or to a row.
     Setting(Setting<'a>),
 }
 

@@ -1,23 +1,43 @@
-// A file of rows, read.
+// A text, cut into rows.
 use crate::fault::{LineFault, RowFault};
 use crate::line::{Line, Setting, read_line};
-use crate::part::{Part, set};
-use crate::row::Row;
 use std::alloc::Global;
 
-/// The rows of a text, in its order.
-pub fn read_rows(alloc: Global, text: &str) -> Result<Vec<Row>, RowFault> {
-    let mut reader = Reader::new(alloc);
+/// A line that sets something.
+#[derive(Clone, Copy)]
+pub struct SettingLine<'a> {
+    /// The first line of the text has the number 1.
+    pub number: usize,
+    pub setting: Setting<'a>,
+}
+
+/// The lines of a row, behind those that are given to it.
+#[derive(Drop)]
+pub struct Draft<'a> {
+    pub name: &'a str,
+    pub lines: Vec<SettingLine<'a>>,
+}
+
+/// The rows of a text, in its order. What their lines say is not looked at, so a long text that is written in short takes no memory
+/// yet.
+pub fn read_drafts(alloc: Global, text: &str) -> Result<Vec<Draft<'_>>, RowFault> {
+    let mut reader = Reader {
+        alloc,
+        given: Vec::new(alloc),
+        drafts: Vec::new(alloc),
+        place: Place::Nothing,
+    };
     for (before, line) in text.lines().enumerate() {
-        if let Err(fault) = reader.take(line) {
-            let line = before.saturating_add(1);
+        let number = before.saturating_add(1);
+        if let Err(fault) = reader.take(number, line) {
+            let line = number;
             return Err(RowFault { line, fault });
         }
     }
-    Ok(reader.rows)
+    Ok(reader.drafts)
 }
 
-// What a line belongs to.
+// What the lines that follow belong to.
 #[derive(Clone, Copy)]
 enum Place {
     Nothing,
@@ -29,24 +49,13 @@ enum Place {
 struct Reader<'a> {
     alloc: Global,
     // What is given to each row that follows.
-    given: Vec<Setting<'a>>,
-    rows: Vec<Row>,
+    given: Vec<SettingLine<'a>>,
+    drafts: Vec<Draft<'a>>,
     place: Place,
-    part: Part,
 }
 
 impl<'a> Reader<'a> {
-    fn new(alloc: Global) -> Reader<'a> {
-        Reader {
-            alloc,
-            given: Vec::new(alloc),
-            rows: Vec::new(alloc),
-            place: Place::Nothing,
-            part: Part::Nothing,
-        }
-    }
-
-    fn take(&mut self, line: &'a str) -> Result<(), LineFault> {
+    fn take(&mut self, number: usize, line: &'a str) -> Result<(), LineFault> {
         match read_line(line) {
             Some(Line::Nothing) => Ok(()),
             Some(Line::Given) => {
@@ -54,43 +63,32 @@ impl<'a> Reader<'a> {
                 self.place = Place::Given;
                 Ok(())
             }
-            Some(Line::Row(name)) => self.begin(name),
-            Some(Line::Setting(setting)) => self.set(setting),
+            Some(Line::Row(name)) => self.begin(number, name),
+            Some(Line::Setting(setting)) => self.add(SettingLine { number, setting }),
             None => Err(LineFault::Unknown),
         }
     }
 
     // Begins a row, with what is given to it.
-    fn begin(&mut self, name: &str) -> Result<(), LineFault> {
-        if self.rows.iter().any(|row| row.name.as_str() == name) {
+    fn begin(&mut self, number: usize, name: &'a str) -> Result<(), LineFault> {
+        if self.drafts.iter().any(|draft| draft.name == name) {
             return Err(LineFault::SameName);
         }
-        let mut row = Row::new(self.alloc, name)?;
-        let mut part = Part::Nothing;
-        for setting in &self.given {
-            part = set(self.alloc, &mut row, part, *setting)?;
-        }
-        self.rows.push(row)?;
+        let mut lines = self.given.to_vec(self.alloc)?;
+        let setting = Setting::Name(name);
+        lines.push(SettingLine { number, setting })?;
+        self.drafts.push(Draft { name, lines })?;
         self.place = Place::Row;
-        self.part = Part::Nothing;
         Ok(())
     }
 
-    // Takes a further line of what is given, or of the last row.
-    fn set(&mut self, setting: Setting<'a>) -> Result<(), LineFault> {
-        match self.place {
-            Place::Nothing => Err(LineFault::NoRow),
-            Place::Given => {
-                self.given.push(setting)?;
-                Ok(())
-            }
-            Place::Row => {
-                let Some(row) = self.rows.last_mut() else {
-                    return Err(LineFault::NoRow);
-                };
-                self.part = set(self.alloc, row, self.part, setting)?;
-                Ok(())
-            }
+    // Adds a line to what is given, or to the last row.
+    fn add(&mut self, line: SettingLine<'a>) -> Result<(), LineFault> {
+        match (self.place, self.drafts.last_mut()) {
+            (Place::Given, _) => self.given.push(line)?,
+            (Place::Row, Some(draft)) => draft.lines.push(line)?,
+            _ => return Err(LineFault::NoRow),
         }
+        Ok(())
     }
 }

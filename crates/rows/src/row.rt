@@ -1,5 +1,5 @@
 // A row: what a run is given, and what it must come to.
-use std::alloc::{AllocError, Global};
+use std::alloc::Global;
 
 /// What a file of the store holds.
 #[derive(Drop)]
@@ -43,10 +43,10 @@ pub struct Row {
 }
 
 impl Row {
-    /// A row of this name that gives nothing, and wants status 0 and no bytes.
-    pub fn new(alloc: Global, name: &str) -> Result<Row, AllocError> {
-        Ok(Row {
-            name: name.to_string(alloc)?,
+    /// A row without a name that gives nothing, and wants status 0 and no bytes.
+    pub fn new(alloc: Global) -> Row {
+        Row {
+            name: String::new(alloc),
             words: Vec::new(alloc),
             files: Vec::new(alloc),
             is_plain: false,
@@ -56,7 +56,7 @@ impl Row {
             status: 0,
             out: Vec::new(alloc),
             log: WantedLog::Text(Vec::new(alloc)),
-        })
+        }
     }
 
     /// Whether some call is to fail.

@@ -1,7 +1,8 @@
 // The files of rows that a program is called with.
 use crate::difference::differences;
-use crate::reading::read_rows;
+use crate::reading::read_drafts;
 use crate::row::Row;
+use crate::setting::row_of;
 use crate::trial::{run_plainly, run_slowly};
 use anyhow::{Context, Result, bail};
 use std::alloc::Global;
@@ -29,15 +30,16 @@ pub fn run_rows<R: Env + Files + Print + AllocGlobal>(rt: &R) -> Result<ExitCode
 fn run_file<R: Files + Print + AllocGlobal>(rt: &R, name: &str) -> Result<u64> {
     let alloc = rt.alloc();
     let text = fs::read_to_string(rt, name).context(name)?;
-    let rows = read_rows(alloc, text.as_str()).context(name)?;
-    let count = rows.len();
+    let drafts = read_drafts(alloc, text.as_str()).context(name)?;
+    let count = drafts.len();
     if count == 0 {
         bail!("{name}: there is no row");
     }
     let mut differing = 0u64;
     let mut last_log = Vec::new(alloc);
-    for row in &rows {
-        let tried = try_row(alloc, row, &last_log)?;
+    for draft in &drafts {
+        let row = row_of(alloc, draft).context(name)?;
+        let tried = try_row(alloc, &row, &last_log)?;
         last_log = tried.log;
         if !tried.said.is_empty() {
             differing = differing.saturating_add(1);

@@ -1,27 +1,40 @@
 // A row, set line by line.
 use crate::bytes::append_line;
-use crate::fault::LineFault;
+use crate::fault::{LineFault, RowFault};
 use crate::line::Setting;
+use crate::reading::Draft;
 use crate::row::{Given, Row, Source, WantedLog};
 use std::alloc::Global;
 
-/// What the lines of text that follow belong to.
+// What the lines of text that follow belong to.
 #[derive(Clone, Copy)]
-pub enum Part {
+enum Part {
     Nothing,
     LastFile,
     Out,
     Log,
 }
 
-/// Sets what a line says in a row, and tells what the lines of text behind it belong to.
-pub fn set(
-    alloc: Global,
-    row: &mut Row,
-    part: Part,
-    setting: Setting<'_>,
-) -> Result<Part, LineFault> {
+/// The row that the lines of a draft make.
+pub fn row_of(alloc: Global, draft: &Draft<'_>) -> Result<Row, RowFault> {
+    let mut row = Row::new(alloc);
+    let mut part = Part::Nothing;
+    for line in &draft.lines {
+        match set(alloc, &mut row, part, line.setting) {
+            Ok(next) => part = next,
+            Err(fault) => {
+                let line = line.number;
+                return Err(RowFault { line, fault });
+            }
+        }
+    }
+    Ok(row)
+}
+
+// Sets what a line says in a row, and tells what the lines of text behind it belong to.
+fn set(alloc: Global, row: &mut Row, part: Part, setting: Setting<'_>) -> Result<Part, LineFault> {
     match setting {
+        Setting::Name(name) => row.name = name.to_string(alloc)?,
         Setting::Words(words) => {
             for word in words.split(' ') {
                 row.words.push(word.to_string(alloc)?)?;
