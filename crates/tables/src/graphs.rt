@@ -6,9 +6,9 @@ use std::alloc::{AllocError, Global};
 use tptp_base::{List, Name, Text};
 use tstp_graph::{Graph, Node, Ref, graph};
 
-/// The answer of the call `graph`, over the given formulas a, b and b: each line as a leaf or a step, with what it is from,
-/// and at last the order of checking. Lines are told by their numbers, from 0, and so are given formulas, behind `given`. A part is `NAME`,
-/// `NAME from SOURCE` or `NAME type`, a type line.
+/// The answer of the call `graph`, over the given formulas a, b and b: each line as a leaf or a step, with what it is
+/// from, and at last the order of checking. Lines are told by their numbers, from 0, and so are given formulas, behind
+/// `given`. A part is `NAME`, `NAME from SOURCE` or `NAME type`, a type line.
 pub fn found(alloc: Global, line: &Line<'_>) -> Result<String> {
     let mut derivation = String::new(alloc);
     for part in line.parts.iter() {

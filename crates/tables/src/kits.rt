@@ -94,8 +94,8 @@ fn concluded(alloc: Global, signature: Signature, proof: Part) -> Result<Form> {
     Ok(form.copy(alloc)?)
 }
 
-// The path of a text: `leaf`, `under` and the rest below a quantifier, a member's number and the rest in it, or `both` and
-// the rests in the two members of a disjunction.
+// The path of a text: `leaf`, `under` and the rest below a quantifier, a member's number and the rest in it, or `both`
+// and the rests in the two members of a disjunction.
 fn path(alloc: Global, text: &str) -> Result<Boxed<Path>> {
     let mut paths = List::new(alloc);
     for word in text.rsplit(' ') {

@@ -1,6 +1,7 @@
-//! Tries tables: files of lines, each a call of the toolchain and the answer that is wanted of it, for calls whose answers
-//! no run of the program shows. The words name the files. What differs is printed, wanted beside found, and for each file
-//! how many lines there are and how many differ. The status is 1 where any differs, or where a file has no lines.
+//! Tries tables: files of lines, each a call of the toolchain and the answer that is wanted of it, for calls whose
+//! answers no run of the program shows. The words name the files. What differs is printed, wanted beside found, and for
+//! each file how many lines there are and how many differ. The status is 1 where any differs, or where a file has no
+//! lines.
 #![tactic(auto)]
 
 mod answer;
@@ -43,8 +44,8 @@ fn try_all<R: Env + Files + Print + AllocGlobal>(rt: &R) -> Result<bool> {
     Ok(is_right)
 }
 
-// How many lines a table has, and how many of them differ. The text of a line `given # TEXT` stands before the formulas of
-// all lines behind it.
+// How many lines a table has, and how many of them differ. The text of a line `given # TEXT` stands before the formulas
+// of all lines behind it.
 fn try_table<R: Print + AllocGlobal>(rt: &R, name: &str, table: &str) -> Result<(u64, u64)> {
     let mut given = String::new(rt.alloc());
     let mut count = 0u64;

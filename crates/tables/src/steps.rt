@@ -13,8 +13,8 @@ use fof_terms::{Form, Signature};
 use std::alloc::Global;
 use tptp_base::{List, Memory};
 
-/// The answer of the call `step`: the names of all rules by which the last formula follows from the others, the first of
-/// which must be the one that is recognised.
+/// The answer of the call `step`: the names of all rules by which the last formula follows from the others, the first
+/// of which must be the one that is recognised.
 pub fn found(alloc: Global, line: &Line<'_>) -> Result<String> {
     let mut signature = signature_of(alloc, line)?;
     let mut parents = List::new(alloc);

@@ -16,8 +16,8 @@ use tptp_lexer::{Style, tokens};
 /// - `tokens`, `derivation`: the tokens of the text in a problem or in a derivation, or the fault
 /// - `part`: the places of the tokens in the middle one of three texts, and of its end; the text is that of file 2
 /// - `place`: the place of an offset in file 7
-/// - `cuts`: what is answered where the text is cut before a blank, or not cut, and does not end too early; cuts are told
-///   by their offsets
+/// - `cuts`: what is answered where the text is cut before a blank, or not cut, and does not end too early; cuts are
+///   told by their offsets
 /// - `formula`, `general`: the canonical text of a formula, or of a general term
 pub fn found(alloc: Global, line: &Line<'_>) -> Result<String> {
     let text = line.part(0)?;

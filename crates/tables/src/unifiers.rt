@@ -7,8 +7,8 @@ use fof_terms::{Signature, Term, equal_term};
 use std::alloc::{AllocError, Global};
 use unify_terms::{Goal, Pair, Scope, Subst, apply, are_sorted, is_sorted_goal, solve, unify};
 
-/// The answer of a call on a formula that is quantified outside and has equations inside. Its variables that `!` binds may
-/// be replaced; those that `?` binds, further inside, stand for themselves.
+/// The answer of a call on a formula that is quantified outside and has equations inside. Its variables that `!` binds
+/// may be replaced; those that `?` binds, further inside, stand for themselves.
 ///
 /// - `unify`: the kind of each variable's image, the innermost first, where all equations have a unifier
 /// - `agree`: whether such a unifier makes the sides of another formula's equation equal
@@ -115,8 +115,8 @@ fn in_circle(alloc: Global, signature: &mut Signature, count: u32) -> Result<Str
     Ok(format!(in alloc; "{unified} {solved}")?)
 }
 
-// Variable k is g(variable k + 1, variable k + 1) for each k below `count`, and the last one is f(variable 0). The function
-// f is number 0, and g is number 1.
+// Variable k is g(variable k + 1, variable k + 1) for each k below `count`, and the last one is f(variable 0). The
+// function f is number 0, and g is number 1.
 fn circle(alloc: Global, count: u32) -> Result<String, AllocError> {
     let mut text = String::from_str(alloc, "log ! 0 ")?;
     for _ in 0..count {
