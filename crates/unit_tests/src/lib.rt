@@ -1,0 +1,15 @@
+//! Tests of what neither a run of the program nor a table shows: the real store and sink, prefixes, what stands behind
+//! a fault, and the proofs that are built of parts. They stand here, and not in the crates that they test, so that none
+//! of those is proved once more for its tests.
+#![tactic(auto)]
+
+#[cfg(test)]
+mod builders;
+#[cfg(test)]
+mod files;
+#[cfg(test)]
+mod logs;
+#[cfg(test)]
+mod names;
+#[cfg(test)]
+mod theories;
