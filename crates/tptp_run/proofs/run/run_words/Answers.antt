@@ -1,0 +1,35 @@
+use Rattle.std.proofs.Common.{ap}
+use Rattle.std.specs.Option.{option_copied}
+use Rattle.tptp_run.specs.Words.{Format, Parse, Check, Verify, texts, request_of, task_of}
+use Rattle.tptp_run.proofs.Absences.{asked_absence}
+use Rattle.tptp_run.proofs.Verifies.{verify_asked, verify_logged}
+use Rattle.tptp_run.proofs.Checks.{check_asked}
+use Rattle.tptp_run.proofs.run.run_words.Goals as goal
+
+pub returns-in-Parse-clause-absence : goal.returns-in-Parse-clause-absence
+returns-in-Parse-clause-absence g c =
+    asked_absence _ (g.S.Store.files c.args.store.now) (texts c.args.words.now) (request_of c.in-Some.command) (Parse c.in-Parse.file.now) c.parse.result c.in-Some.ensures.some (ap task_of c.in-Parse.is) c.parse.ensures.absence
+
+pub returns-in-Check-clause-absence : goal.returns-in-Check-clause-absence
+returns-in-Check-clause-absence g c =
+    asked_absence _ (g.S.Store.files c.args.store.now) (texts c.args.words.now) (request_of c.in-Some.command) (Check c.in-Check.problem.now c.in-Check.log.now) c.check.result c.in-Some.ensures.some (ap task_of c.in-Check.is) c.check.ensures.absence
+
+pub returns-in-Check-clause-ends : goal.returns-in-Check-clause-ends
+returns-in-Check-clause-ends g c =
+    check_asked (g.S.Store.files c.args.store.now) (texts c.args.words.now) (request_of c.in-Some.command) c.in-Check.problem.now c.in-Check.log.now (g.L.Sink.taken c.args.log.now) c.check.result c.in-Some.ensures.some (ap task_of c.in-Check.is) c.check.ensures.ends
+
+pub returns-in-Verify-clause-ends : goal.returns-in-Verify-clause-ends
+returns-in-Verify-clause-ends g c =
+    verify_asked (texts c.args.words.now) (request_of c.in-Some.command) c.in-Verify.problem.now c.in-Verify.derivation.now (option_copied c.in-Verify.field-2) c.in-Some.ensures.some (ap task_of c.in-Verify.is) (g.S.Store.files c.args.store.now) c.verify.result (g.L.Sink.taken c.args.log.now) (g.L.Sink.taken c.verify.new.log) c.verify.ensures.ends
+
+pub returns-in-Verify-clause-absence : goal.returns-in-Verify-clause-absence
+returns-in-Verify-clause-absence g c =
+    asked_absence _ (g.S.Store.files c.args.store.now) (texts c.args.words.now) (request_of c.in-Some.command) (Verify c.in-Verify.problem.now c.in-Verify.derivation.now (option_copied c.in-Verify.field-2)) c.verify.result c.in-Some.ensures.some (ap task_of c.in-Verify.is) c.verify.ensures.absence
+
+pub returns-in-Format-clause-absence : goal.returns-in-Format-clause-absence
+returns-in-Format-clause-absence g c =
+    asked_absence _ (g.S.Store.files c.args.store.now) (texts c.args.words.now) (request_of c.in-Some.command) (Format c.in-Format.file.now) c.format.result c.in-Some.ensures.some (ap task_of c.in-Format.is) c.format.ensures.absence
+
+pub returns-in-Verify-clause-log : goal.returns-in-Verify-clause-log
+returns-in-Verify-clause-log g c =
+    verify_logged (texts c.args.words.now) (request_of c.in-Some.command) c.in-Verify.problem.now c.in-Verify.derivation.now (option_copied c.in-Verify.field-2) c.in-Some.ensures.some (ap task_of c.in-Verify.is) (g.S.Store.files c.args.store.now) (g.L.Sink.taken c.args.log.now) (g.L.Sink.taken c.verify.new.log) c.verify.ensures.log

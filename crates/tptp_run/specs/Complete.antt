@@ -1,0 +1,39 @@
+-- Tasks that meet no fault in the files, and so succeed.
+use Rattle.std.specs.Prelude.{◌≡◌, ℕ, List, length, Some}
+use Rattle.std.specs.declared.option.Option.{Option}
+use Rattle.tptp_base.specs.declared.item.Item.{Item}
+use Rattle.tptp_base.specs.Store.{Files, file_at}
+use Rattle.kernel.specs.Statements.{Statements}
+use Rattle.tptp_run.specs.CheckedLog.{IsGiven}
+use Rattle.tptp_run.specs.GoodRuns.{AreGood}
+use Rattle.tptp_run.specs.Refuted.{Fits, HasRefutation}
+use Rattle.tptp_run.specs.Spelled.{SpellsItems}
+use Rattle.tptp_run.specs.Words.{Task, Verify, Format, Parse, Check}
+
+-- The file has a text within the limits that spells items.
+pub record IsWellSpelled (files : Files) (file : List ℕ) : Type 0 where
+  pub text : List ℕ
+  pub there : file_at files file ≡ Some text
+  pub fits : Fits 0 (length text)
+  pub items : List Item
+  pub spells : SpellsItems text items
+
+-- The problem resolves, and its formulas denote, without a fault.
+pub record IsWellSorted (files : Files) (root : Option (List ℕ)) (problem : List ℕ) : Type 0 where
+  pub theory : Statements
+  pub read : ℕ
+  pub is : IsGiven (Some files) root problem theory read
+
+-- The problem is so, and the log has the text of entries that refute what it gives.
+pub record IsRefutedByLog (files : Files) (root : Option (List ℕ)) (problem log : List ℕ) : Type 0 where
+  pub theory : Statements
+  pub read : ℕ
+  pub is : IsGiven (Some files) root problem theory read
+  pub refuted : HasRefutation files log theory read
+
+-- the files have no fault that the task could meet
+abbrev pub MeetsNoFault : Files → Option (List ℕ) → Task → Type 0
+MeetsNoFault files root (Verify problem derivation log) = AreGood files root problem derivation
+MeetsNoFault files root (Format file) = IsWellSpelled files file
+MeetsNoFault files root (Parse file) = IsWellSorted files root file
+MeetsNoFault files root (Check problem log) = IsRefutedByLog files root problem log

@@ -1,0 +1,121 @@
+// The command `check`.
+ghost use Rattle.std.specs.Prelude.{◌≡◌, ◌⊎◌, ◌≤◌, ◌-◌, IfOk, IfErr, IfSome, length};
+ghost use Rattle.std.specs.Option.{option_copied};
+ghost use Rattle.tptp_base.specs.Count.{Rose};
+ghost use Rattle.tptp_run.specs.Answer.{ending_of};
+ghost use Rattle.tptp_run.specs.CheckedLog as spec;
+ghost use Rattle.tptp_run.specs.CheckedLog.{EndsCheck, SaysLog, SaysEntries};
+ghost use Rattle.tptp_run.specs.Ending.{AfterFile};
+ghost use Rattle.tptp_run.specs.OtherFaults.{SaysProblemFault};
+ghost use Rattle.tptp_run.specs.Outcome.{IsAnswer};
+ghost use Rattle.tptp_run.specs.Stop.{HasCause, IfAnswer, IfStopped};
+
+use crate::given::{Given, read_given};
+use crate::refusals::read_text;
+use crate::run::TOTAL_SIZE;
+use crate::stop::{Answer, Halt, Stop};
+use kernel::{Entry, Theory};
+use proof_log::{CheckFault, LogFault, check_entries, read_log};
+use std::alloc::{AllocError, Global};
+use tptp_base::{FILE_SIZE, Store};
+
+/// Reads a problem with all that it includes, and a log, and says whether the log leads from the problem to falsehood.
+#[tactic(auto, using(crate::proofs::Checks::ends_refused))]
+pub fn check<S: Store>(
+    alloc: Global,
+    store: &mut S,
+    root: Option<&str>,
+    problem: &str,
+    log: &str,
+) -> Result<Answer, Halt>
+    ensures ends { IfAnswer result (λ answer. IfSome (S.files store.old) (λ files. EndsCheck files (option_copied root.entry) problem.now log.now (ending_of answer))) }
+    ensures status { IfAnswer result (λ answer. IsAnswer answer.status) }
+    ensures absence { IfAnswer result (λ answer. answer.status ≡ 3 → Rose (S.absents store.old) (S.absents store.new) ⊎ SaysProblemFault (S.files store.old) (option_copied root.entry) problem.now (ending_of answer)) }
+    ensures cause { IfStopped result (λ stop. HasCause stop (Rose (S.faults store.old) (S.faults store.new)) ⊥) }
+{
+    let mut given = read_given(alloc, store, root, problem)?;
+    check_log(alloc, store, &mut given, log)
+}
+
+// What is said of the file of a log.
+#[tactic(auto, using(crate::proofs::Checks::log_unread, crate::proofs::Checks::log_said, crate::proofs::Absences::read_said))]
+fn check_log<S: Store>(
+    alloc: Global,
+    store: &mut S,
+    given: &mut Given,
+    log: &str,
+) -> Result<Answer, Halt>
+    requires { given.old.read ≤ TOTAL_SIZE }
+    ensures ends { IfAnswer result (λ answer. IfSome (S.files store.old) (λ files. AfterFile files log.now (TOTAL_SIZE - given.old.read) (SaysLog given.old.theory) (ending_of answer))) }
+    ensures status { IfAnswer result (λ answer. IsAnswer answer.status) }
+    ensures absence { IfAnswer result (λ answer. answer.status ≡ 3 → Rose (S.absents store.old) (S.absents store.new)) }
+    ensures cause { IfStopped result (λ stop. HasCause stop (Rose (S.faults store.old) (S.faults store.new)) ⊥) }
+{
+    let text = read_text(alloc, store, log, TOTAL_SIZE - given.read)?;
+    Ok(check_text(alloc, &mut given.theory, text.as_slice())?)
+}
+
+// What is said of the text of a log.
+#[tactic(auto, using(crate::proofs::Checks::fault_said, crate::proofs::Checks::entries_said))]
+fn check_text(alloc: Global, theory: &mut Theory, text: &[u8]) -> Result<Answer, Stop>
+    requires { length text.now ≤ FILE_SIZE }
+    ensures said { IfOk result (λ answer. SaysLog theory.old text.now (ending_of answer)) }
+    ensures status { IfOk result (λ answer. (answer.status ≡ 0) ⊎ (answer.status ≡ 1)) }
+    ensures cause { IfErr result (λ stop. HasCause stop ⊥ ⊥) }
+{
+    match read_log(alloc, text) {
+        Ok(entries) => say_entries(alloc, theory, entries.as_slice()),
+        Err(LogFault::Text(offset)) => Ok(say_log_fault(alloc, offset)?),
+        Err(LogFault::Deep(offset)) => Ok(say_log_fault(alloc, offset)?),
+        Err(LogFault::Limit) => unreachable!(),
+        Err(LogFault::Memory) => Err(Stop::Memory),
+    }
+}
+
+// What is said of the entries of a log.
+#[tactic(auto, using(crate::proofs::Checks::number_fits))]
+fn say_entries(alloc: Global, theory: &mut Theory, entries: &[Entry]) -> Result<Answer, Stop>
+    ensures said { IfOk result (λ answer. SaysEntries theory.old entries.now (ending_of answer)) }
+    ensures status { IfOk result (λ answer. (answer.status ≡ 0) ⊎ (answer.status ≡ 1)) }
+    ensures cause { IfErr result (λ stop. HasCause stop ⊥ ⊥) }
+{
+    let count = entries.len();
+    match check_entries(theory, entries) {
+        Ok(()) => Ok(say_refuted(alloc, count)?),
+        Err(CheckFault::Illegal(number)) => Ok(say_illegal(alloc, number + 1)?),
+        Err(CheckFault::NotRefuted) => Ok(say_not_refuted(alloc)?),
+        Err(CheckFault::Memory) => Err(Stop::Memory),
+    }
+}
+
+// What is said of a text that is no log.
+fn say_log_fault(alloc: Global, offset: u64) -> Result<Answer, AllocError>
+    ensures { IfOk result (λ answer. ending_of answer ≡ spec.log_fault offset) }
+{
+    let text = format!(in alloc; "log fault at offset {offset}\n")?;
+    Ok(Answer::new(1, text))
+}
+
+// What is said of the first entry that is not legal, with its number from 1.
+fn say_illegal(alloc: Global, number: usize) -> Result<Answer, AllocError>
+    ensures { IfOk result (λ answer. ending_of answer ≡ spec.illegal_entry number) }
+{
+    let text = format!(in alloc; "entry {number} is illegal\n")?;
+    Ok(Answer::new(1, text))
+}
+
+// What is said of entries behind which the last formula is not falsehood.
+fn say_not_refuted(alloc: Global) -> Result<Answer, AllocError>
+    ensures { IfOk result (λ answer. ending_of answer ≡ spec.not_refuted) }
+{
+    let text = String::from_str(alloc, "not refuted\n")?;
+    Ok(Answer::new(1, text))
+}
+
+// What is said of entries behind which it is.
+fn say_refuted(alloc: Global, count: usize) -> Result<Answer, AllocError>
+    ensures { IfOk result (λ answer. ending_of answer ≡ spec.refuted count) }
+{
+    let text = format!(in alloc; "refuted: {count} entries\n")?;
+    Ok(Answer::new(0, text))
+}

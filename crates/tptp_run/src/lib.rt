@@ -1,0 +1,32 @@
+//! The call that `tptp` makes: words, files and sinks in, a status out.
+#![tactic(auto)]
+
+mod check;
+mod counts;
+mod denoted;
+mod derived;
+mod format;
+mod given;
+mod laws;
+mod named_log;
+mod parse;
+mod refusals;
+mod resolved;
+mod run;
+mod saying;
+mod sources;
+mod spelled;
+mod stop;
+#[cfg(test)]
+mod tests;
+mod verify;
+mod words;
+
+pub use counts::a_parse_counts_formulas;
+pub use laws::{
+    a_check_is_exact, a_verified_log_checks, format_has_one_ending, parse_has_one_ending,
+    what_is_given_is_one,
+};
+pub use named_log::log_name;
+pub use run::{TOTAL_SIZE, USAGE, run_tptp};
+pub use words::{Command, Job, read_words};

@@ -1,0 +1,79 @@
+// What the text of a problem spells, and what is said of its first fault.
+ghost use Rattle.std.specs.Prelude.{◌≡◌, ◌⊎◌, Ok, Err, IfOk, IfErr};
+ghost use Rattle.tptp_run.specs.Answer.{ending_of};
+ghost use Rattle.tptp_run.specs.Spelled.{IsLexed, IsParsed, SpellsItems, IsTextRefusal, SaysLexFault, SaysGrammarFault};
+ghost use Rattle.tptp_run.specs.Stop.{HasCause, IfRefused, IfStopped};
+ghost use Rattle.tptp_lexer.specs.declared.fault.LexFault.{LexFault as lex_fault};
+
+use crate::saying::{over_limit, say_at};
+use crate::stop::{Answer, Halt, Stop};
+use std::alloc::Global;
+use tptp_base::{Item, List, Region};
+use tptp_grammar::{GrammarFault, parse};
+use tptp_lexer::{LexFault, Style, Tokens, tokens};
+
+/// The items that the text of a file spells. The first fault of the text is refused.
+pub fn read_items(alloc: Global, name: &str, text: &[u8]) -> Result<List<Item>, Halt>
+    ensures spelled { IfOk result (λ items. SpellsItems text.now items) }
+    ensures refused { IfRefused result (λ answer. IsTextRefusal name.now text.now (ending_of answer)) }
+    ensures status { IfRefused result (λ answer. (answer.status ≡ 3) ⊎ (answer.status ≡ 7)) }
+    ensures cause { IfStopped result (λ stop. HasCause stop ⊥ ⊥) }
+{
+    let tokens = read_tokens(alloc, name, text)?;
+    match parse(alloc, &tokens) {
+        Ok(items) => Ok(items),
+        Err(fault) => Err(Halt::Refused(say_grammar_fault(alloc, name.as_bytes(), fault)?)),
+    }
+}
+
+// The tokens of the text.
+fn read_tokens(alloc: Global, name: &str, text: &[u8]) -> Result<Tokens, Halt>
+    ensures lexed { IfOk result (λ tokens. IsLexed text.now (Ok tokens)) }
+    ensures refused { IfRefused result (λ answer. (fault : lex_fault) × IsLexed text.now (Err fault) × SaysLexFault name.now fault (ending_of answer)) }
+    ensures status { IfRefused result (λ answer. (answer.status ≡ 3) ⊎ (answer.status ≡ 7)) }
+    ensures cause { IfStopped result (λ stop. HasCause stop ⊥ ⊥) }
+{
+    let whole = Region {
+        start: 0,
+        end: text.len() as u64,
+    };
+    match tokens(alloc, 0, text, whole, Style::Problem) {
+        Ok(tokens) => Ok(tokens),
+        Err(fault) => Err(Halt::Refused(say_lex_fault(alloc, name.as_bytes(), fault)?)),
+    }
+}
+
+/// What is said of a fault of the lexer, if memory is not wanting.
+pub fn say_lex_fault(alloc: Global, name: &[u8], fault: LexFault) -> Result<Answer, Stop>
+    ensures said { IfOk result (λ answer. SaysLexFault name.now fault (ending_of answer)) }
+    ensures status { IfOk result (λ answer. (answer.status ≡ 3) ⊎ (answer.status ≡ 7)) }
+    ensures cause { IfErr result (λ stop. HasCause stop ⊥ ⊥) }
+{
+    match fault {
+        LexFault::Byte(place) => Ok(say_at(alloc, 3, name, place, b"no token begins here")?),
+        LexFault::Unfinished(place) => Ok(say_at(
+            alloc,
+            3,
+            name,
+            place,
+            b"unfinished quote or comment",
+        )?),
+        LexFault::Limit(limit) => Ok(over_limit(alloc, name, limit)?),
+        LexFault::Memory => Err(Stop::Memory),
+    }
+}
+
+/// What is said of a fault of the parser, if memory is not wanting.
+pub fn say_grammar_fault(alloc: Global, name: &[u8], fault: GrammarFault) -> Result<Answer, Stop>
+    ensures said { IfOk result (λ answer. SaysGrammarFault name.now fault (ending_of answer)) }
+    ensures status { IfOk result (λ answer. (answer.status ≡ 3) ⊎ (answer.status ≡ 7)) }
+    ensures cause { IfErr result (λ stop. HasCause stop ⊥ ⊥) }
+{
+    match fault {
+        GrammarFault::Token(place) => Ok(say_at(alloc, 3, name, place, b"unexpected token")?),
+        GrammarFault::Profile(place) => Ok(say_at(alloc, 3, name, place, b"not in this profile")?),
+        GrammarFault::End(place) => Ok(say_at(alloc, 3, name, place, b"unexpected end")?),
+        GrammarFault::Deep(place) => Ok(say_at(alloc, 7, name, place, b"limit nesting")?),
+        GrammarFault::Memory => Err(Stop::Memory),
+    }
+}

@@ -1,5 +1,0 @@
-use Rattle.tptp_tool.proofs.FormulaCounts.{run_counts}
-use Rattle.tptp_tool.proofs.counts.a_parse_counts_formulas.Goals as goal
-
-pub returns : goal.returns
-returns c = run_counts

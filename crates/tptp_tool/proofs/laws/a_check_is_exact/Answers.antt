@@ -1,5 +1,0 @@
-use Rattle.tptp_tool.proofs.Exact.{run_exact}
-use Rattle.tptp_tool.proofs.laws.a_check_is_exact.Goals as goal
-
-pub returns : goal.returns
-returns c = run_exact

@@ -1,5 +1,0 @@
-use Rattle.tptp_tool.proofs.Exact.{run_checks}
-use Rattle.tptp_tool.proofs.laws.a_verified_log_checks.Goals as goal
-
-pub returns : goal.returns
-returns c = run_checks

@@ -1,5 +1,0 @@
-use Rattle.tptp_tool.proofs.OneFormat.{one_format}
-use Rattle.tptp_tool.proofs.laws.format_has_one_ending.Goals as goal
-
-pub returns : goal.returns
-returns c = one_format

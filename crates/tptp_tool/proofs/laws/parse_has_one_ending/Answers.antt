@@ -1,5 +1,0 @@
-use Rattle.tptp_tool.proofs.OneEnding.{one_parse}
-use Rattle.tptp_tool.proofs.laws.parse_has_one_ending.Goals as goal
-
-pub returns : goal.returns
-returns c = one_parse

@@ -1,5 +1,0 @@
-use Rattle.tptp_tool.proofs.OneProblem.{one_given}
-use Rattle.tptp_tool.proofs.laws.what_is_given_is_one.Goals as goal
-
-pub returns : goal.returns
-returns c = one_given
