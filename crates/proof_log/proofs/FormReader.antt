@@ -98,50 +98,34 @@ abbrev Split : {B : Type 0} → (B → List Word) → (B → Form) → ℕ → F
 Split words make d x ts rest = (v : _) × Spell words (suc d) v ts rest × (make v ≡ x)
 
 module _ (d : ℕ) (ts rest : List (Nested ℕ)) where
-  abbrev IsAt : FormName → Form → form.Form-F Form → Type 0
-  IsAt w x l = (out-Form x ≡ l) × (head_of l ≡ w) × (ts ≡ nested (suc d) (args_of l) ++ rest) × AreInRange (args_of l)
-
-  is_at : (w : FormName) (x : Form) → FormArgs d w x ts rest → IsAt w x (out-Form x)
-  is_at w x h = (refl, h.0, h.1.0, h.1.1)
-
   built : (x y : Form) (l : form.Form-F Form) → out-Form x ≡ l → roll-Form l ≡ y → y ≡ x
   built x y l e k = sym (sym (roll-out-Form x) ∙ ap roll-Form e ∙ k)
 
-  split-Atom : (x : Form) (l : form.Form-F Form) → IsAt n.Atom x l → Split {B = ℕ × List Term} (pair (one_number 4294967295) (list_words term_words)) (λ v. Atom v.0 v.1) d x ts rest
-  split-Atom x (form.Atom p args) h = ((p, args), (h.2, h.3), built x (Atom p args) (form.Atom p args) h.0 (rolls-Atom p args))
-  split-Atom x l h = let e = h.1 in cc
+  -- by its name
+  abbrev PartsBy : FormName → Form → Type 0
+  PartsBy n.Atom x = Split {B = ℕ × List Term} (pair (one_number 4294967295) (list_words term_words)) (λ v. Atom v.0 v.1) d x ts rest
+  PartsBy n.Eq x = Split {B = Term × Term} (pair term_words term_words) (λ v. Eq v.0 v.1) d x ts rest
+  PartsBy n.Not x = Split {B = Form} form_words Not d x ts rest
+  PartsBy n.And x = Split {B = List Form} (list_words form_words) And d x ts rest
+  PartsBy n.Or x = Split {B = List Form} (list_words form_words) Or d x ts rest
+  PartsBy n.Imp x = Split {B = Form × Form} (pair form_words form_words) (λ v. Imp v.0 v.1) d x ts rest
+  PartsBy n.Iff x = Split {B = Form × Form} (pair form_words form_words) (λ v. Iff v.0 v.1) d x ts rest
+  PartsBy n.All x = Split {B = ℕ × Form} (pair (one_number 4294967295) form_words) (λ v. All v.0 v.1) d x ts rest
+  PartsBy n.Ex x = Split {B = ℕ × Form} (pair (one_number 4294967295) form_words) (λ v. Ex v.0 v.1) d x ts rest
 
-  split-Eq : (x : Form) (l : form.Form-F Form) → IsAt n.Eq x l → Split {B = Term × Term} (pair term_words term_words) (λ v. Eq v.0 v.1) d x ts rest
-  split-Eq x (form.Eq s t) h = ((s, t), (h.2, h.3), built x (Eq s t) (form.Eq s t) h.0 (rolls-Eq s t))
-  split-Eq x l h = let e = h.1 in cc
+  parts : (x : Form) (l : form.Form-F Form) → out-Form x ≡ l → ts ≡ nested (suc d) (args_of l) ++ rest → AreInRange (args_of l) → PartsBy (head_of l) x
+  parts x (form.Atom p args) out text fits = ((p, args), (text, fits), built x (Atom p args) (form.Atom p args) out (rolls-Atom p args))
+  parts x (form.Eq s t) out text fits = ((s, t), (text, fits), built x (Eq s t) (form.Eq s t) out (rolls-Eq s t))
+  parts x (form.Not a) out text fits = (a, (text, fits), built x (Not a) (form.Not a) out (rolls-Not a))
+  parts x (form.And members) out text fits = (members, (text, fits), built x (And members) (form.And members) out (rolls-And members))
+  parts x (form.Or members) out text fits = (members, (text, fits), built x (Or members) (form.Or members) out (rolls-Or members))
+  parts x (form.Imp a b) out text fits = ((a, b), (text, fits), built x (Imp a b) (form.Imp a b) out (rolls-Imp a b))
+  parts x (form.Iff a b) out text fits = ((a, b), (text, fits), built x (Iff a b) (form.Iff a b) out (rolls-Iff a b))
+  parts x (form.All s a) out text fits = ((s, a), (text, fits), built x (All s a) (form.All s a) out (rolls-All s a))
+  parts x (form.Ex s a) out text fits = ((s, a), (text, fits), built x (Ex s a) (form.Ex s a) out (rolls-Ex s a))
 
-  split-Not : (x : Form) (l : form.Form-F Form) → IsAt n.Not x l → Split {B = Form} form_words Not d x ts rest
-  split-Not x (form.Not a) h = (a, (h.2, h.3), built x (Not a) (form.Not a) h.0 (rolls-Not a))
-  split-Not x l h = let e = h.1 in cc
-
-  split-And : (x : Form) (l : form.Form-F Form) → IsAt n.And x l → Split {B = List Form} (list_words form_words) And d x ts rest
-  split-And x (form.And members) h = (members, (h.2, h.3), built x (And members) (form.And members) h.0 (rolls-And members))
-  split-And x l h = let e = h.1 in cc
-
-  split-Or : (x : Form) (l : form.Form-F Form) → IsAt n.Or x l → Split {B = List Form} (list_words form_words) Or d x ts rest
-  split-Or x (form.Or members) h = (members, (h.2, h.3), built x (Or members) (form.Or members) h.0 (rolls-Or members))
-  split-Or x l h = let e = h.1 in cc
-
-  split-Imp : (x : Form) (l : form.Form-F Form) → IsAt n.Imp x l → Split {B = Form × Form} (pair form_words form_words) (λ v. Imp v.0 v.1) d x ts rest
-  split-Imp x (form.Imp a b) h = ((a, b), (h.2, h.3), built x (Imp a b) (form.Imp a b) h.0 (rolls-Imp a b))
-  split-Imp x l h = let e = h.1 in cc
-
-  split-Iff : (x : Form) (l : form.Form-F Form) → IsAt n.Iff x l → Split {B = Form × Form} (pair form_words form_words) (λ v. Iff v.0 v.1) d x ts rest
-  split-Iff x (form.Iff a b) h = ((a, b), (h.2, h.3), built x (Iff a b) (form.Iff a b) h.0 (rolls-Iff a b))
-  split-Iff x l h = let e = h.1 in cc
-
-  split-All : (x : Form) (l : form.Form-F Form) → IsAt n.All x l → Split {B = ℕ × Form} (pair (one_number 4294967295) form_words) (λ v. All v.0 v.1) d x ts rest
-  split-All x (form.All s a) h = ((s, a), (h.2, h.3), built x (All s a) (form.All s a) h.0 (rolls-All s a))
-  split-All x l h = let e = h.1 in cc
-
-  split-Ex : (x : Form) (l : form.Form-F Form) → IsAt n.Ex x l → Split {B = ℕ × Form} (pair (one_number 4294967295) form_words) (λ v. Ex v.0 v.1) d x ts rest
-  split-Ex x (form.Ex s a) h = ((s, a), (h.2, h.3), built x (Ex s a) (form.Ex s a) h.0 (rolls-Ex s a))
-  split-Ex x l h = let e = h.1 in cc
+  split : (w : FormName) (x : Form) → FormArgs d w x ts rest → PartsBy w x
+  split w x h = subst (λ v. PartsBy v x) h.0 (parts x (out-Form x) refl h.1.0 h.1.1)
 
 -- ---- the readers
 
@@ -149,31 +133,31 @@ module _ (limit d : ℕ) (t : Reader ℕ Term) (good_t : Good limit t (Spell ter
   good_by : (w : FormName) → Good limit (form_by t f w) (FormArgs d w) ends
   good_by n.Atom =
       good_map limit (both (number 4294967295) (listed t)) (form_by t f n.Atom) (Spell (pair (one_number 4294967295) (list_words term_words)) (suc d)) (FormArgs d n.Atom) ends (λ v. Atom v.0 v.1) (λ us. refl) (good_pair limit (suc d) (number 4294967295) (listed t) (one_number 4294967295) (list_words term_words) (small_good (suc d)) (good_list term_words limit (suc d) t good_t))
-      (λ v us rest h. to_args d n.Atom (Atom v.0 v.1) (form.Atom v.0 v.1) (outs-Atom v.0 v.1) refl us rest h.0 h.1) (λ x us rest h. split-Atom d us rest x (out-Form x) (is_at d us rest n.Atom x h))
+      (λ v us rest h. to_args d n.Atom (Atom v.0 v.1) (form.Atom v.0 v.1) (outs-Atom v.0 v.1) refl us rest h.0 h.1) (λ x us rest h. split d us rest n.Atom x h)
   good_by n.Eq =
       good_map limit (both t t) (form_by t f n.Eq) (Spell (pair term_words term_words) (suc d)) (FormArgs d n.Eq) ends (λ v. Eq v.0 v.1) (λ us. refl) (good_pair limit (suc d) t t term_words term_words good_t good_t)
-      (λ v us rest h. to_args d n.Eq (Eq v.0 v.1) (form.Eq v.0 v.1) (outs-Eq v.0 v.1) refl us rest h.0 h.1) (λ x us rest h. split-Eq d us rest x (out-Form x) (is_at d us rest n.Eq x h))
+      (λ v us rest h. to_args d n.Eq (Eq v.0 v.1) (form.Eq v.0 v.1) (outs-Eq v.0 v.1) refl us rest h.0 h.1) (λ x us rest h. split d us rest n.Eq x h)
   good_by n.Not =
       good_map limit f (form_by t f n.Not) (Spell form_words (suc d)) (FormArgs d n.Not) ends Not (λ us. refl) good_f
-      (λ v us rest h. to_args d n.Not (Not v) (form.Not v) (outs-Not v) refl us rest h.0 h.1) (λ x us rest h. split-Not d us rest x (out-Form x) (is_at d us rest n.Not x h))
+      (λ v us rest h. to_args d n.Not (Not v) (form.Not v) (outs-Not v) refl us rest h.0 h.1) (λ x us rest h. split d us rest n.Not x h)
   good_by n.And =
       good_map limit (listed f) (form_by t f n.And) (Spell (list_words form_words) (suc d)) (FormArgs d n.And) ends And (λ us. refl) (good_list form_words limit (suc d) f good_f)
-      (λ v us rest h. to_args d n.And (And v) (form.And v) (outs-And v) refl us rest h.0 h.1) (λ x us rest h. split-And d us rest x (out-Form x) (is_at d us rest n.And x h))
+      (λ v us rest h. to_args d n.And (And v) (form.And v) (outs-And v) refl us rest h.0 h.1) (λ x us rest h. split d us rest n.And x h)
   good_by n.Or =
       good_map limit (listed f) (form_by t f n.Or) (Spell (list_words form_words) (suc d)) (FormArgs d n.Or) ends Or (λ us. refl) (good_list form_words limit (suc d) f good_f)
-      (λ v us rest h. to_args d n.Or (Or v) (form.Or v) (outs-Or v) refl us rest h.0 h.1) (λ x us rest h. split-Or d us rest x (out-Form x) (is_at d us rest n.Or x h))
+      (λ v us rest h. to_args d n.Or (Or v) (form.Or v) (outs-Or v) refl us rest h.0 h.1) (λ x us rest h. split d us rest n.Or x h)
   good_by n.Imp =
       good_map limit (both f f) (form_by t f n.Imp) (Spell (pair form_words form_words) (suc d)) (FormArgs d n.Imp) ends (λ v. Imp v.0 v.1) (λ us. refl) (good_pair limit (suc d) f f form_words form_words good_f good_f)
-      (λ v us rest h. to_args d n.Imp (Imp v.0 v.1) (form.Imp v.0 v.1) (outs-Imp v.0 v.1) refl us rest h.0 h.1) (λ x us rest h. split-Imp d us rest x (out-Form x) (is_at d us rest n.Imp x h))
+      (λ v us rest h. to_args d n.Imp (Imp v.0 v.1) (form.Imp v.0 v.1) (outs-Imp v.0 v.1) refl us rest h.0 h.1) (λ x us rest h. split d us rest n.Imp x h)
   good_by n.Iff =
       good_map limit (both f f) (form_by t f n.Iff) (Spell (pair form_words form_words) (suc d)) (FormArgs d n.Iff) ends (λ v. Iff v.0 v.1) (λ us. refl) (good_pair limit (suc d) f f form_words form_words good_f good_f)
-      (λ v us rest h. to_args d n.Iff (Iff v.0 v.1) (form.Iff v.0 v.1) (outs-Iff v.0 v.1) refl us rest h.0 h.1) (λ x us rest h. split-Iff d us rest x (out-Form x) (is_at d us rest n.Iff x h))
+      (λ v us rest h. to_args d n.Iff (Iff v.0 v.1) (form.Iff v.0 v.1) (outs-Iff v.0 v.1) refl us rest h.0 h.1) (λ x us rest h. split d us rest n.Iff x h)
   good_by n.All =
       good_map limit (both (number 4294967295) f) (form_by t f n.All) (Spell (pair (one_number 4294967295) form_words) (suc d)) (FormArgs d n.All) ends (λ v. All v.0 v.1) (λ us. refl) (good_pair limit (suc d) (number 4294967295) f (one_number 4294967295) form_words (small_good (suc d)) good_f)
-      (λ v us rest h. to_args d n.All (All v.0 v.1) (form.All v.0 v.1) (outs-All v.0 v.1) refl us rest h.0 h.1) (λ x us rest h. split-All d us rest x (out-Form x) (is_at d us rest n.All x h))
+      (λ v us rest h. to_args d n.All (All v.0 v.1) (form.All v.0 v.1) (outs-All v.0 v.1) refl us rest h.0 h.1) (λ x us rest h. split d us rest n.All x h)
   good_by n.Ex =
       good_map limit (both (number 4294967295) f) (form_by t f n.Ex) (Spell (pair (one_number 4294967295) form_words) (suc d)) (FormArgs d n.Ex) ends (λ v. Ex v.0 v.1) (λ us. refl) (good_pair limit (suc d) (number 4294967295) f (one_number 4294967295) form_words (small_good (suc d)) good_f)
-      (λ v us rest h. to_args d n.Ex (Ex v.0 v.1) (form.Ex v.0 v.1) (outs-Ex v.0 v.1) refl us rest h.0 h.1) (λ x us rest h. split-Ex d us rest x (out-Form x) (is_at d us rest n.Ex x h))
+      (λ v us rest h. to_args d n.Ex (Ex v.0 v.1) (form.Ex v.0 v.1) (outs-Ex v.0 v.1) refl us rest h.0 h.1) (λ x us rest h. split d us rest n.Ex x h)
 
 zero_le : {n : ℕ} → 0 ≤ n
 zero_le = omega arith

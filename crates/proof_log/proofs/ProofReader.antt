@@ -160,98 +160,58 @@ abbrev Split : {B : Type 0} → (B → List Word) → (B → Proof) → ℕ → 
 Split words make d x ts rest = (v : _) × Spell words (suc d) v ts rest × (make v ≡ x)
 
 module _ (d : ℕ) (ts rest : List (Nested ℕ)) where
-  abbrev IsAt : ProofName → Proof → proof.Proof-F Proof → Type 0
-  IsAt w x l = (out-Proof x ≡ l) × (head_of l ≡ w) × (ts ≡ nested (suc d) (args_of l) ++ rest) × AreInRange (args_of l)
-
-  is_at : (w : ProofName) (x : Proof) → ProofArgs d w x ts rest → IsAt w x (out-Proof x)
-  is_at w x h = (refl, h.0, h.1.0, h.1.1)
-
   built : (x y : Proof) (l : proof.Proof-F Proof) → out-Proof x ≡ l → roll-Proof l ≡ y → y ≡ x
   built x y l e k = sym (sym (roll-out-Proof x) ∙ ap roll-Proof e ∙ k)
 
-  split-Line : (x : Proof) (l : proof.Proof-F Proof) → IsAt n.Line x l → Split {B = ℕ} (one_number 18446744073709551615) Line d x ts rest
-  split-Line x (proof.Line i) h = (i, (h.2, h.3), built x (Line i) (proof.Line i) h.0 (rolls-Line i))
-  split-Line x l h = let e = h.1 in cc
+  -- by its name
+  abbrev PartsBy : ProofName → Proof → Type 0
+  PartsBy n.Line x = Split {B = ℕ} (one_number 18446744073709551615) Line d x ts rest
+  PartsBy n.Hyp x = Split {B = ℕ} (one_number 4294967295) Hyp d x ts rest
+  PartsBy n.AndI x = Split {B = List Proof} (list_words proof_words) AndI d x ts rest
+  PartsBy n.AndE x = Split {B = ℕ × Proof} (pair (one_number 4294967295) proof_words) (λ v. AndE v.0 v.1) d x ts rest
+  PartsBy n.OrI x = Split {B = List Form × (ℕ × Proof)} (pair (list_words form_words) (pair (one_number 4294967295) proof_words)) (λ v. OrI v.0 v.1.0 v.1.1) d x ts rest
+  PartsBy n.OrE x = Split {B = Form × (Proof × List Proof)} (pair form_words (pair proof_words (list_words proof_words))) (λ v. OrE v.0 v.1.0 v.1.1) d x ts rest
+  PartsBy n.ImpI x = Split {B = Form × Proof} (pair form_words proof_words) (λ v. ImpI v.0 v.1) d x ts rest
+  PartsBy n.ImpE x = Split {B = Proof × Proof} (pair proof_words proof_words) (λ v. ImpE v.0 v.1) d x ts rest
+  PartsBy n.NotI x = Split {B = Form × Proof} (pair form_words proof_words) (λ v. NotI v.0 v.1) d x ts rest
+  PartsBy n.NotE x = Split {B = Proof × Proof} (pair proof_words proof_words) (λ v. NotE v.0 v.1) d x ts rest
+  PartsBy n.Raa x = Split {B = Form × Proof} (pair form_words proof_words) (λ v. Raa v.0 v.1) d x ts rest
+  PartsBy n.IffI x = Split {B = Form × (Form × (Proof × Proof))} (pair form_words (pair form_words (pair proof_words proof_words))) (λ v. IffI v.0 v.1.0 v.1.1.0 v.1.1.1) d x ts rest
+  PartsBy n.IffL x = Split {B = Proof × Proof} (pair proof_words proof_words) (λ v. IffL v.0 v.1) d x ts rest
+  PartsBy n.IffR x = Split {B = Proof × Proof} (pair proof_words proof_words) (λ v. IffR v.0 v.1) d x ts rest
+  PartsBy n.AllI x = Split {B = ℕ × Proof} (pair (one_number 4294967295) proof_words) (λ v. AllI v.0 v.1) d x ts rest
+  PartsBy n.AllE x = Split {B = Term × Proof} (pair term_words proof_words) (λ v. AllE v.0 v.1) d x ts rest
+  PartsBy n.ExI x = Split {B = ℕ × (Form × (Term × Proof))} (pair (one_number 4294967295) (pair form_words (pair term_words proof_words))) (λ v. ExI v.0 v.1.0 v.1.1.0 v.1.1.1) d x ts rest
+  PartsBy n.ExE x = Split {B = Form × (Proof × Proof)} (pair form_words (pair proof_words proof_words)) (λ v. ExE v.0 v.1.0 v.1.1) d x ts rest
+  PartsBy n.Refl x = Split {B = Term} term_words Refl d x ts rest
+  PartsBy n.Subst x = Split {B = ℕ × (Form × (Proof × Proof))} (pair (one_number 4294967295) (pair form_words (pair proof_words proof_words))) (λ v. Subst v.0 v.1.0 v.1.1.0 v.1.1.1) d x ts rest
+  PartsBy n.Inhabit x = Split {B = ℕ × (Form × Proof)} (pair (one_number 4294967295) (pair form_words proof_words)) (λ v. Inhabit v.0 v.1.0 v.1.1) d x ts rest
 
-  split-Hyp : (x : Proof) (l : proof.Proof-F Proof) → IsAt n.Hyp x l → Split {B = ℕ} (one_number 4294967295) Hyp d x ts rest
-  split-Hyp x (proof.Hyp i) h = (i, (h.2, h.3), built x (Hyp i) (proof.Hyp i) h.0 (rolls-Hyp i))
-  split-Hyp x l h = let e = h.1 in cc
+  parts : (x : Proof) (l : proof.Proof-F Proof) → out-Proof x ≡ l → ts ≡ nested (suc d) (args_of l) ++ rest → AreInRange (args_of l) → PartsBy (head_of l) x
+  parts x (proof.Line i) out text fits = (i, (text, fits), built x (Line i) (proof.Line i) out (rolls-Line i))
+  parts x (proof.Hyp i) out text fits = (i, (text, fits), built x (Hyp i) (proof.Hyp i) out (rolls-Hyp i))
+  parts x (proof.AndI ps) out text fits = (ps, (text, fits), built x (AndI ps) (proof.AndI ps) out (rolls-AndI ps))
+  parts x (proof.AndE k p) out text fits = ((k, p), (text, fits), built x (AndE k p) (proof.AndE k p) out (rolls-AndE k p))
+  parts x (proof.OrI members k p) out text fits = ((members, (k, p)), (text, fits), built x (OrI members k p) (proof.OrI members k p) out (rolls-OrI members k p))
+  parts x (proof.OrE a p arms) out text fits = ((a, (p, arms)), (text, fits), built x (OrE a p arms) (proof.OrE a p arms) out (rolls-OrE a p arms))
+  parts x (proof.ImpI a p) out text fits = ((a, p), (text, fits), built x (ImpI a p) (proof.ImpI a p) out (rolls-ImpI a p))
+  parts x (proof.ImpE p q) out text fits = ((p, q), (text, fits), built x (ImpE p q) (proof.ImpE p q) out (rolls-ImpE p q))
+  parts x (proof.NotI a p) out text fits = ((a, p), (text, fits), built x (NotI a p) (proof.NotI a p) out (rolls-NotI a p))
+  parts x (proof.NotE p q) out text fits = ((p, q), (text, fits), built x (NotE p q) (proof.NotE p q) out (rolls-NotE p q))
+  parts x (proof.Raa a p) out text fits = ((a, p), (text, fits), built x (Raa a p) (proof.Raa a p) out (rolls-Raa a p))
+  parts x (proof.IffI a b p q) out text fits = ((a, (b, (p, q))), (text, fits), built x (IffI a b p q) (proof.IffI a b p q) out (rolls-IffI a b p q))
+  parts x (proof.IffL p q) out text fits = ((p, q), (text, fits), built x (IffL p q) (proof.IffL p q) out (rolls-IffL p q))
+  parts x (proof.IffR p q) out text fits = ((p, q), (text, fits), built x (IffR p q) (proof.IffR p q) out (rolls-IffR p q))
+  parts x (proof.AllI s p) out text fits = ((s, p), (text, fits), built x (AllI s p) (proof.AllI s p) out (rolls-AllI s p))
+  parts x (proof.AllE t p) out text fits = ((t, p), (text, fits), built x (AllE t p) (proof.AllE t p) out (rolls-AllE t p))
+  parts x (proof.ExI s a t p) out text fits = ((s, (a, (t, p))), (text, fits), built x (ExI s a t p) (proof.ExI s a t p) out (rolls-ExI s a t p))
+  parts x (proof.ExE a p q) out text fits = ((a, (p, q)), (text, fits), built x (ExE a p q) (proof.ExE a p q) out (rolls-ExE a p q))
+  parts x (proof.Refl t) out text fits = (t, (text, fits), built x (Refl t) (proof.Refl t) out (rolls-Refl t))
+  parts x (proof.Subst s a p q) out text fits = ((s, (a, (p, q))), (text, fits), built x (Subst s a p q) (proof.Subst s a p q) out (rolls-Subst s a p q))
+  parts x (proof.Inhabit s a p) out text fits = ((s, (a, p)), (text, fits), built x (Inhabit s a p) (proof.Inhabit s a p) out (rolls-Inhabit s a p))
 
-  split-AndI : (x : Proof) (l : proof.Proof-F Proof) → IsAt n.AndI x l → Split {B = List Proof} (list_words proof_words) AndI d x ts rest
-  split-AndI x (proof.AndI ps) h = (ps, (h.2, h.3), built x (AndI ps) (proof.AndI ps) h.0 (rolls-AndI ps))
-  split-AndI x l h = let e = h.1 in cc
-
-  split-AndE : (x : Proof) (l : proof.Proof-F Proof) → IsAt n.AndE x l → Split {B = ℕ × Proof} (pair (one_number 4294967295) proof_words) (λ v. AndE v.0 v.1) d x ts rest
-  split-AndE x (proof.AndE k p) h = ((k, p), (h.2, h.3), built x (AndE k p) (proof.AndE k p) h.0 (rolls-AndE k p))
-  split-AndE x l h = let e = h.1 in cc
-
-  split-OrI : (x : Proof) (l : proof.Proof-F Proof) → IsAt n.OrI x l → Split {B = List Form × (ℕ × Proof)} (pair (list_words form_words) (pair (one_number 4294967295) proof_words)) (λ v. OrI v.0 v.1.0 v.1.1) d x ts rest
-  split-OrI x (proof.OrI members k p) h = ((members, (k, p)), (h.2, h.3), built x (OrI members k p) (proof.OrI members k p) h.0 (rolls-OrI members k p))
-  split-OrI x l h = let e = h.1 in cc
-
-  split-OrE : (x : Proof) (l : proof.Proof-F Proof) → IsAt n.OrE x l → Split {B = Form × (Proof × List Proof)} (pair form_words (pair proof_words (list_words proof_words))) (λ v. OrE v.0 v.1.0 v.1.1) d x ts rest
-  split-OrE x (proof.OrE a p arms) h = ((a, (p, arms)), (h.2, h.3), built x (OrE a p arms) (proof.OrE a p arms) h.0 (rolls-OrE a p arms))
-  split-OrE x l h = let e = h.1 in cc
-
-  split-ImpI : (x : Proof) (l : proof.Proof-F Proof) → IsAt n.ImpI x l → Split {B = Form × Proof} (pair form_words proof_words) (λ v. ImpI v.0 v.1) d x ts rest
-  split-ImpI x (proof.ImpI a p) h = ((a, p), (h.2, h.3), built x (ImpI a p) (proof.ImpI a p) h.0 (rolls-ImpI a p))
-  split-ImpI x l h = let e = h.1 in cc
-
-  split-ImpE : (x : Proof) (l : proof.Proof-F Proof) → IsAt n.ImpE x l → Split {B = Proof × Proof} (pair proof_words proof_words) (λ v. ImpE v.0 v.1) d x ts rest
-  split-ImpE x (proof.ImpE p q) h = ((p, q), (h.2, h.3), built x (ImpE p q) (proof.ImpE p q) h.0 (rolls-ImpE p q))
-  split-ImpE x l h = let e = h.1 in cc
-
-  split-NotI : (x : Proof) (l : proof.Proof-F Proof) → IsAt n.NotI x l → Split {B = Form × Proof} (pair form_words proof_words) (λ v. NotI v.0 v.1) d x ts rest
-  split-NotI x (proof.NotI a p) h = ((a, p), (h.2, h.3), built x (NotI a p) (proof.NotI a p) h.0 (rolls-NotI a p))
-  split-NotI x l h = let e = h.1 in cc
-
-  split-NotE : (x : Proof) (l : proof.Proof-F Proof) → IsAt n.NotE x l → Split {B = Proof × Proof} (pair proof_words proof_words) (λ v. NotE v.0 v.1) d x ts rest
-  split-NotE x (proof.NotE p q) h = ((p, q), (h.2, h.3), built x (NotE p q) (proof.NotE p q) h.0 (rolls-NotE p q))
-  split-NotE x l h = let e = h.1 in cc
-
-  split-Raa : (x : Proof) (l : proof.Proof-F Proof) → IsAt n.Raa x l → Split {B = Form × Proof} (pair form_words proof_words) (λ v. Raa v.0 v.1) d x ts rest
-  split-Raa x (proof.Raa a p) h = ((a, p), (h.2, h.3), built x (Raa a p) (proof.Raa a p) h.0 (rolls-Raa a p))
-  split-Raa x l h = let e = h.1 in cc
-
-  split-IffI : (x : Proof) (l : proof.Proof-F Proof) → IsAt n.IffI x l → Split {B = Form × (Form × (Proof × Proof))} (pair form_words (pair form_words (pair proof_words proof_words))) (λ v. IffI v.0 v.1.0 v.1.1.0 v.1.1.1) d x ts rest
-  split-IffI x (proof.IffI a b p q) h = ((a, (b, (p, q))), (h.2, h.3), built x (IffI a b p q) (proof.IffI a b p q) h.0 (rolls-IffI a b p q))
-  split-IffI x l h = let e = h.1 in cc
-
-  split-IffL : (x : Proof) (l : proof.Proof-F Proof) → IsAt n.IffL x l → Split {B = Proof × Proof} (pair proof_words proof_words) (λ v. IffL v.0 v.1) d x ts rest
-  split-IffL x (proof.IffL p q) h = ((p, q), (h.2, h.3), built x (IffL p q) (proof.IffL p q) h.0 (rolls-IffL p q))
-  split-IffL x l h = let e = h.1 in cc
-
-  split-IffR : (x : Proof) (l : proof.Proof-F Proof) → IsAt n.IffR x l → Split {B = Proof × Proof} (pair proof_words proof_words) (λ v. IffR v.0 v.1) d x ts rest
-  split-IffR x (proof.IffR p q) h = ((p, q), (h.2, h.3), built x (IffR p q) (proof.IffR p q) h.0 (rolls-IffR p q))
-  split-IffR x l h = let e = h.1 in cc
-
-  split-AllI : (x : Proof) (l : proof.Proof-F Proof) → IsAt n.AllI x l → Split {B = ℕ × Proof} (pair (one_number 4294967295) proof_words) (λ v. AllI v.0 v.1) d x ts rest
-  split-AllI x (proof.AllI s p) h = ((s, p), (h.2, h.3), built x (AllI s p) (proof.AllI s p) h.0 (rolls-AllI s p))
-  split-AllI x l h = let e = h.1 in cc
-
-  split-AllE : (x : Proof) (l : proof.Proof-F Proof) → IsAt n.AllE x l → Split {B = Term × Proof} (pair term_words proof_words) (λ v. AllE v.0 v.1) d x ts rest
-  split-AllE x (proof.AllE t p) h = ((t, p), (h.2, h.3), built x (AllE t p) (proof.AllE t p) h.0 (rolls-AllE t p))
-  split-AllE x l h = let e = h.1 in cc
-
-  split-ExI : (x : Proof) (l : proof.Proof-F Proof) → IsAt n.ExI x l → Split {B = ℕ × (Form × (Term × Proof))} (pair (one_number 4294967295) (pair form_words (pair term_words proof_words))) (λ v. ExI v.0 v.1.0 v.1.1.0 v.1.1.1) d x ts rest
-  split-ExI x (proof.ExI s a t p) h = ((s, (a, (t, p))), (h.2, h.3), built x (ExI s a t p) (proof.ExI s a t p) h.0 (rolls-ExI s a t p))
-  split-ExI x l h = let e = h.1 in cc
-
-  split-ExE : (x : Proof) (l : proof.Proof-F Proof) → IsAt n.ExE x l → Split {B = Form × (Proof × Proof)} (pair form_words (pair proof_words proof_words)) (λ v. ExE v.0 v.1.0 v.1.1) d x ts rest
-  split-ExE x (proof.ExE a p q) h = ((a, (p, q)), (h.2, h.3), built x (ExE a p q) (proof.ExE a p q) h.0 (rolls-ExE a p q))
-  split-ExE x l h = let e = h.1 in cc
-
-  split-Refl : (x : Proof) (l : proof.Proof-F Proof) → IsAt n.Refl x l → Split {B = Term} term_words Refl d x ts rest
-  split-Refl x (proof.Refl t) h = (t, (h.2, h.3), built x (Refl t) (proof.Refl t) h.0 (rolls-Refl t))
-  split-Refl x l h = let e = h.1 in cc
-
-  split-Subst : (x : Proof) (l : proof.Proof-F Proof) → IsAt n.Subst x l → Split {B = ℕ × (Form × (Proof × Proof))} (pair (one_number 4294967295) (pair form_words (pair proof_words proof_words))) (λ v. Subst v.0 v.1.0 v.1.1.0 v.1.1.1) d x ts rest
-  split-Subst x (proof.Subst s a p q) h = ((s, (a, (p, q))), (h.2, h.3), built x (Subst s a p q) (proof.Subst s a p q) h.0 (rolls-Subst s a p q))
-  split-Subst x l h = let e = h.1 in cc
-
-  split-Inhabit : (x : Proof) (l : proof.Proof-F Proof) → IsAt n.Inhabit x l → Split {B = ℕ × (Form × Proof)} (pair (one_number 4294967295) (pair form_words proof_words)) (λ v. Inhabit v.0 v.1.0 v.1.1) d x ts rest
-  split-Inhabit x (proof.Inhabit s a p) h = ((s, (a, p)), (h.2, h.3), built x (Inhabit s a p) (proof.Inhabit s a p) h.0 (rolls-Inhabit s a p))
-  split-Inhabit x l h = let e = h.1 in cc
+  split : (w : ProofName) (x : Proof) → ProofArgs d w x ts rest → PartsBy w x
+  split w x h = subst (λ v. PartsBy v x) h.0 (parts x (out-Proof x) refl h.1.0 h.1.1)
 
 -- ---- the readers
 
@@ -259,67 +219,67 @@ module _ (limit d : ℕ) (t : Reader ℕ Term) (good_t : Good limit t (Spell ter
   good_by : (w : ProofName) → Good limit (proof_by t f p w) (ProofArgs d w) ends
   good_by n.Line =
       good_map limit (number 18446744073709551615) (proof_by t f p n.Line) (Spell (one_number 18446744073709551615) (suc d)) (ProofArgs d n.Line) ends Line (λ us. refl) (large_good (suc d))
-      (λ v us rest h. to_args d n.Line (Line v) (proof.Line v) (outs-Line v) refl us rest h.0 h.1) (λ x us rest h. split-Line d us rest x (out-Proof x) (is_at d us rest n.Line x h))
+      (λ v us rest h. to_args d n.Line (Line v) (proof.Line v) (outs-Line v) refl us rest h.0 h.1) (λ x us rest h. split d us rest n.Line x h)
   good_by n.Hyp =
       good_map limit (number 4294967295) (proof_by t f p n.Hyp) (Spell (one_number 4294967295) (suc d)) (ProofArgs d n.Hyp) ends Hyp (λ us. refl) (small_good (suc d))
-      (λ v us rest h. to_args d n.Hyp (Hyp v) (proof.Hyp v) (outs-Hyp v) refl us rest h.0 h.1) (λ x us rest h. split-Hyp d us rest x (out-Proof x) (is_at d us rest n.Hyp x h))
+      (λ v us rest h. to_args d n.Hyp (Hyp v) (proof.Hyp v) (outs-Hyp v) refl us rest h.0 h.1) (λ x us rest h. split d us rest n.Hyp x h)
   good_by n.AndI =
       good_map limit (listed p) (proof_by t f p n.AndI) (Spell (list_words proof_words) (suc d)) (ProofArgs d n.AndI) ends AndI (λ us. refl) (good_list proof_words limit (suc d) p good_p)
-      (λ v us rest h. to_args d n.AndI (AndI v) (proof.AndI v) (outs-AndI v) refl us rest h.0 h.1) (λ x us rest h. split-AndI d us rest x (out-Proof x) (is_at d us rest n.AndI x h))
+      (λ v us rest h. to_args d n.AndI (AndI v) (proof.AndI v) (outs-AndI v) refl us rest h.0 h.1) (λ x us rest h. split d us rest n.AndI x h)
   good_by n.AndE =
       good_map limit (both (number 4294967295) p) (proof_by t f p n.AndE) (Spell (pair (one_number 4294967295) proof_words) (suc d)) (ProofArgs d n.AndE) ends (λ v. AndE v.0 v.1) (λ us. refl) (good_pair limit (suc d) (number 4294967295) p (one_number 4294967295) proof_words (small_good (suc d)) good_p)
-      (λ v us rest h. to_args d n.AndE (AndE v.0 v.1) (proof.AndE v.0 v.1) (outs-AndE v.0 v.1) refl us rest h.0 h.1) (λ x us rest h. split-AndE d us rest x (out-Proof x) (is_at d us rest n.AndE x h))
+      (λ v us rest h. to_args d n.AndE (AndE v.0 v.1) (proof.AndE v.0 v.1) (outs-AndE v.0 v.1) refl us rest h.0 h.1) (λ x us rest h. split d us rest n.AndE x h)
   good_by n.OrI =
       good_map limit (both (listed f) (both (number 4294967295) p)) (proof_by t f p n.OrI) (Spell (pair (list_words form_words) (pair (one_number 4294967295) proof_words)) (suc d)) (ProofArgs d n.OrI) ends (λ v. OrI v.0 v.1.0 v.1.1) (λ us. refl) (good_pair limit (suc d) (listed f) (both (number 4294967295) p) (list_words form_words) (pair (one_number 4294967295) proof_words) (good_list form_words limit (suc d) f good_f) (good_pair limit (suc d) (number 4294967295) p (one_number 4294967295) proof_words (small_good (suc d)) good_p))
-      (λ v us rest h. to_args d n.OrI (OrI v.0 v.1.0 v.1.1) (proof.OrI v.0 v.1.0 v.1.1) (outs-OrI v.0 v.1.0 v.1.1) refl us rest h.0 h.1) (λ x us rest h. split-OrI d us rest x (out-Proof x) (is_at d us rest n.OrI x h))
+      (λ v us rest h. to_args d n.OrI (OrI v.0 v.1.0 v.1.1) (proof.OrI v.0 v.1.0 v.1.1) (outs-OrI v.0 v.1.0 v.1.1) refl us rest h.0 h.1) (λ x us rest h. split d us rest n.OrI x h)
   good_by n.OrE =
       good_map limit (both f (both p (listed p))) (proof_by t f p n.OrE) (Spell (pair form_words (pair proof_words (list_words proof_words))) (suc d)) (ProofArgs d n.OrE) ends (λ v. OrE v.0 v.1.0 v.1.1) (λ us. refl) (good_pair limit (suc d) f (both p (listed p)) form_words (pair proof_words (list_words proof_words)) good_f (good_pair limit (suc d) p (listed p) proof_words (list_words proof_words) good_p (good_list proof_words limit (suc d) p good_p)))
-      (λ v us rest h. to_args d n.OrE (OrE v.0 v.1.0 v.1.1) (proof.OrE v.0 v.1.0 v.1.1) (outs-OrE v.0 v.1.0 v.1.1) refl us rest h.0 h.1) (λ x us rest h. split-OrE d us rest x (out-Proof x) (is_at d us rest n.OrE x h))
+      (λ v us rest h. to_args d n.OrE (OrE v.0 v.1.0 v.1.1) (proof.OrE v.0 v.1.0 v.1.1) (outs-OrE v.0 v.1.0 v.1.1) refl us rest h.0 h.1) (λ x us rest h. split d us rest n.OrE x h)
   good_by n.ImpI =
       good_map limit (both f p) (proof_by t f p n.ImpI) (Spell (pair form_words proof_words) (suc d)) (ProofArgs d n.ImpI) ends (λ v. ImpI v.0 v.1) (λ us. refl) (good_pair limit (suc d) f p form_words proof_words good_f good_p)
-      (λ v us rest h. to_args d n.ImpI (ImpI v.0 v.1) (proof.ImpI v.0 v.1) (outs-ImpI v.0 v.1) refl us rest h.0 h.1) (λ x us rest h. split-ImpI d us rest x (out-Proof x) (is_at d us rest n.ImpI x h))
+      (λ v us rest h. to_args d n.ImpI (ImpI v.0 v.1) (proof.ImpI v.0 v.1) (outs-ImpI v.0 v.1) refl us rest h.0 h.1) (λ x us rest h. split d us rest n.ImpI x h)
   good_by n.ImpE =
       good_map limit (both p p) (proof_by t f p n.ImpE) (Spell (pair proof_words proof_words) (suc d)) (ProofArgs d n.ImpE) ends (λ v. ImpE v.0 v.1) (λ us. refl) (good_pair limit (suc d) p p proof_words proof_words good_p good_p)
-      (λ v us rest h. to_args d n.ImpE (ImpE v.0 v.1) (proof.ImpE v.0 v.1) (outs-ImpE v.0 v.1) refl us rest h.0 h.1) (λ x us rest h. split-ImpE d us rest x (out-Proof x) (is_at d us rest n.ImpE x h))
+      (λ v us rest h. to_args d n.ImpE (ImpE v.0 v.1) (proof.ImpE v.0 v.1) (outs-ImpE v.0 v.1) refl us rest h.0 h.1) (λ x us rest h. split d us rest n.ImpE x h)
   good_by n.NotI =
       good_map limit (both f p) (proof_by t f p n.NotI) (Spell (pair form_words proof_words) (suc d)) (ProofArgs d n.NotI) ends (λ v. NotI v.0 v.1) (λ us. refl) (good_pair limit (suc d) f p form_words proof_words good_f good_p)
-      (λ v us rest h. to_args d n.NotI (NotI v.0 v.1) (proof.NotI v.0 v.1) (outs-NotI v.0 v.1) refl us rest h.0 h.1) (λ x us rest h. split-NotI d us rest x (out-Proof x) (is_at d us rest n.NotI x h))
+      (λ v us rest h. to_args d n.NotI (NotI v.0 v.1) (proof.NotI v.0 v.1) (outs-NotI v.0 v.1) refl us rest h.0 h.1) (λ x us rest h. split d us rest n.NotI x h)
   good_by n.NotE =
       good_map limit (both p p) (proof_by t f p n.NotE) (Spell (pair proof_words proof_words) (suc d)) (ProofArgs d n.NotE) ends (λ v. NotE v.0 v.1) (λ us. refl) (good_pair limit (suc d) p p proof_words proof_words good_p good_p)
-      (λ v us rest h. to_args d n.NotE (NotE v.0 v.1) (proof.NotE v.0 v.1) (outs-NotE v.0 v.1) refl us rest h.0 h.1) (λ x us rest h. split-NotE d us rest x (out-Proof x) (is_at d us rest n.NotE x h))
+      (λ v us rest h. to_args d n.NotE (NotE v.0 v.1) (proof.NotE v.0 v.1) (outs-NotE v.0 v.1) refl us rest h.0 h.1) (λ x us rest h. split d us rest n.NotE x h)
   good_by n.Raa =
       good_map limit (both f p) (proof_by t f p n.Raa) (Spell (pair form_words proof_words) (suc d)) (ProofArgs d n.Raa) ends (λ v. Raa v.0 v.1) (λ us. refl) (good_pair limit (suc d) f p form_words proof_words good_f good_p)
-      (λ v us rest h. to_args d n.Raa (Raa v.0 v.1) (proof.Raa v.0 v.1) (outs-Raa v.0 v.1) refl us rest h.0 h.1) (λ x us rest h. split-Raa d us rest x (out-Proof x) (is_at d us rest n.Raa x h))
+      (λ v us rest h. to_args d n.Raa (Raa v.0 v.1) (proof.Raa v.0 v.1) (outs-Raa v.0 v.1) refl us rest h.0 h.1) (λ x us rest h. split d us rest n.Raa x h)
   good_by n.IffI =
       good_map limit (both f (both f (both p p))) (proof_by t f p n.IffI) (Spell (pair form_words (pair form_words (pair proof_words proof_words))) (suc d)) (ProofArgs d n.IffI) ends (λ v. IffI v.0 v.1.0 v.1.1.0 v.1.1.1) (λ us. refl) (good_pair limit (suc d) f (both f (both p p)) form_words (pair form_words (pair proof_words proof_words)) good_f (good_pair limit (suc d) f (both p p) form_words (pair proof_words proof_words) good_f (good_pair limit (suc d) p p proof_words proof_words good_p good_p)))
-      (λ v us rest h. to_args d n.IffI (IffI v.0 v.1.0 v.1.1.0 v.1.1.1) (proof.IffI v.0 v.1.0 v.1.1.0 v.1.1.1) (outs-IffI v.0 v.1.0 v.1.1.0 v.1.1.1) refl us rest h.0 h.1) (λ x us rest h. split-IffI d us rest x (out-Proof x) (is_at d us rest n.IffI x h))
+      (λ v us rest h. to_args d n.IffI (IffI v.0 v.1.0 v.1.1.0 v.1.1.1) (proof.IffI v.0 v.1.0 v.1.1.0 v.1.1.1) (outs-IffI v.0 v.1.0 v.1.1.0 v.1.1.1) refl us rest h.0 h.1) (λ x us rest h. split d us rest n.IffI x h)
   good_by n.IffL =
       good_map limit (both p p) (proof_by t f p n.IffL) (Spell (pair proof_words proof_words) (suc d)) (ProofArgs d n.IffL) ends (λ v. IffL v.0 v.1) (λ us. refl) (good_pair limit (suc d) p p proof_words proof_words good_p good_p)
-      (λ v us rest h. to_args d n.IffL (IffL v.0 v.1) (proof.IffL v.0 v.1) (outs-IffL v.0 v.1) refl us rest h.0 h.1) (λ x us rest h. split-IffL d us rest x (out-Proof x) (is_at d us rest n.IffL x h))
+      (λ v us rest h. to_args d n.IffL (IffL v.0 v.1) (proof.IffL v.0 v.1) (outs-IffL v.0 v.1) refl us rest h.0 h.1) (λ x us rest h. split d us rest n.IffL x h)
   good_by n.IffR =
       good_map limit (both p p) (proof_by t f p n.IffR) (Spell (pair proof_words proof_words) (suc d)) (ProofArgs d n.IffR) ends (λ v. IffR v.0 v.1) (λ us. refl) (good_pair limit (suc d) p p proof_words proof_words good_p good_p)
-      (λ v us rest h. to_args d n.IffR (IffR v.0 v.1) (proof.IffR v.0 v.1) (outs-IffR v.0 v.1) refl us rest h.0 h.1) (λ x us rest h. split-IffR d us rest x (out-Proof x) (is_at d us rest n.IffR x h))
+      (λ v us rest h. to_args d n.IffR (IffR v.0 v.1) (proof.IffR v.0 v.1) (outs-IffR v.0 v.1) refl us rest h.0 h.1) (λ x us rest h. split d us rest n.IffR x h)
   good_by n.AllI =
       good_map limit (both (number 4294967295) p) (proof_by t f p n.AllI) (Spell (pair (one_number 4294967295) proof_words) (suc d)) (ProofArgs d n.AllI) ends (λ v. AllI v.0 v.1) (λ us. refl) (good_pair limit (suc d) (number 4294967295) p (one_number 4294967295) proof_words (small_good (suc d)) good_p)
-      (λ v us rest h. to_args d n.AllI (AllI v.0 v.1) (proof.AllI v.0 v.1) (outs-AllI v.0 v.1) refl us rest h.0 h.1) (λ x us rest h. split-AllI d us rest x (out-Proof x) (is_at d us rest n.AllI x h))
+      (λ v us rest h. to_args d n.AllI (AllI v.0 v.1) (proof.AllI v.0 v.1) (outs-AllI v.0 v.1) refl us rest h.0 h.1) (λ x us rest h. split d us rest n.AllI x h)
   good_by n.AllE =
       good_map limit (both t p) (proof_by t f p n.AllE) (Spell (pair term_words proof_words) (suc d)) (ProofArgs d n.AllE) ends (λ v. AllE v.0 v.1) (λ us. refl) (good_pair limit (suc d) t p term_words proof_words good_t good_p)
-      (λ v us rest h. to_args d n.AllE (AllE v.0 v.1) (proof.AllE v.0 v.1) (outs-AllE v.0 v.1) refl us rest h.0 h.1) (λ x us rest h. split-AllE d us rest x (out-Proof x) (is_at d us rest n.AllE x h))
+      (λ v us rest h. to_args d n.AllE (AllE v.0 v.1) (proof.AllE v.0 v.1) (outs-AllE v.0 v.1) refl us rest h.0 h.1) (λ x us rest h. split d us rest n.AllE x h)
   good_by n.ExI =
       good_map limit (both (number 4294967295) (both f (both t p))) (proof_by t f p n.ExI) (Spell (pair (one_number 4294967295) (pair form_words (pair term_words proof_words))) (suc d)) (ProofArgs d n.ExI) ends (λ v. ExI v.0 v.1.0 v.1.1.0 v.1.1.1) (λ us. refl) (good_pair limit (suc d) (number 4294967295) (both f (both t p)) (one_number 4294967295) (pair form_words (pair term_words proof_words)) (small_good (suc d)) (good_pair limit (suc d) f (both t p) form_words (pair term_words proof_words) good_f (good_pair limit (suc d) t p term_words proof_words good_t good_p)))
-      (λ v us rest h. to_args d n.ExI (ExI v.0 v.1.0 v.1.1.0 v.1.1.1) (proof.ExI v.0 v.1.0 v.1.1.0 v.1.1.1) (outs-ExI v.0 v.1.0 v.1.1.0 v.1.1.1) refl us rest h.0 h.1) (λ x us rest h. split-ExI d us rest x (out-Proof x) (is_at d us rest n.ExI x h))
+      (λ v us rest h. to_args d n.ExI (ExI v.0 v.1.0 v.1.1.0 v.1.1.1) (proof.ExI v.0 v.1.0 v.1.1.0 v.1.1.1) (outs-ExI v.0 v.1.0 v.1.1.0 v.1.1.1) refl us rest h.0 h.1) (λ x us rest h. split d us rest n.ExI x h)
   good_by n.ExE =
       good_map limit (both f (both p p)) (proof_by t f p n.ExE) (Spell (pair form_words (pair proof_words proof_words)) (suc d)) (ProofArgs d n.ExE) ends (λ v. ExE v.0 v.1.0 v.1.1) (λ us. refl) (good_pair limit (suc d) f (both p p) form_words (pair proof_words proof_words) good_f (good_pair limit (suc d) p p proof_words proof_words good_p good_p))
-      (λ v us rest h. to_args d n.ExE (ExE v.0 v.1.0 v.1.1) (proof.ExE v.0 v.1.0 v.1.1) (outs-ExE v.0 v.1.0 v.1.1) refl us rest h.0 h.1) (λ x us rest h. split-ExE d us rest x (out-Proof x) (is_at d us rest n.ExE x h))
+      (λ v us rest h. to_args d n.ExE (ExE v.0 v.1.0 v.1.1) (proof.ExE v.0 v.1.0 v.1.1) (outs-ExE v.0 v.1.0 v.1.1) refl us rest h.0 h.1) (λ x us rest h. split d us rest n.ExE x h)
   good_by n.Refl =
       good_map limit t (proof_by t f p n.Refl) (Spell term_words (suc d)) (ProofArgs d n.Refl) ends Refl (λ us. refl) good_t
-      (λ v us rest h. to_args d n.Refl (Refl v) (proof.Refl v) (outs-Refl v) refl us rest h.0 h.1) (λ x us rest h. split-Refl d us rest x (out-Proof x) (is_at d us rest n.Refl x h))
+      (λ v us rest h. to_args d n.Refl (Refl v) (proof.Refl v) (outs-Refl v) refl us rest h.0 h.1) (λ x us rest h. split d us rest n.Refl x h)
   good_by n.Subst =
       good_map limit (both (number 4294967295) (both f (both p p))) (proof_by t f p n.Subst) (Spell (pair (one_number 4294967295) (pair form_words (pair proof_words proof_words))) (suc d)) (ProofArgs d n.Subst) ends (λ v. Subst v.0 v.1.0 v.1.1.0 v.1.1.1) (λ us. refl) (good_pair limit (suc d) (number 4294967295) (both f (both p p)) (one_number 4294967295) (pair form_words (pair proof_words proof_words)) (small_good (suc d)) (good_pair limit (suc d) f (both p p) form_words (pair proof_words proof_words) good_f (good_pair limit (suc d) p p proof_words proof_words good_p good_p)))
-      (λ v us rest h. to_args d n.Subst (Subst v.0 v.1.0 v.1.1.0 v.1.1.1) (proof.Subst v.0 v.1.0 v.1.1.0 v.1.1.1) (outs-Subst v.0 v.1.0 v.1.1.0 v.1.1.1) refl us rest h.0 h.1) (λ x us rest h. split-Subst d us rest x (out-Proof x) (is_at d us rest n.Subst x h))
+      (λ v us rest h. to_args d n.Subst (Subst v.0 v.1.0 v.1.1.0 v.1.1.1) (proof.Subst v.0 v.1.0 v.1.1.0 v.1.1.1) (outs-Subst v.0 v.1.0 v.1.1.0 v.1.1.1) refl us rest h.0 h.1) (λ x us rest h. split d us rest n.Subst x h)
   good_by n.Inhabit =
       good_map limit (both (number 4294967295) (both f p)) (proof_by t f p n.Inhabit) (Spell (pair (one_number 4294967295) (pair form_words proof_words)) (suc d)) (ProofArgs d n.Inhabit) ends (λ v. Inhabit v.0 v.1.0 v.1.1) (λ us. refl) (good_pair limit (suc d) (number 4294967295) (both f p) (one_number 4294967295) (pair form_words proof_words) (small_good (suc d)) (good_pair limit (suc d) f p form_words proof_words good_f good_p))
-      (λ v us rest h. to_args d n.Inhabit (Inhabit v.0 v.1.0 v.1.1) (proof.Inhabit v.0 v.1.0 v.1.1) (outs-Inhabit v.0 v.1.0 v.1.1) refl us rest h.0 h.1) (λ x us rest h. split-Inhabit d us rest x (out-Proof x) (is_at d us rest n.Inhabit x h))
+      (λ v us rest h. to_args d n.Inhabit (Inhabit v.0 v.1.0 v.1.1) (proof.Inhabit v.0 v.1.0 v.1.1) (outs-Inhabit v.0 v.1.0 v.1.1) refl us rest h.0 h.1) (λ x us rest h. split d us rest n.Inhabit x h)
 
 zero_le : {n : ℕ} → 0 ≤ n
 zero_le = omega arith
