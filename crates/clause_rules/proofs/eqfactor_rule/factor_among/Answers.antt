@@ -1,6 +1,7 @@
-use Rattle.std.proofs.Common.{below_more}
-use Rattle.clause_rules.proofs.Firsts.{there_at}
-use Rattle.clause_rules.proofs.FactorLoops.{none_in_slot, none_among}
+use Rattle.std.proofs.Common.{below_more, refl, subst, sym}
+use Rattle.clause_rules.specs.EqFactorSearch.{FoundInParents}
+use Rattle.clause_rules.proofs.Firsts.{there_at, ok_map}
+use Rattle.clause_rules.proofs.FactorLoops.{none_in_slot, found_in_slot, none_among}
 use Rattle.clause_rules.proofs.eqfactor_rule.factor_among.Goals as goal
 
 pub loop-a-preserved : goal.loop-a-preserved
@@ -10,3 +11,9 @@ loop-a-preserved c =
 
 pub returns : goal.returns
 returns c = none_among c.args.sig.now c.args.clauses.now c.args.line.now c.loop-a.a c.loop-a-test.false c.loop-a.invariant
+
+pub returns-in-Some : goal.returns-in-Some
+returns-in-Some c =
+    let there = there_at c.args.clauses.now c.loop-a.a c.index-clauses-a.result c.loop-a-test.true c.index-clauses-a.is in
+    ok_map c.justified.result (λ just e. subst (FoundInParents c.args.sig.now c.args.clauses.now c.args.line.now) (sym e)
+    (found_in_slot c.args.sig.now c.args.clauses.now c.args.line.now c.loop-a.a _ there c.in_ok-found.found c.in-Some.factor _ c.in-Some.is c.in_ok-found.ensures refl)) c.justified.ensures
