@@ -1,5 +1,5 @@
-//! Runs of the toolchain over files in memory, written as text and tried: the rows of a file of rows. `run_rows` is all that a
-//! program of rows calls.
+//! Runs of a toolchain over files in memory, written as text and tried: the rows of a file of rows. `run_rows` is all that
+//! a program of rows calls, with the toolchain that it tries.
 #![tactic(auto)]
 
 mod bytes;
@@ -11,6 +11,8 @@ mod reading;
 mod row;
 mod running;
 mod setting;
+mod toolchain;
 mod trial;
 
 pub use running::run_rows;
+pub use toolchain::Toolchain;

@@ -28,6 +28,7 @@ pub enum WantedLog {
 pub struct Row {
     pub name: String,
     pub words: Vec<String>,
+    /// The files of the store. The last one of a name counts.
     pub files: Vec<Given>,
     /// Whether it is tried over the plain store alone.
     pub is_plain: bool,

@@ -71,14 +71,13 @@ fn set(alloc: Global, row: &mut Row, part: Part, setting: Setting<'_>) -> Result
     Ok(Part::Nothing)
 }
 
-// Puts a file behind the others, in place of one that has its name.
+// Puts a file behind the others.
 fn give(
     alloc: Global,
     files: &mut Vec<Given>,
     name: &str,
     source: Source,
 ) -> Result<(), LineFault> {
-    files.retain(|file| file.name.as_str() != name);
     let name = name.to_string(alloc)?;
     files.push(Given { name, source })?;
     Ok(())
