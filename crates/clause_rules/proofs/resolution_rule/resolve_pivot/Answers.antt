@@ -1,7 +1,8 @@
-use Rattle.std.proofs.Common.{below_more, subst}
+use Rattle.std.proofs.Common.{below_more, refl, subst, sym}
+use Rattle.clause_rules.specs.ResolutionSearch.{FoundPivot}
 use Rattle.clause_rules.specs.Screens.{NeverPivot}
-use Rattle.clause_rules.proofs.Firsts.{there_at}
-use Rattle.clause_rules.proofs.ResolutionLoops.{no_pivot, none_in_slot, none_with}
+use Rattle.clause_rules.proofs.Firsts.{there_at, ok_map}
+use Rattle.clause_rules.proofs.ResolutionLoops.{no_pivot, none_in_slot, found_in_slot, none_with}
 use Rattle.clause_rules.proofs.resolution_rule.resolve_pivot.Goals as goal
 
 pub returns-then-not-may_be_pivot : goal.returns-then-not-may_be_pivot
@@ -16,3 +17,9 @@ loop-b-preserved c =
 
 pub returns : goal.returns
 returns c = none_with c.args.sig.now c.args.clauses.now c.args.line.now c.args.left.now c.args.i c.loop-b.b c.loop-b-test.false c.loop-b.invariant
+
+pub returns-in-Some : goal.returns-in-Some
+returns-in-Some c =
+    let there = there_at c.args.clauses.now c.loop-b.b c.index-clauses-b.result c.loop-b-test.true c.index-clauses-b.is in
+    ok_map c.justified.result (λ just e. subst (FoundPivot c.args.sig.now c.args.clauses.now c.args.left.now c.args.line.now c.args.a c.args.i) (sym e)
+    (found_in_slot c.args.sig.now c.args.clauses.now c.args.line.now c.args.left.now c.loop-b.b _ there c.args.a c.args.i c.in_ok-found.found c.in-Some.found _ c.in-Some.is c.in_ok-found.ensures refl)) c.justified.ensures
