@@ -22,7 +22,13 @@ pub fn run_rows<R: Env + Files + Print + AllocGlobal, T: Toolchain>(
     let mut differing = 0u64;
     for name in env::args(rt)?.skip(1) {
         files = files.saturating_add(1);
-        differing = differing.saturating_add(run_file(rt, toolchain, name.as_str())?);
+        match run_file(rt, toolchain, name.as_str()) {
+            Ok(count) => differing = differing.saturating_add(count),
+            Err(fault) => {
+                differing = differing.saturating_add(1);
+                println!(rt; "{fault:#}")?;
+            }
+        }
     }
     if files == 0 {
         bail!("no file of rows is named");
