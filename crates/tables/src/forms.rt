@@ -1,5 +1,5 @@
 // Normal forms, clauses, sizes and symbols of formulas.
-use crate::answer::Answer;
+use crate::calls::Answer;
 use crate::line::Line;
 use crate::reading::{formula, logged, signature_of};
 use anyhow::{Context, Result, bail};
@@ -65,22 +65,30 @@ pub fn found(alloc: Global, line: &Line<'_>) -> Result<String> {
     if line.call == "conjunction" {
         return conjunction(alloc, line.part(0)?);
     }
-    let form = formula(alloc, &mut signature_of(alloc, line)?, line.part(0)?)?;
+    let mut signature = signature_of(alloc, line)?;
+    let form = formula(alloc, &mut signature, line.part(0)?)?;
     match line.call {
-        "size" => Ok(format!(in alloc; "{}", norm_size(&form))?),
-        "clauses" => Ok(format!(in alloc; "{}", clause_count(&form))?),
-        "literals" => {
-            let clause = as_clause(alloc, &form)?.context("no clause")?;
-            Ok(format!(in alloc; "{}", clause.lits.len())?)
-        }
-        "trivial" => {
-            let clause = as_clause(alloc, &form)?.context("no clause")?;
-            Ok(format!(in alloc; "{}", is_trivial(&clause))?)
-        }
-        "symbols" => Ok(symbols(alloc, &form)?),
-        "weight" => Ok(format!(in alloc; "{}", weight(right_side(&form)?))?),
+        "literals" | "trivial" => told_of_clause(alloc, line.call, &form),
+        _ => told(alloc, line.call, &form),
+    }
+}
+
+fn told(alloc: Global, call: &str, form: &Form) -> Result<String> {
+    match call {
+        "size" => Ok(norm_size(form).to_string(alloc)?),
+        "clauses" => Ok(clause_count(form).to_string(alloc)?),
+        "symbols" => Ok(symbols(alloc, form)?),
+        "weight" => Ok(weight(right_side(form)?).to_string(alloc)?),
         _ => bail!("no such call"),
     }
+}
+
+fn told_of_clause(alloc: Global, call: &str, form: &Form) -> Result<String> {
+    let clause = as_clause(alloc, form)?.context("no clause")?;
+    if call == "trivial" {
+        return Ok(is_trivial(&clause).to_string(alloc)?);
+    }
+    Ok(clause.lits.len().to_string(alloc)?)
 }
 
 fn right_side(form: &Form) -> Result<&Term> {

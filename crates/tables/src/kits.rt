@@ -3,7 +3,7 @@ ghost use Rattle.std.specs.Prelude.{◌≡◌, ◌≤◌, true};
 ghost use Rattle.clause_form.specs.Sizes.{norm_size_of};
 ghost use Rattle.derive_kit.specs.Placed.{SortedSomewhere};
 
-use crate::answer::Answer;
+use crate::calls::Answer;
 use crate::forms::text_of;
 use crate::line::Line;
 use crate::reading::{formula, signature_of};

@@ -4,7 +4,7 @@
 //! lines.
 #![tactic(auto)]
 
-mod answer;
+mod calls;
 mod forms;
 mod graphs;
 mod kits;
@@ -16,8 +16,8 @@ mod texts;
 mod tokens;
 mod unifiers;
 
-use answer::{Answer, answer};
 use anyhow::Result;
+use calls::{Answer, call};
 use line::Line;
 use std::alloc::Global;
 use std::process::ExitCode;
@@ -82,5 +82,5 @@ fn difference(alloc: Global, given: &str, text: &str) -> Result<Option<String>> 
 
 fn answer_of(alloc: Global, given: &str, text: &str) -> Result<Answer> {
     let line = Line::read(alloc, given, text)?;
-    answer(alloc, &line)
+    call(alloc, &line)
 }

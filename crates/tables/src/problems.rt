@@ -65,6 +65,7 @@ pub fn pair_of(alloc: Global, form: &Form) -> Result<Pair> {
 }
 
 /// The goal of a formula: all of a conjunction, one of a disjunction, the equality of an equation's sides.
+#[cycle(goal_of)]
 pub fn goal_of(form: &Form, alloc: Global) -> Result<Goal> {
     match form {
         Form::And(members) => Ok(Goal::All(goals_of(members.as_slice(), alloc)?)),
@@ -73,6 +74,7 @@ pub fn goal_of(form: &Form, alloc: Global) -> Result<Goal> {
     }
 }
 
+#[cycle(goal_of)]
 fn goals_of(forms: &[Form], alloc: Global) -> Result<List<Goal>> {
     let mut goals = List::new(alloc);
     for form in forms {

@@ -16,7 +16,7 @@ pub struct Answer {
 /// # Errors
 ///
 /// There is no such call, or it cannot be made of the line's parts.
-pub fn answer(alloc: Global, line: &Line<'_>) -> Result<Answer> {
+pub fn call(alloc: Global, line: &Line<'_>) -> Result<Answer> {
     match line.call {
         "norm" | "strip" | "clause" | "copy" => forms::changed(alloc, line),
         "forth" | "back" | "path" => kits::proved(alloc, line),
