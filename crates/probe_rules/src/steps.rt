@@ -1,0 +1,347 @@
+// The rules of clauses.
+ghost use Rattle.clause_form.specs.Covers.{CoversBy, scope_of};
+ghost use Rattle.clause_rules.specs.Answers.{IsAnswer, IsFirst, cover, eqfactor, norm as by_norm, paramodulation, resolution, rewrite, tautology};
+ghost use Rattle.clause_rules.specs.NormRule.{IsFirstNorm, IsNormStep};
+ghost use Rattle.clause_rules.specs.Settled.{IsFit, Settles};
+ghost use Rattle.clause_rules.specs.Steps.{AreReady, IsReady, equation};
+ghost use Rattle.std.specs.Prelude.{IfOk, IsTrue, MatchOption, true, ◌<◌, ◌↔◌};
+
+use crate::{Control, Probe};
+use clause_form::{Clause, Parent};
+use clause_rules::{
+    Just, cover_clause, cover_step, eqfactor_step, first_norm, is_ready, norm_step,
+    paramodulation_step, recognise, resolution_step, rewrite_step, tautology_step,
+};
+use fof_terms::{Form, Signature};
+use std::alloc::Global;
+use tptp_base::Memory;
+use unify_terms::Subst;
+
+/// Looks for justifications.
+pub trait Steps {
+    /// A justification by the rule `norm`: a parent has the line's normal form.
+    fn norm_step(
+        alloc: Global,
+        sig: &Signature,
+        parents: &[Parent],
+        line: &Form,
+    ) -> Result<Option<Just>, Memory>
+        ensures { IfOk result (λ answer. IsAnswer sig.now parents.now line.now by_norm answer) };
+
+    /// A justification by the rule `cover`: the line covers what some path reaches in a parent's normal form.
+    fn cover_step(
+        alloc: Global,
+        sig: &Signature,
+        parents: &[Parent],
+        line: &Form,
+    ) -> Result<Option<Just>, Memory>
+        requires parents { AreReady sig.now parents.now }
+        requires line { IsReady sig.now line.now }
+        ensures { IfOk result (λ answer. IsAnswer sig.now parents.now line.now cover answer) };
+
+    /// A justification by the rule `tautology`: the line is a clause that is true by its form.
+    fn tautology_step(
+        alloc: Global,
+        sig: &Signature,
+        parents: &[Parent],
+        line: &Form,
+    ) -> Result<Option<Just>, Memory>
+        ensures { IfOk result (λ answer. IsAnswer sig.now parents.now line.now tautology answer) };
+
+    /// A justification by the rule `resolution`: two literals of two parents become complementary, and what
+    /// else the parents have is covered by the line.
+    fn resolution_step(
+        alloc: Global,
+        sig: &Signature,
+        parents: &[Parent],
+        line: &Form,
+    ) -> Result<Option<Just>, Memory>
+        requires parents { AreReady sig.now parents.now }
+        requires line { IsReady sig.now line.now }
+        ensures { IfOk result (λ answer. IsAnswer sig.now parents.now line.now resolution answer) };
+
+    /// A justification by the rule `paramodulation`: the left side of a positive equation of one parent, as it
+    /// is read, becomes the term at a place of another, and the right side takes that place.
+    fn paramodulation_step(
+        alloc: Global,
+        sig: &Signature,
+        parents: &[Parent],
+        line: &Form,
+    ) -> Result<Option<Just>, Memory>
+        requires parents { AreReady sig.now parents.now }
+        requires line { IsReady sig.now line.now }
+        ensures { IfOk result (λ answer. IsAnswer sig.now parents.now line.now paramodulation answer) };
+
+    /// A justification by the rule `eqfactor`: two equations of a parent get one side in common, and their
+    /// other sides are denied to be equal in place of the first.
+    fn eqfactor_step(
+        alloc: Global,
+        sig: &Signature,
+        parents: &[Parent],
+        line: &Form,
+    ) -> Result<Option<Just>, Memory>
+        requires parents { AreReady sig.now parents.now }
+        requires line { IsReady sig.now line.now }
+        ensures { IfOk result (λ answer. IsAnswer sig.now parents.now line.now eqfactor answer) };
+
+    /// A justification by the rule `rewrite`: an instance of the left side of a parent that is one positive
+    /// equation, as it is read, stands in another parent, and each occurrence gives way to the right side.
+    fn rewrite_step(
+        alloc: Global,
+        sig: &Signature,
+        parents: &[Parent],
+        line: &Form,
+    ) -> Result<Option<Just>, Memory>
+        requires parents { AreReady sig.now parents.now }
+        requires line { IsReady sig.now line.now }
+        ensures { IfOk result (λ answer. IsAnswer sig.now parents.now line.now rewrite answer) };
+
+    /// A justification by the first of the rules norm, cover, tautology, resolution, paramodulation, eqfactor
+    /// and rewrite that gives the line from the parents.
+    fn recognise(
+        alloc: Global,
+        sig: &Signature,
+        parents: &[Parent],
+        line: &Form,
+    ) -> Result<Option<Just>, Memory>
+        requires parents { AreReady sig.now parents.now }
+        requires line { IsReady sig.now line.now }
+        ensures { IfOk result (λ answer. IsFirst sig.now parents.now line.now answer) };
+
+    /// A substitution that covers the clause by the line; None exactly where there is none.
+    fn cover_clause(
+        alloc: Global,
+        sig: &Signature,
+        clause: &Clause,
+        line: &Clause,
+    ) -> Result<Option<Subst>, Memory>
+        requires clause { IsFit sig.now clause.now }
+        requires line { IsFit sig.now line.now }
+        ensures { IfOk result (λ found. Settles sig.now line.now (scope_of clause.now)
+            (CoversBy sig.now (scope_of clause.now) clause.now.lits line.now) found) };
+
+    /// The number in the list, counted from 0, of the first parent with the line's normal form.
+    fn first_norm(alloc: Global, parents: &[Parent], line: &Form) -> Result<Option<u32>, Memory>
+        ensures { IfOk result (λ found. MatchOption found (IsNormStep parents.now line.now →
+            ⊥) (IsFirstNorm parents.now line.now)) };
+
+    /// Whether the rules may be asked about the formula: it is closed and well-sorted, with at most
+    /// 1,000,000,000 quantifiers inside each other.
+    fn is_ready(sig: &Signature, form: &Form) -> bool
+        ensures { IsTrue result ↔ IsReady sig.now form.now };
+}
+
+impl Steps for Probe {
+    fn norm_step(
+        alloc: Global,
+        sig: &Signature,
+        parents: &[Parent],
+        line: &Form,
+    ) -> Result<Option<Just>, Memory> {
+        norm_step(alloc, sig, parents, line)
+    }
+
+    fn cover_step(
+        alloc: Global,
+        sig: &Signature,
+        parents: &[Parent],
+        line: &Form,
+    ) -> Result<Option<Just>, Memory> {
+        cover_step(alloc, sig, parents, line)
+    }
+
+    fn tautology_step(
+        alloc: Global,
+        sig: &Signature,
+        parents: &[Parent],
+        line: &Form,
+    ) -> Result<Option<Just>, Memory> {
+        tautology_step(alloc, sig, parents, line)
+    }
+
+    fn resolution_step(
+        alloc: Global,
+        sig: &Signature,
+        parents: &[Parent],
+        line: &Form,
+    ) -> Result<Option<Just>, Memory> {
+        resolution_step(alloc, sig, parents, line)
+    }
+
+    fn paramodulation_step(
+        alloc: Global,
+        sig: &Signature,
+        parents: &[Parent],
+        line: &Form,
+    ) -> Result<Option<Just>, Memory> {
+        paramodulation_step(alloc, sig, parents, line)
+    }
+
+    fn eqfactor_step(
+        alloc: Global,
+        sig: &Signature,
+        parents: &[Parent],
+        line: &Form,
+    ) -> Result<Option<Just>, Memory> {
+        eqfactor_step(alloc, sig, parents, line)
+    }
+
+    fn rewrite_step(
+        alloc: Global,
+        sig: &Signature,
+        parents: &[Parent],
+        line: &Form,
+    ) -> Result<Option<Just>, Memory> {
+        rewrite_step(alloc, sig, parents, line)
+    }
+
+    fn recognise(
+        alloc: Global,
+        sig: &Signature,
+        parents: &[Parent],
+        line: &Form,
+    ) -> Result<Option<Just>, Memory> {
+        recognise(alloc, sig, parents, line)
+    }
+
+    fn cover_clause(
+        alloc: Global,
+        sig: &Signature,
+        clause: &Clause,
+        line: &Clause,
+    ) -> Result<Option<Subst>, Memory> {
+        cover_clause(alloc, sig, clause, line)
+    }
+
+    fn first_norm(alloc: Global, parents: &[Parent], line: &Form) -> Result<Option<u32>, Memory> {
+        first_norm(alloc, parents, line)
+    }
+
+    fn is_ready(sig: &Signature, form: &Form) -> bool {
+        is_ready(sig, form)
+    }
+}
+
+impl Steps for Control {
+    fn norm_step(
+        alloc: Global,
+        sig: &Signature,
+        parents: &[Parent],
+        line: &Form,
+    ) -> Result<Option<Just>, Memory> {
+        match norm_step(alloc, sig, parents, line)? {
+            Some(just) => Ok(Some(just)),
+            None => Ok(None),
+        }
+    }
+
+    fn cover_step(
+        alloc: Global,
+        sig: &Signature,
+        parents: &[Parent],
+        line: &Form,
+    ) -> Result<Option<Just>, Memory> {
+        match cover_step(alloc, sig, parents, line)? {
+            Some(just) => Ok(Some(just)),
+            None => Ok(None),
+        }
+    }
+
+    fn tautology_step(
+        alloc: Global,
+        sig: &Signature,
+        parents: &[Parent],
+        line: &Form,
+    ) -> Result<Option<Just>, Memory> {
+        match tautology_step(alloc, sig, parents, line)? {
+            Some(just) => Ok(Some(just)),
+            None => Ok(None),
+        }
+    }
+
+    fn resolution_step(
+        alloc: Global,
+        sig: &Signature,
+        parents: &[Parent],
+        line: &Form,
+    ) -> Result<Option<Just>, Memory> {
+        match resolution_step(alloc, sig, parents, line)? {
+            Some(just) => Ok(Some(just)),
+            None => Ok(None),
+        }
+    }
+
+    fn paramodulation_step(
+        alloc: Global,
+        sig: &Signature,
+        parents: &[Parent],
+        line: &Form,
+    ) -> Result<Option<Just>, Memory> {
+        match paramodulation_step(alloc, sig, parents, line)? {
+            Some(just) => Ok(Some(just)),
+            None => Ok(None),
+        }
+    }
+
+    fn eqfactor_step(
+        alloc: Global,
+        sig: &Signature,
+        parents: &[Parent],
+        line: &Form,
+    ) -> Result<Option<Just>, Memory> {
+        match eqfactor_step(alloc, sig, parents, line)? {
+            Some(just) => Ok(Some(just)),
+            None => Ok(None),
+        }
+    }
+
+    fn rewrite_step(
+        alloc: Global,
+        sig: &Signature,
+        parents: &[Parent],
+        line: &Form,
+    ) -> Result<Option<Just>, Memory> {
+        match rewrite_step(alloc, sig, parents, line)? {
+            Some(just) => Ok(Some(just)),
+            None => Ok(None),
+        }
+    }
+
+    fn recognise(
+        alloc: Global,
+        sig: &Signature,
+        parents: &[Parent],
+        line: &Form,
+    ) -> Result<Option<Just>, Memory> {
+        match recognise(alloc, sig, parents, line)? {
+            Some(just) => Ok(Some(just)),
+            None => Ok(None),
+        }
+    }
+
+    fn cover_clause(
+        alloc: Global,
+        sig: &Signature,
+        clause: &Clause,
+        line: &Clause,
+    ) -> Result<Option<Subst>, Memory> {
+        match cover_clause(alloc, sig, clause, line)? {
+            Some(subst) => Ok(Some(subst)),
+            None => Ok(None),
+        }
+    }
+
+    fn first_norm(alloc: Global, parents: &[Parent], line: &Form) -> Result<Option<u32>, Memory> {
+        match first_norm(alloc, parents, line)? {
+            Some(number) => Ok(Some(number)),
+            None => Ok(None),
+        }
+    }
+
+    fn is_ready(sig: &Signature, form: &Form) -> bool {
+        if is_ready(sig, form) {
+            return true;
+        }
+        false
+    }
+}
