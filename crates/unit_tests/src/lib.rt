@@ -6,6 +6,8 @@
 #[cfg(test)]
 mod builders;
 #[cfg(test)]
+mod depth;
+#[cfg(test)]
 mod files;
 #[cfg(test)]
 mod logs;

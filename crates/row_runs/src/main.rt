@@ -1,4 +1,4 @@
-//! Tries the rows on texts: what is read, printed, included and sorted.
+//! Tries the rows of the toolchain: words and files in, a status and texts out.
 #![tactic(auto)]
 
 use anyhow::Result;
