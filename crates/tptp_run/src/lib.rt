@@ -17,8 +17,6 @@ mod saying;
 mod sources;
 mod spelled;
 mod stop;
-#[cfg(test)]
-mod tests;
 mod verify;
 mod words;
 

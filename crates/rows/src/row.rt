@@ -1,0 +1,68 @@
+// A row: what a run is given, and what it must come to.
+use std::alloc::Global;
+
+/// What a file of the store holds.
+#[derive(Drop)]
+pub enum Source {
+    Text(Vec<u8>),
+    /// The log that the row before has written.
+    LastLog,
+}
+
+/// A file of the store.
+#[derive(Drop)]
+pub struct Given {
+    pub name: String,
+    pub source: Source,
+}
+
+/// What the log must have taken.
+#[derive(Drop)]
+pub enum WantedLog {
+    Text(Vec<u8>),
+    Any,
+}
+
+/// A run over files in memory, and what it must come to.
+#[derive(Drop)]
+pub struct Row {
+    pub name: String,
+    pub words: Vec<String>,
+    pub files: Vec<Given>,
+    /// Whether it is tried over the plain store alone.
+    pub is_plain: bool,
+    /// The calls of the store that fail. The first call has the number 1, here and below.
+    pub failing_reads: Vec<u64>,
+    /// The calls of the output that fail.
+    pub failing_writes: Vec<u64>,
+    /// The calls of the log that fail.
+    pub failing_entries: Vec<u64>,
+    pub status: u8,
+    pub out: Vec<u8>,
+    pub log: WantedLog,
+}
+
+impl Row {
+    /// A row without a name that gives nothing, and wants status 0 and no bytes.
+    pub fn new(alloc: Global) -> Row {
+        Row {
+            name: String::new(alloc),
+            words: Vec::new(alloc),
+            files: Vec::new(alloc),
+            is_plain: false,
+            failing_reads: Vec::new(alloc),
+            failing_writes: Vec::new(alloc),
+            failing_entries: Vec::new(alloc),
+            status: 0,
+            out: Vec::new(alloc),
+            log: WantedLog::Text(Vec::new(alloc)),
+        }
+    }
+
+    /// Whether some call is to fail.
+    pub fn has_failing_calls(&self) -> bool {
+        !self.failing_reads.is_empty()
+            || !self.failing_writes.is_empty()
+            || !self.failing_entries.is_empty()
+    }
+}

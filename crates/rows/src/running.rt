@@ -1,0 +1,79 @@
+// The files of rows that a program is called with.
+use crate::difference::differences;
+use crate::reading::read_drafts;
+use crate::row::Row;
+use crate::setting::row_of;
+use crate::trial::{run_plainly, run_slowly};
+use anyhow::{Context, Result, bail};
+use std::alloc::Global;
+use std::process::ExitCode;
+use std::rt::{Env, Files};
+use std::{env, fs};
+use tptp_base::Memory;
+
+/// Tries the rows of each file that the words of the command line name, and prints what differs and how many rows there are.
+/// The exit status is 1 where a row differs, where a file cannot be read or has no row, and where no file is named.
+pub fn run_rows<R: Env + Files + Print + AllocGlobal>(rt: &R) -> Result<ExitCode> {
+    let mut files = 0u64;
+    let mut differing = 0u64;
+    for name in env::args(rt)?.skip(1) {
+        files = files.saturating_add(1);
+        differing = differing.saturating_add(run_file(rt, name.as_str())?);
+    }
+    if files == 0 {
+        bail!("no file of rows is named");
+    }
+    Ok(ExitCode::from(u8::from(differing != 0)))
+}
+
+// Tries the rows of a file, and tells how many differ.
+fn run_file<R: Files + Print + AllocGlobal>(rt: &R, name: &str) -> Result<u64> {
+    let alloc = rt.alloc();
+    let text = fs::read_to_string(rt, name).context(name)?;
+    let drafts = read_drafts(alloc, text.as_str()).context(name)?;
+    let count = drafts.len();
+    if count == 0 {
+        bail!("{name}: there is no row");
+    }
+    let mut differing = 0u64;
+    let mut last_log = Vec::new(alloc);
+    for draft in &drafts {
+        let row = row_of(alloc, draft).context(name)?;
+        let tried = try_row(alloc, &row, &last_log)?;
+        last_log = tried.log;
+        if !tried.said.is_empty() {
+            differing = differing.saturating_add(1);
+            let row = row.name.as_str();
+            let said = tried.said;
+            print!(rt; "{name}: {row}\n{said}")?;
+        }
+    }
+    println!(rt; "{name}: {count} rows, {differing} differ")?;
+    Ok(differing)
+}
+
+// What has come of a row.
+#[derive(Drop)]
+struct Tried {
+    // What differs from what the row wants.
+    said: String,
+    log: Vec<u8>,
+}
+
+// Runs a row over the log that the row before has written. It is run once more, over a store that gives a byte at a time, where
+// nothing differs, no call is to fail, and the row does not want the plain store alone.
+fn try_row(alloc: Global, row: &Row, last_log: &[u8]) -> Result<Tried, Memory> {
+    let plain = run_plainly(alloc, row, last_log)?;
+    let mut said = differences(alloc, row, &plain)?;
+    if said.is_empty() && !row.is_plain && !row.has_failing_calls() {
+        let slow = run_slowly(alloc, row, last_log)?;
+        let differs = differences(alloc, row, &slow)?;
+        if !differs.is_empty() {
+            said = format!(in alloc; "  over a store that gives a byte at a time:\n{differs}")?;
+        }
+    }
+    Ok(Tried {
+        said,
+        log: plain.log,
+    })
+}
