@@ -1,0 +1,143 @@
+// The run of a derivation's lines, and the first and last entries of its log.
+ghost use Rattle.std.specs.Prelude.{◌≡◌, ◌≤◌, length, IfOk, IfErr, OnOk, OnErr};
+ghost use Rattle.std.specs.List.{All};
+ghost use Rattle.tptp_base.specs.Count.{Rose};
+ghost use Rattle.tptp_base.specs.Sink.{Takes};
+ghost use Rattle.tstp_graph.specs.Graphs.{IsOrdered};
+ghost use Rattle.kernel.specs.Entries.{Admits};
+ghost use Rattle.proof_log.specs.Entries.{HaveNumbersInRange};
+ghost use Rattle.clause_rules.specs.Steps.{IsReady};
+ghost use Rattle.verifier.specs.Closing.{ClosesLog, IsVerified};
+ghost use Rattle.verifier.specs.Declarations;
+ghost use Rattle.verifier.specs.Faults.{HasCause};
+ghost use Rattle.verifier.specs.Logged.{CanAdmit, LogsSome, LogsRun, entries_text};
+ghost use Rattle.verifier.specs.Report.{HasFalse};
+
+use crate::{Control, Probe};
+use fof_terms::{Form, Signature};
+use kernel::Theory;
+use std::alloc::Global;
+use szs_report::Verdict;
+use tptp_base::{List, Sink};
+use tstp_graph::Graph;
+use verifier::{LineAnswer, RunFault, close_log, declare, run_lines};
+
+/// Runs lines and logs their entries.
+pub trait Running {
+    /// Runs the lines of a derivation in the theory of its given formulas, in the order of its graph, and answers each in
+    /// the order of the text.
+    fn run_lines<K: Sink>(
+        alloc: Global,
+        forms: &[Form],
+        graph: &Graph,
+        theory: &mut Theory,
+        log: &mut K,
+    ) -> Result<List<LineAnswer>, RunFault>
+        requires same { length forms.now ≡ length graph.now.nodes }
+        requires ordered { IsOrdered graph.now.nodes graph.now }
+        requires given { All (IsReady theory.old.vocabulary) theory.old.formulas }
+        requires lines { All (IsReady theory.old.vocabulary) forms.now }
+        ensures ran { IfOk result (λ answers. LogsRun theory.old (record { given = theory.old.formulas; nodes = graph.now.nodes; forms = forms.now }) graph.now.order answers theory.new (K.taken log.old) (K.taken log.new)) }
+        ensures cut { OnErr result (LogsSome theory.old (K.taken log.old) (K.taken log.new)) }
+        ensures cause { IfErr result (λ fault. HasCause fault (Rose (K.faults log.old) (K.faults log.new))) }
+        ensures more_faults { K.faults log.old ≤ K.faults log.new };
+
+    /// Declares what the signature has and the theory lacks, and logs the declarations.
+    fn declare<K: Sink>(
+        alloc: Global,
+        signature: &Signature,
+        theory: &mut Theory,
+        log: &mut K,
+    ) -> Result<(), RunFault>
+        requires { CanAdmit theory.old (Declarations.declarations theory.old.vocabulary signature.now) }
+        ensures admits { OnOk result (Admits theory.old (Declarations.declarations theory.old.vocabulary signature.now) theory.new) }
+        ensures logged { OnOk result (Takes (K.taken log.old) (K.taken log.new) (entries_text (Declarations.declarations theory.old.vocabulary signature.now))) }
+        ensures in_range { OnOk result (HaveNumbersInRange (Declarations.declarations theory.old.vocabulary signature.now)) }
+        ensures cut { OnErr result (LogsSome theory.old (K.taken log.old) (K.taken log.new)) }
+        ensures cause { IfErr result (λ fault. HasCause fault (Rose (K.faults log.old) (K.faults log.new))) }
+        ensures more_faults { K.faults log.old ≤ K.faults log.new };
+
+    /// Writes the last entry of a log: where all is verified, a lemma that shows falsehood, and else nothing.
+    fn close_log<K: Sink>(
+        alloc: Global,
+        verdict: &Verdict,
+        theory: &Theory,
+        log: &mut K,
+    ) -> Result<(), RunFault>
+        requires { IsVerified verdict.now → HasFalse theory.now.formulas }
+        ensures closes { OnOk result (ClosesLog verdict.now theory.now (K.taken log.old) (K.taken log.new)) }
+        ensures cut { OnErr result (LogsSome theory.now (K.taken log.old) (K.taken log.new)) }
+        ensures cause { IfErr result (λ fault. HasCause fault (Rose (K.faults log.old) (K.faults log.new))) }
+        ensures more_faults { K.faults log.old ≤ K.faults log.new };
+}
+
+impl Running for Probe {
+    fn run_lines<K: Sink>(
+        alloc: Global,
+        forms: &[Form],
+        graph: &Graph,
+        theory: &mut Theory,
+        log: &mut K,
+    ) -> Result<List<LineAnswer>, RunFault> {
+        run_lines(alloc, forms, graph, theory, log)
+    }
+
+    fn declare<K: Sink>(
+        alloc: Global,
+        signature: &Signature,
+        theory: &mut Theory,
+        log: &mut K,
+    ) -> Result<(), RunFault> {
+        declare(alloc, signature, theory, log)
+    }
+
+    fn close_log<K: Sink>(
+        alloc: Global,
+        verdict: &Verdict,
+        theory: &Theory,
+        log: &mut K,
+    ) -> Result<(), RunFault> {
+        close_log(alloc, verdict, theory, log)
+    }
+}
+
+impl Running for Control {
+    fn run_lines<K: Sink>(
+        alloc: Global,
+        forms: &[Form],
+        graph: &Graph,
+        theory: &mut Theory,
+        log: &mut K,
+    ) -> Result<List<LineAnswer>, RunFault> {
+        match run_lines(alloc, forms, graph, theory, log) {
+            Ok(answers) => Ok(answers),
+            Err(RunFault::Sink) => Err(RunFault::Sink),
+            Err(RunFault::Memory) => Err(RunFault::Memory),
+        }
+    }
+
+    fn declare<K: Sink>(
+        alloc: Global,
+        signature: &Signature,
+        theory: &mut Theory,
+        log: &mut K,
+    ) -> Result<(), RunFault> {
+        match declare(alloc, signature, theory, log) {
+            Ok(()) => Ok(()),
+            Err(RunFault::Sink) => Err(RunFault::Sink),
+            Err(RunFault::Memory) => Err(RunFault::Memory),
+        }
+    }
+
+    fn close_log<K: Sink>(
+        alloc: Global,
+        verdict: &Verdict,
+        theory: &Theory,
+        log: &mut K,
+    ) -> Result<(), RunFault> {
+        match verdict {
+            Verdict::Verified(_, _, _) => close_log(alloc, verdict, theory, log),
+            Verdict::Failed(_, _, _) | Verdict::NoFalse | Verdict::BadClaim(_) => Ok(()),
+        }
+    }
+}
