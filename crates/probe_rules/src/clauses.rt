@@ -8,8 +8,6 @@ ghost use Rattle.clause_form.specs.Reached.{Suits};
 ghost use Rattle.clause_form.specs.Room.{AreOver};
 ghost use Rattle.clause_form.specs.Sizes.{clause_count_of, norm_size_of};
 ghost use Rattle.clause_form.specs.Strip.{strip_of};
-ghost use Rattle.fof_terms.specs.Lift.{greatest};
-ghost use Rattle.fof_terms.specs.declared.form.Form.{Or};
 ghost use Rattle.std.specs.Prelude.{IfOk, IfSome, IsErrOf, IsTrue, min, true, ◌-◌, ◌<◌, ◌^◌, ◌↔◌, ◌≡◌};
 
 use crate::{Control, Probe};
@@ -115,16 +113,17 @@ impl Clauses for Probe {
 impl Clauses for Control {
     fn as_clause(alloc: Global, form: &Form) -> Result<Option<Clause>, Memory> {
         match as_clause(alloc, form)? {
-            Some(clause) => Ok(Some(clause)),
+            Some(clause) => Ok(Some(Clause {
+                sorts: clause.sorts,
+                lits: clause.lits,
+            })),
             None => Ok(None),
         }
     }
 
     fn close(alloc: Global, clause: &Clause) -> Result<Form, Memory> {
-        match close(alloc, clause) {
-            Ok(form) => Ok(form),
-            Err(Memory) => Err(Memory),
-        }
+        let copy = clause.copy(alloc)?;
+        close(alloc, &copy)
     }
 
     fn norm(alloc: Global, form: &Form) -> Result<Form, FormFault> {
@@ -173,9 +172,10 @@ impl Clauses for Control {
     }
 
     fn all_beside(alloc: Global, clauses: &[Clause]) -> Result<Clause, Memory> {
-        match all_beside(alloc, clauses) {
-            Ok(whole) => Ok(whole),
-            Err(Memory) => Err(Memory),
-        }
+        let whole = all_beside(alloc, clauses)?;
+        Ok(Clause {
+            sorts: whole.sorts,
+            lits: whole.lits,
+        })
     }
 }

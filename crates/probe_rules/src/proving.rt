@@ -13,7 +13,7 @@ ghost use Rattle.fof_terms.specs.declared.term.Term.{Term as Inner};
 ghost use Rattle.kernel.specs.Proves.{Proves};
 ghost use Rattle.kernel.specs.Rules.{ProveEach};
 ghost use Rattle.kernel.specs.Statements.{Statements};
-ghost use Rattle.std.specs.Prelude.{IfOk, List, Some, length, true, ℕ, ◌-◌, ◌<◌, ◌∷◌, ◌≡◌, ◌≤◌};
+ghost use Rattle.std.specs.Prelude.{IfOk, List, Some, length, true, ℕ, ◌∷◌, ◌≡◌, ◌≤◌};
 
 use crate::{Control, Probe};
 use clause_form::Path;

@@ -6,7 +6,7 @@ ghost use Rattle.skolem_fresh.specs.ChoiceRule.{IsChoiceStep};
 ghost use Rattle.skolem_fresh.specs.Justified.{ShowsChoice, ShowsSkolem};
 ghost use Rattle.skolem_fresh.specs.SkolemRule.{IsSkolemStep, forms_of};
 ghost use Rattle.std.specs.List.{All as Each};
-ghost use Rattle.std.specs.Prelude.{IfOk, List as Listed, MatchOption, [], ℕ, ◌<◌};
+ghost use Rattle.std.specs.Prelude.{IfOk, List as Listed, MatchOption, [], ℕ};
 
 use crate::{Control, Probe};
 use clause_form::Parent;
@@ -89,8 +89,8 @@ impl Skolems for Control {
         line: &Form,
     ) -> Result<Option<SkolemJust>, Memory> {
         match choice_step(alloc, theory, line)? {
-            Some(just) => Ok(Some(just)),
-            None => Ok(None),
+            Some(SkolemJust::Choice { uses }) => Ok(Some(SkolemJust::Choice { uses })),
+            answer => Ok(answer),
         }
     }
 
@@ -113,8 +113,11 @@ impl Skolems for Control {
         line: &Form,
     ) -> Result<Option<SkolemJust>, Memory> {
         match skolem_step(alloc, theory, parents, line)? {
-            Some(just) => Ok(Some(just)),
-            None => Ok(None),
+            Some(SkolemJust::Skolem { parent, uses }) => Ok(Some(SkolemJust::Skolem {
+                parent,
+                uses,
+            })),
+            answer => Ok(answer),
         }
     }
 }

@@ -5,7 +5,7 @@ ghost use Rattle.split_defs.specs.DefinitionRule.{Defines};
 ghost use Rattle.split_defs.specs.DefinitionSearch.{IsFoundDefinition};
 ghost use Rattle.split_defs.specs.SplitRule.{IsSplitStep};
 ghost use Rattle.split_defs.specs.SplitSearch.{ShowsSplit, forms_of};
-ghost use Rattle.std.specs.Prelude.{IfOk, MatchOption, [], ◌<◌};
+ghost use Rattle.std.specs.Prelude.{IfOk, MatchOption, []};
 
 use crate::{Control, Probe};
 use clause_form::Parent;
@@ -113,8 +113,10 @@ impl Splits for Control {
         line: &Form,
     ) -> Result<Option<SplitJust>, Memory> {
         match definition_step(alloc, theory, line)? {
-            Some(just) => Ok(Some(just)),
-            None => Ok(None),
+            Some(SplitJust::Definition { symbol, first }) => {
+                Ok(Some(SplitJust::Definition { symbol, first }))
+            }
+            answer => Ok(answer),
         }
     }
 
@@ -138,8 +140,18 @@ impl Splits for Control {
         line: &Form,
     ) -> Result<Option<SplitJust>, Memory> {
         match split_step(alloc, theory, parents, line)? {
-            Some(just) => Ok(Some(just)),
-            None => Ok(None),
+            Some(
+                SplitJust::Split {
+                    parent,
+                    definitions,
+                    subst,
+                },
+            ) => Ok(Some(SplitJust::Split {
+                parent,
+                definitions,
+                subst,
+            })),
+            answer => Ok(answer),
         }
     }
 

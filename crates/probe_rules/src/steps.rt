@@ -3,8 +3,8 @@ ghost use Rattle.clause_form.specs.Covers.{CoversBy, scope_of};
 ghost use Rattle.clause_rules.specs.Answers.{IsAnswer, IsFirst, cover, eqfactor, norm as by_norm, paramodulation, resolution, rewrite, tautology};
 ghost use Rattle.clause_rules.specs.NormRule.{IsFirstNorm, IsNormStep};
 ghost use Rattle.clause_rules.specs.Settled.{IsFit, Settles};
-ghost use Rattle.clause_rules.specs.Steps.{AreReady, IsReady, equation};
-ghost use Rattle.std.specs.Prelude.{IfOk, IsTrue, MatchOption, true, ◌<◌, ◌↔◌};
+ghost use Rattle.clause_rules.specs.Steps.{AreReady, IsReady};
+ghost use Rattle.std.specs.Prelude.{IfOk, IsTrue, MatchOption, ◌↔◌};
 
 use crate::{Control, Probe};
 use clause_form::{Clause, Parent};
@@ -230,8 +230,8 @@ impl Steps for Control {
         line: &Form,
     ) -> Result<Option<Just>, Memory> {
         match norm_step(alloc, sig, parents, line)? {
-            Some(just) => Ok(Some(just)),
-            None => Ok(None),
+            Some(Just::Norm { parent }) => Ok(Some(Just::Norm { parent })),
+            answer => Ok(answer),
         }
     }
 
@@ -266,8 +266,22 @@ impl Steps for Control {
         line: &Form,
     ) -> Result<Option<Just>, Memory> {
         match resolution_step(alloc, sig, parents, line)? {
-            Some(just) => Ok(Some(just)),
-            None => Ok(None),
+            Some(
+                Just::Resolution {
+                    left,
+                    right,
+                    left_lit,
+                    right_lit,
+                    subst,
+                },
+            ) => Ok(Some(Just::Resolution {
+                left,
+                right,
+                left_lit,
+                right_lit,
+                subst,
+            })),
+            answer => Ok(answer),
         }
     }
 
@@ -278,8 +292,26 @@ impl Steps for Control {
         line: &Form,
     ) -> Result<Option<Just>, Memory> {
         match paramodulation_step(alloc, sig, parents, line)? {
-            Some(just) => Ok(Some(just)),
-            None => Ok(None),
+            Some(
+                Just::Paramodulation {
+                    into,
+                    from,
+                    into_lit,
+                    at,
+                    from_lit,
+                    flipped,
+                    subst,
+                },
+            ) => Ok(Some(Just::Paramodulation {
+                into,
+                from,
+                into_lit,
+                at,
+                from_lit,
+                flipped,
+                subst,
+            })),
+            answer => Ok(answer),
         }
     }
 
@@ -290,8 +322,24 @@ impl Steps for Control {
         line: &Form,
     ) -> Result<Option<Just>, Memory> {
         match eqfactor_step(alloc, sig, parents, line)? {
-            Some(just) => Ok(Some(just)),
-            None => Ok(None),
+            Some(
+                Just::EqFactor {
+                    parent,
+                    first,
+                    first_flipped,
+                    second,
+                    second_flipped,
+                    subst,
+                },
+            ) => Ok(Some(Just::EqFactor {
+                parent,
+                first,
+                first_flipped,
+                second,
+                second_flipped,
+                subst,
+            })),
+            answer => Ok(answer),
         }
     }
 
@@ -302,8 +350,24 @@ impl Steps for Control {
         line: &Form,
     ) -> Result<Option<Just>, Memory> {
         match rewrite_step(alloc, sig, parents, line)? {
-            Some(just) => Ok(Some(just)),
-            None => Ok(None),
+            Some(
+                Just::Rewrite {
+                    into,
+                    by,
+                    target,
+                    flipped,
+                    by_subst,
+                    subst,
+                },
+            ) => Ok(Some(Just::Rewrite {
+                into,
+                by,
+                target,
+                flipped,
+                by_subst,
+                subst,
+            })),
+            answer => Ok(answer),
         }
     }
 
@@ -313,10 +377,8 @@ impl Steps for Control {
         parents: &[Parent],
         line: &Form,
     ) -> Result<Option<Just>, Memory> {
-        match recognise(alloc, sig, parents, line)? {
-            Some(just) => Ok(Some(just)),
-            None => Ok(None),
-        }
+        let all = parents.len();
+        recognise(alloc, sig, &parents[..all], line)
     }
 
     fn cover_clause(

@@ -118,17 +118,13 @@ impl Terms for Control {
     }
 
     fn lift(alloc: Global, form: &Form, by: u32, from: u32) -> Result<Form, Memory> {
-        match lift(alloc, form, by, from) {
-            Ok(made) => Ok(made),
-            Err(Memory) => Err(Memory),
-        }
+        let copy = form.copy(alloc)?;
+        lift(alloc, &copy, by, from)
     }
 
     fn instantiate(alloc: Global, body: &Form, by: &Term) -> Result<Form, Memory> {
-        match instantiate(alloc, body, by) {
-            Ok(made) => Ok(made),
-            Err(Memory) => Err(Memory),
-        }
+        let copy = body.copy(alloc)?;
+        instantiate(alloc, &copy, by)
     }
 
     fn sort_of(term: &Term, signature: &Signature, scope: &Scope<'_>) -> Option<SortId> {

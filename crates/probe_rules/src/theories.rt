@@ -6,7 +6,7 @@ ghost use Rattle.kernel.specs.Entries.{After, Legal};
 ghost use Rattle.kernel.specs.Statements.{IsRefuted};
 ghost use Rattle.std.specs.List.{All as Each, list_any};
 ghost use Rattle.std.specs.Option.{option_copied};
-ghost use Rattle.std.specs.Prelude.{IfOk, IfSome, IsErrOf, IsTrue, List, None, OnErr, OnOk, [], reverse, slice_get, ◌↔◌, ◌≡◌};
+ghost use Rattle.std.specs.Prelude.{IfOk, IfSome, IsErrOf, IsTrue, OnErr, OnOk, [], reverse, slice_get, ◌↔◌, ◌≡◌};
 
 use crate::{Control, Probe};
 use fof_terms::{Form, Signature, SymId};

@@ -1,5 +1,5 @@
 // Unifiers.
-ghost use Rattle.std.specs.Prelude.{IfOk, None, length, true, ◌<◌, ◌^◌, ◌≡◌, ◌≤◌};
+ghost use Rattle.std.specs.Prelude.{IfOk, length, true, ◌^◌, ◌≡◌, ◌≤◌};
 ghost use Rattle.unify_terms.specs.Goals.{SolvesGoal, goal_sorted};
 ghost use Rattle.unify_terms.specs.Substitution.{instance};
 ghost use Rattle.unify_terms.specs.Unifiers.{AreSorted, Unified};
@@ -7,7 +7,7 @@ ghost use Rattle.unify_terms.specs.Unifiers.{AreSorted, Unified};
 use crate::{Control, Probe};
 use fof_terms::{Signature, Term};
 use std::alloc::Global;
-use tptp_base::Memory;
+use tptp_base::{List, Memory};
 use unify_terms::{Goal, Pair, Scope, Solution, Subst, apply, solve, unify};
 
 /// Finds unifiers.
@@ -72,10 +72,11 @@ impl Unifying for Control {
         scope: &Scope,
         pairs: &[Pair],
     ) -> Result<Option<Subst>, Memory> {
-        match unify(alloc, signature, scope, pairs)? {
-            Some(subst) => Ok(Some(subst)),
-            None => Ok(None),
-        }
+        let same = Scope {
+            sorts: List::from_slice(alloc, scope.sorts.as_slice())?,
+            rigid: scope.rigid,
+        };
+        unify(alloc, signature, &same, pairs)
     }
 
     fn solve(
@@ -85,15 +86,16 @@ impl Unifying for Control {
         goal: &Goal,
     ) -> Result<Option<Solution>, Memory> {
         match solve(alloc, signature, scope, goal)? {
-            Some(solution) => Ok(Some(solution)),
+            Some(solution) => Ok(Some(Solution {
+                subst: solution.subst,
+                choices: solution.choices,
+            })),
             None => Ok(None),
         }
     }
 
     fn apply(alloc: Global, subst: &Subst, term: &Term) -> Result<Term, Memory> {
-        match apply(alloc, subst, term) {
-            Ok(made) => Ok(made),
-            Err(Memory) => Err(Memory),
-        }
+        let copy = term.copy(alloc)?;
+        apply(alloc, subst, &copy)
     }
 }

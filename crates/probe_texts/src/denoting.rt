@@ -63,10 +63,7 @@ impl Denoting for Control {
     }
 
     fn given(alloc: Global, lines: &[Line]) -> Result<List<GivenEntry>, Memory> {
-        let all = lines.len();
-        match given(alloc, &lines[..all]) {
-            Ok(entries) => Ok(entries),
-            Err(Memory) => Err(Memory),
-        }
+        let entries = given(alloc, lines);
+        entries
     }
 }

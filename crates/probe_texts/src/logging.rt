@@ -96,17 +96,13 @@ impl Logging for Control {
 
     fn read_log(alloc: Global, bytes: &[u8]) -> Result<List<Entry>, LogFault> {
         let all = bytes.len();
-        match read_log(alloc, &bytes[..all]) {
-            Ok(entries) => Ok(entries),
-            Err(fault) => Err(fault),
-        }
+        let answer = read_log(alloc, &bytes[..all]);
+        answer
     }
 
     fn check_entries(theory: &mut Theory, entries: &[Entry]) -> Result<(), CheckFault> {
         let all = entries.len();
-        match check_entries(theory, &entries[..all]) {
-            Ok(()) => Ok(()),
-            Err(fault) => Err(fault),
-        }
+        let answer = check_entries(theory, &entries[..all]);
+        answer
     }
 }
