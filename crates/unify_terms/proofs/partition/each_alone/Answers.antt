@@ -7,8 +7,7 @@ use Rattle.unify_terms.proofs.partition.each_alone.Goals as goal
 pub returns-clause-partition : goal.returns-clause-partition
 returns-clause-partition c =
     let all = c.loop-i.invariant in
-    let end : c.loop-i.i ≡ c.args.count = omega arith in
-    (
+    let end : c.loop-i.i ≡ c.args.count = omega arith in (
       alone_labels c.loop-i.i c.loop-i.labels.items c.loop-i.heads.items c.loop-i.members.items all.0 all.1 all.2 all.3 all.4 all.5,
       length-map c.loop-i.labels.items (class_of c.loop-i.heads.items) ∙ all.0 ∙ end,
     )
