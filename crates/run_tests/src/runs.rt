@@ -89,7 +89,7 @@ fn answers_of(
         return Err(Fail::from("no lines"));
     }
     match run_lines(alloc, forms, &graph, theory, log) {
-        Ok(answers) => Ok(answers),
+        Ok(outcome) => Ok(outcome.answers),
         Err(_) => Err(Fail::from("no run")),
     }
 }
