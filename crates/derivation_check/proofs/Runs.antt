@@ -29,13 +29,14 @@ given_ready t u w is extends all = subst (λ (x : Statements). All (IsReady x.vo
 
 module _ (t : Statements) (d : Derivation) (w : Vocabulary) where
   -- the lines are run behind the declarations
-  pub runs : (u : Statements) (answers : List LineAnswer) (end : Statements) (old mid new : Option (List ℕ)) → u ≡ widened t w → Admits t (declarations t.vocabulary w) (widened t w) → Takes old mid (log_text (declarations t.vocabulary w)) → HaveNumbersInRange (declarations t.vocabulary w)
-      → LogsRun u (record { given = u.formulas; nodes = d.graph.nodes; forms = d.forms }) d.graph.order answers end mid new → LogsRuns t d w answers end old new
-  runs u answers end old mid new is declared taken in_range run =
-      let own : LogsRun (widened t w) (lines_over t d) d.graph.order answers end mid new =
-      subst (λ (x : Statements). LogsRun x (record { given = x.formulas; nodes = d.graph.nodes; forms = d.forms }) d.graph.order answers end mid new) is run in record {
+  pub runs : (u : Statements) (answers : List LineAnswer) (numbers : List (Option ℕ)) (end : Statements) (old mid new : Option (List ℕ)) → u ≡ widened t w → Admits t (declarations t.vocabulary w) (widened t w) → Takes old mid (log_text (declarations t.vocabulary w)) → HaveNumbersInRange (declarations t.vocabulary w)
+      → LogsRun u (record { given = u.formulas; nodes = d.graph.nodes; forms = d.forms }) d.graph.order answers numbers end mid new → LogsRuns t d w answers numbers end old new
+  runs u answers numbers end old mid new is declared taken in_range run =
+      let own : LogsRun (widened t w) (lines_over t d) d.graph.order answers numbers end mid new =
+      subst (λ (x : Statements). LogsRun x (record { given = x.formulas; nodes = d.graph.nodes; forms = d.forms }) d.graph.order answers numbers end mid new) is run in record {
         entries = declarations t.vocabulary w ++ own.entries;
         runs = record { own = own.entries; declared = declared; run = own.run; entries_are = refl };
+        numbered = own.numbered;
         taken = log_more old mid new (declarations t.vocabulary w) own.entries taken own.taken;
         in_range = range_both (declarations t.vocabulary w) own.entries in_range own.in_range;
       }

@@ -1,6 +1,6 @@
--- What a check of a derivation gives: a report, and a log. The log begins with the declarations of the sorts and symbols
--- that the derivation brings; then come the entries of its lines, as they are run in the order of the graph; and at last,
--- where all is verified, a lemma that shows falsehood.
+-- What a check of a derivation gives: a report, and a log. The log begins with the declarations of the sorts and
+-- symbols that the derivation brings; then come the entries of its lines, as they are run in the order of the graph;
+-- and at last, where all is verified, a lemma that cites the last line that is falsehood.
 use Rattle.std.specs.Prelude.{◌≡◌, ℕ, Bool, true, false, List, ◌++◌}
 use Rattle.fof_terms.specs.Vocabulary.{Vocabulary}
 use Rattle.kernel.specs.Statements.{Statements}
@@ -40,7 +40,7 @@ pub record Checks (asked : Asked) (t : Statements) (d : Derivation) (w : Vocabul
   pub verdict : Verdict
   pub first_that_applies : IsVerdict (claim_by asked answers) asked.problem d.forms answers verdict
   pub last : List Entry
-  pub closes : Closes verdict end last
+  pub closes : Closes verdict d.forms runs.run.numbers last
   pub in_range : HaveNumbersInRange (entries ++ last)
   pub verified_is : verified ≡ is_verified verdict
   pub report_is : report ≡ report_text d.names answers verdict

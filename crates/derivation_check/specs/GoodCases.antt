@@ -2,14 +2,20 @@
 use Rattle.std.specs.Prelude.{List}
 use Rattle.fof_terms.specs.Vocabulary.{Vocabulary}
 use Rattle.kernel.specs.Statements.{Statements}
+use Rattle.tstp_graph.specs.declared.shape.Ref.{Ref}
 use Rattle.derivation_text.specs.declared.derivation.Derivation.{Derivation}
-use Rattle.verifier.specs.Claim.{IsJustified}
+use Rattle.verifier.specs.Claim.{IsJustified, some_marked_ref}
 use Rattle.verifier.specs.Good.{IsGood}
-use Rattle.verifier.specs.declared.answer.LineAnswer.{LineAnswer}
-use Rattle.derivation_check.specs.Cases.{Asked, claim_by, lines_over}
+use Rattle.verifier.specs.declared.claim.Claim.{Claim}
+use Rattle.derivation_check.specs.Cases.{Asked, claimed, lines_over}
 
--- In the order of the graph each line follows by a rule, some line is falsehood, and whatever the lines cite by these
--- rules, the claim is justified.
+-- what is claimed, where the lines cite these given formulas and lines
+abbrev pub claim_citing : Asked → List Ref → Claim
+claim_citing asked cites = record { word = claimed asked.output; has_conjecture = asked.has_conjecture; cites_conjecture = some_marked_ref asked.marks cites }
+
+-- In the order of the graph each line follows by a rule, some line is falsehood, and the claim is justified by what the
+-- lines cite then.
 pub record IsGoodCase (asked : Asked) (t : Statements) (d : Derivation) (w : Vocabulary) : Type 0 where
-  pub good : IsGood w (lines_over t d) d.graph.order
-  pub justified : (answers : List LineAnswer) → IsJustified (claim_by asked answers)
+  pub cites : List Ref
+  pub good : IsGood w (lines_over t d) d.graph.order cites
+  pub justified : IsJustified (claim_citing asked cites)

@@ -21,19 +21,21 @@ use Rattle.derivation_check.specs.declared.checking.Report.{Report}
 abbrev pub TakesSomeOfLog : Statements → Option (List ℕ) → Option (List ℕ) → Type 0
 TakesSomeOfLog t old new = (new ≡ old) ⊎ ((entries : List Entry) × (u : Statements) × Admits t entries u × TakesPrefix old new (log_text entries))
 
--- The lines are run, and the log has taken their entries, whose numbers fit their types.
-pub record LogsRuns (t : Statements) (d : Derivation) (w : Vocabulary) (answers : List LineAnswer) (end : Statements) (old new : Option (List ℕ)) : Type 0 where
+-- The lines are run, with these numbers of the accepted ones, and the log has taken their entries, whose numbers fit
+-- their types.
+pub record LogsRuns (t : Statements) (d : Derivation) (w : Vocabulary) (answers : List LineAnswer) (numbers : List (Option ℕ)) (end : Statements) (old new : Option (List ℕ)) : Type 0 where
   pub entries : List Entry
   pub runs : Runs t d w answers entries end
+  pub numbered : runs.run.numbers ≡ numbers
   pub taken : Takes old new (log_text entries)
   pub in_range : HaveNumbersInRange entries
 
--- The report on lines with these answers is made, and the log has taken the last entries.
-pub record Closed (asked : Asked) (d : Derivation) (answers : List LineAnswer) (end : Statements) (report : Report) (old new : Option (List ℕ)) : Type 0 where
+-- The report on lines with these answers and numbers is made, and the log has taken the last entries.
+pub record Closed (asked : Asked) (d : Derivation) (answers : List LineAnswer) (numbers : List (Option ℕ)) (report : Report) (old new : Option (List ℕ)) : Type 0 where
   pub verdict : Verdict
   pub first_that_applies : IsVerdict (claim_by asked answers) asked.problem d.forms answers verdict
   pub last : List Entry
-  pub closes : Closes verdict end last
+  pub closes : Closes verdict d.forms numbers last
   pub verified : report.verified ≡ is_verified verdict
   pub text : report.text ≡ report_text d.names answers verdict
   pub taken : Takes old new (entries_text last)

@@ -4,7 +4,10 @@ ghost use Rattle.std.specs.List.{All};
 ghost use Rattle.tptp_base.specs.Count.{Rose};
 ghost use Rattle.sort_check.specs.Sorting.{AreDeclared, Extends, IsSentence};
 ghost use Rattle.tstp_graph.specs.Graphs.{IsOrdered};
+ghost use Rattle.kernel.specs.Statements.{Statements};
+ghost use Rattle.verifier.specs.Closing.{HasFalseLine};
 ghost use Rattle.verifier.specs.Faults.{HasCause};
+ghost use Rattle.verifier.specs.Lines.{LinesStand};
 ghost use Rattle.verifier.specs.Logged.{LogsSome};
 ghost use Rattle.verifier.specs.Report.{AreAccepted, HasFalse, IsVerdict};
 ghost use Rattle.derivation_check.specs.Cases.{asked_of, claim_by};
@@ -19,7 +22,7 @@ use kernel::Theory;
 use std::alloc::{AllocError, Global};
 use szs_report::Verdict;
 use tptp_base::{Sink, Text};
-use verifier::{LineAnswer, RunFault, close_log, verdict};
+use verifier::{LineAnswer, Outcome, RunFault, close_log, verdict};
 
 /// What is asked of a derivation.
 #[derive(Clone, Copy)]
@@ -41,8 +44,8 @@ pub struct Report {
     pub text: Text,
 }
 
-/// Checks a derivation in the theory of its given formulas: writes the log, with a last entry where all is verified, and
-/// gives the report. The signature is that of the theory, with what the derivation brings.
+/// Checks a derivation in the theory of its given formulas: writes the log, with a last entry where all is verified,
+/// and gives the report. The signature is that of the theory, with what the derivation brings.
 ///
 /// # Errors
 ///
@@ -67,8 +70,8 @@ pub fn check_derivation<K: Sink>(
     ensures cause { IfErr result (λ fault. HasCause fault (Rose (K.faults log.old) (K.faults log.new))) }
     ensures more_faults { K.faults log.old ≤ K.faults log.new }
 {
-    let answers = run_derivation(alloc, derivation, signature, theory, log)?;
-    close(alloc, asked, derivation, answers.as_slice(), theory, log)
+    let outcome = run_derivation(alloc, derivation, signature, theory, log)?;
+    close(alloc, asked, derivation, &outcome, log)
 }
 
 // The report on lines that are run, and the end of the log.
@@ -76,20 +79,21 @@ fn close<K: Sink>(
     alloc: Global,
     asked: &Asked<'_>,
     derivation: &Derivation,
-    answers: &[LineAnswer],
-    theory: &Theory,
+    outcome: &Outcome,
     log: &mut K,
 ) -> Result<Report, RunFault>
-    requires count { length derivation.now.names ≡ length answers.now }
-    requires found { AreAccepted answers.now → HasFalse derivation.now.forms → HasFalse theory.now.formulas }
-    ensures closed { IfOk result (λ report. Closed (asked_of asked.now) derivation.now answers.now theory.now report (K.taken log.old) (K.taken log.new)) }
-    ensures cut { OnErr result (LogsSome theory.now (K.taken log.old) (K.taken log.new)) }
+    requires count { length derivation.now.names ≡ length outcome.now.answers }
+    requires found { AreAccepted outcome.now.answers → HasFalse derivation.now.forms → HasFalseLine derivation.now.forms outcome.now.numbers }
+    ensures closed { IfOk result (λ report. Closed (asked_of asked.now) derivation.now outcome.now.answers outcome.now.numbers report (K.taken log.old) (K.taken log.new)) }
+    ensures cut { (t : Statements) → LinesStand t derivation.now.forms outcome.now.numbers → OnErr result (LogsSome t (K.taken log.old) (K.taken log.new)) }
     ensures cause { IfErr result (λ fault. HasCause fault (Rose (K.faults log.old) (K.faults log.new))) }
     ensures more_faults { K.faults log.old ≤ K.faults log.new }
 {
+    let answers = outcome.answers.as_slice();
     let ending = ending_of(alloc, asked, derivation, answers)?;
     let text = report_of(alloc, derivation.names.as_slice(), answers, &ending)?;
-    close_log(alloc, &ending, theory, log)?;
+    let forms = derivation.forms.as_slice();
+    close_log(alloc, &ending, forms, outcome.numbers.as_slice(), log)?;
     Ok(Report {
         verified: is_verified(&ending),
         text,

@@ -1,5 +1,5 @@
 // Laws of checks.
-ghost use Rattle.std.specs.Prelude.{◌≡◌, ◌++◌, ℕ, Bool, true, List, None};
+ghost use Rattle.std.specs.Prelude.{◌≡◌, ◌++◌, ◌<◌, ◌≤◌, ℕ, Bool, true, List, length, codes, None, Some};
 ghost use Rattle.fof_terms.specs.Vocabulary.{Vocabulary};
 ghost use Rattle.kernel.specs.Entries.{Refutes};
 ghost use Rattle.kernel.specs.Statements.{Statements};
@@ -7,6 +7,8 @@ ghost use Rattle.kernel.specs.declared.entry.Entry.{Entry as LogEntry};
 ghost use Rattle.proof_log.specs.Entries.{AreLogged, log_text};
 ghost use Rattle.sort_check.specs.Bringing.{Brings};
 ghost use Rattle.tstp_graph.specs.Order.{TakesInTurn, is_taken, first_left};
+ghost use Rattle.verifier.specs.Citing.{DoNotCite};
+ghost use Rattle.verifier.specs.Claim.{is_marked};
 ghost use Rattle.derivation_text.specs.declared.derivation.Derivation.{Derivation};
 ghost use Rattle.derivation_check.specs.Cases as spec;
 ghost use Rattle.derivation_check.specs.Checks.{Checks};
@@ -18,17 +20,35 @@ pub fn a_verified_derivation_refutes()
         → Checks asked t d w true report log → (entries : List LogEntry) × (log ≡ log_text entries) × Refutes t entries }
 {}
 
-/// The log of a verified derivation can be read back, where the derivation names what it brings: so its entries are the only
-/// ones that the log is the text of.
+/// The log of a verified derivation can be read back, where the derivation names what it brings: so its entries are the
+/// only ones that the log is the text of.
 pub fn a_verified_log_can_be_read()
     ensures { (asked : spec.Asked) (t : Statements) (d : Derivation) (w : Vocabulary) (report log : List ℕ)
         → Checks asked t d w true report log → Brings t.vocabulary w
         → (entries : List LogEntry) × (log ≡ log_text entries) × Refutes t entries × AreLogged entries }
 {}
 
-/// A check verifies each good derivation whose claim is justified.
+/// Where a check verifies a derivation that claims that the axioms contradict each other, its log refutes the given
+/// formulas without the conjecture: no entry cites a given formula of role conjecture or negated_conjecture, which are
+/// those that are marked.
+pub fn no_conjecture_is_cited()
+    ensures { (asked : spec.Asked) (t : Statements) (d : Derivation) (w : Vocabulary) (report log : List ℕ)
+        → Checks asked t d w true report log → spec.claimed asked.output ≡ Some (codes "ContradictoryAxioms")
+        → (entries : List LogEntry) × (log ≡ log_text entries) × Refutes t entries
+        × ((number : ℕ) → number < length t.formulas → is_marked asked.marks number ≡ true → DoNotCite number entries) }
+{}
+
+/// A check verifies each good derivation whose claim is justified by what its lines cite. The marks are those of given
+/// formulas.
 pub fn a_good_case_is_verified()
     ensures { (asked : spec.Asked) (t : Statements) (d : Derivation) (w : Vocabulary) (verified : Bool) (report log : List ℕ)
-        → TakesInTurn d.graph.nodes List.[] d.graph.order → first_left (is_taken d.graph.order) 0 d.graph.nodes ≡ None
+        → length asked.marks ≤ length t.formulas → TakesInTurn d.graph.nodes List.[] d.graph.order → first_left (is_taken d.graph.order) 0 d.graph.nodes ≡ None
         → IsGoodCase asked t d w → Checks asked t d w verified report log → verified ≡ true }
+{}
+
+/// A derivation that a check verifies is good, and its claim justified by what its lines cite. So of all derivations a
+/// check verifies exactly these.
+pub fn a_verified_case_is_good()
+    ensures { (asked : spec.Asked) (t : Statements) (d : Derivation) (w : Vocabulary) (report log : List ℕ)
+        → length asked.marks ≤ length t.formulas → Checks asked t d w true report log → IsGoodCase asked t d w }
 {}

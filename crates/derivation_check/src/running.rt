@@ -17,8 +17,8 @@ use fof_terms::Signature;
 use kernel::Theory;
 use proof_log::write_header;
 use std::alloc::Global;
-use tptp_base::{List, Sink};
-use verifier::{LineAnswer, RunFault, declare, run_lines};
+use tptp_base::Sink;
+use verifier::{Outcome, RunFault, declare, run_lines};
 
 /// Writes the log's first line, declares what the derivation brings, and runs its lines.
 pub fn run_derivation<K: Sink>(
@@ -27,14 +27,14 @@ pub fn run_derivation<K: Sink>(
     signature: &Signature,
     theory: &mut Theory,
     log: &mut K,
-) -> Result<List<LineAnswer>, RunFault>
+) -> Result<Outcome, RunFault>
     requires extends { Extends theory.old.vocabulary signature.now }
     requires declared { AreDeclared signature.now }
     requires each_form { length derivation.now.forms ≡ length derivation.now.graph.nodes }
     requires ordered { IsOrdered derivation.now.graph.nodes derivation.now.graph }
     requires given { All (IsSentence theory.old.vocabulary) theory.old.formulas }
     requires lines { All (IsSentence signature.now) derivation.now.forms }
-    ensures ran { IfOk result (λ answers. LogsRuns theory.old derivation.now signature.now answers theory.new (K.taken log.old) (K.taken log.new)) }
+    ensures ran { IfOk result (λ ran. LogsRuns theory.old derivation.now signature.now ran.answers ran.numbers theory.new (K.taken log.old) (K.taken log.new)) }
     ensures cut { OnErr result (TakesSomeOfLog theory.old (K.taken log.old) (K.taken log.new)) }
     ensures cause { IfErr result (λ fault. HasCause fault (Rose (K.faults log.old) (K.faults log.new))) }
     ensures more_faults { K.faults log.old ≤ K.faults log.new }
@@ -42,7 +42,7 @@ pub fn run_derivation<K: Sink>(
     begin(alloc, signature, theory, log)?;
     let forms = derivation.forms.as_slice();
     match run_lines(alloc, forms, &derivation.graph, theory, log) {
-        Ok(answers) => Ok(answers),
+        Ok(outcome) => Ok(outcome),
         Err(fault) => Err(fault),
     }
 }

@@ -1,8 +1,11 @@
 -- A run on a problem and a good derivation ends with status 0.
-use Rattle.std.proofs.Common.{◌≡◌, inl, inr, ℕ, ◌-◌, Bool, List, Option, None, Some, IfSome, refl, sym, ◌∙◌, ap, subst}
+use Rattle.std.proofs.Common.{◌≡◌, inl, inr, ℕ, ◌-◌, ◌≤◌, Bool, List, length, Option, None, Some, IfSome, refl, sym, ◌∙◌, ap, subst, arith}
+use Rattle.std.proofs.lemmas.List.{length-map}
 use Rattle.tptp_base.specs.Store.{Files}
 use Rattle.fof_terms.specs.Vocabulary.{Vocabulary}
+use Rattle.sort_check.specs.declared.line.GivenEntry.{GivenEntry}
 use Rattle.sort_check.specs.declared.line.Line.{Line}
+use Rattle.sort_check.specs.Given.{given_entries}
 use Rattle.derivation_check.proofs.Ends.{good_verified}
 use Rattle.tptp_run.specs.Answer.{with_log, IsAnswerWithLog}
 use Rattle.tptp_run.specs.CheckedLog.{given_theory}
@@ -10,18 +13,23 @@ use Rattle.tptp_run.specs.Ending.{Ending}
 use Rattle.tptp_run.specs.Ends.{EndsTask, Ends}
 use Rattle.tptp_run.specs.GoodRuns.{AreGood, IsGoodText}
 use Rattle.tptp_run.specs.Outcome.{IsAnswer}
-use Rattle.tptp_run.specs.Sources.{given_names, conjecture_marks, has_conjecture}
+use Rattle.tptp_run.specs.Sources.{given_names, conjecture_marks, has_conjecture, is_of_conjecture}
 use Rattle.tptp_run.specs.Verifying.{EndsVerify, SaysDerivation, asked_by, status_of}
 use Rattle.tptp_run.specs.Words.{Task, Verify, Request, IsForm}
 use Rattle.tptp_run.specs.declared.stop.Answer.{Answer}
 use Rattle.tptp_run.proofs.Requests.{one_root, one_task}
 use Rattle.tptp_run.proofs.Stages.{if_map}
 
+-- there are as many marks as given formulas
+marks_fit : (lines : List Line) (v : Vocabulary) → length (conjecture_marks lines) ≤ length (given_theory lines v).formulas
+marks_fit lines v =
+    omega (arith, length-map (λ (entry : GivenEntry). is_of_conjecture entry.role) (given_entries lines), length-map (λ (entry : GivenEntry). entry.form) (given_entries lines))
+
 text_good : (problem file : List ℕ) (lines : List Line) (v : Vocabulary) (text : List ℕ) (ending : Ending) → IsGoodText problem file lines v text → SaysDerivation problem file (given_theory lines v) (given_names lines) (conjecture_marks lines) (has_conjecture lines) text ending → ending.status ≡ 0
 text_good problem file lines v text ending good (inl refused) = absurd (good.no_fault ending refused)
 text_good problem file lines v text ending good (inr (d, w, (items, spells, are), ends)) =
     ends.status
-    ∙ ap status_of (good_verified (asked_by problem text (conjecture_marks lines) (has_conjecture lines)) (given_theory lines v) d w ends.verified ending.out ending.log are.graph.is_graph.order.in_turn are.graph.is_graph.all (good.good d w (items, spells, are)) ends.checks)
+    ∙ ap status_of (good_verified (asked_by problem text (conjecture_marks lines) (has_conjecture lines)) (given_theory lines v) d w ends.verified ending.out ending.log (marks_fit lines v) are.graph.is_graph.order.in_turn are.graph.is_graph.all (good.good d w (items, spells, are)) ends.checks)
 
 pub verify_good : (files : Files) (root : Option (List ℕ)) (problem file : List ℕ) (ending : Ending) → AreGood files root problem file → EndsVerify files root problem file ending → ending.status ≡ 0
 verify_good files root problem file ending good (inl refused) = absurd (good.no_fault ending (inl refused))

@@ -104,14 +104,14 @@ no_graph file (graph.Include place) ending zero says = no_refusal ending 2 _ zer
 no_graph file (graph.Limit limit) ending zero says = no_refusal ending 6 _ zero says
 no_graph file graph.Memory ending zero says = absurd says
 
-no_derivation : {T : Type 0} (file : List ℕ) (fault : DerivationFault) (ending : Ending) → ending.status ≡ 0 → SaysDerivationFault file fault ending → T
+pub no_derivation : {T : Type 0} (file : List ℕ) (fault : DerivationFault) (ending : Ending) → ending.status ≡ 0 → SaysDerivationFault file fault ending → T
 no_derivation file (derived.Lex fault) ending zero says = no_lex file fault ending zero says
 no_derivation file (derived.Grammar fault) ending zero says = no_grammar file fault ending zero says
 no_derivation file (derived.Graph fault) ending zero says = no_graph file fault ending zero says
 no_derivation file (derived.Sort fault) ending zero says = no_line file fault ending zero says
 no_derivation file derived.Memory ending zero says = absurd says
 
-file_read : (files : Files) (name : List ℕ) (budget : ℕ) (Rest : List ℕ → Ending → Type 0) (ending : Ending) → ending.status ≡ 0 → AfterFile files name budget Rest ending → (text : List ℕ) × (file_at files name ≡ Some text) × Rest text ending
+pub file_read : (files : Files) (name : List ℕ) (budget : ℕ) (Rest : List ℕ → Ending → Type 0) (ending : Ending) → ending.status ≡ 0 → AfterFile files name budget Rest ending → (text : List ℕ) × (file_at files name ≡ Some text) × Rest text ending
 file_read files name budget Rest ending zero after = go (file_at files name) refl
   where
     go : (found : Option (List ℕ)) → file_at files name ≡ found → (text : List ℕ) × (file_at files name ≡ Some text) × Rest text ending
@@ -120,7 +120,7 @@ file_read files name budget Rest ending zero after = go (file_at files name) ref
 
 -- ---- the command
 
-verified_is : (verified : Bool) → status_of verified ≡ 0 → verified ≡ true
+pub verified_is : (verified : Bool) → status_of verified ≡ 0 → verified ≡ true
 verified_is true e = refl
 verified_is false e = absurd (omega (arith, e))
 

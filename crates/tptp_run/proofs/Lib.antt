@@ -1,4 +1,5 @@
 pub mod Absences
+pub mod AxiomsAlone
 pub mod Causes
 pub mod Checks
 pub mod Completes

@@ -1,6 +1,7 @@
 pub mod Answer
 pub mod CheckedLog
 pub mod Complete
+pub mod Contradictory
 pub mod Denoted
 pub mod Derived
 pub mod Ending

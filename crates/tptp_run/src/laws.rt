@@ -3,33 +3,44 @@
 ghost use Rattle.kernel.specs.Statements.{Statements};
 ghost use Rattle.proof_log.specs.Answers.{NestWithin};
 ghost use Rattle.proof_log.specs.declared.reader.TheConstants.{MAX_NESTING};
-ghost use Rattle.std.specs.Prelude.{◌≡◌, ◌⊎◌, ℕ, List, [], Some, length, Option};
+ghost use Rattle.derivation_check.specs.Cases.{claimed};
+ghost use Rattle.std.specs.Prelude.{◌≡◌, ◌⊎◌, ℕ, List, [], Some, length, codes, Option};
 ghost use Rattle.tptp_base.specs.Store.{Files as StoreFiles, file_at};
 ghost use Rattle.tptp_run.specs.CheckedLog.{refuted, IsGiven};
+ghost use Rattle.tptp_run.specs.Contradictory.{RefutesAxioms};
 ghost use Rattle.tptp_run.specs.Ending.{Ending};
 ghost use Rattle.tptp_run.specs.Ends.{Ends};
 ghost use Rattle.tptp_run.specs.Formatted.{EndsFormat};
 ghost use Rattle.tptp_run.specs.Outcome.{IsRefutation};
 ghost use Rattle.tptp_run.specs.Parsed.{EndsParse};
 ghost use Rattle.tptp_run.specs.Refuted.{Fits, GivesTheSame, IsExact, IsRefused};
-ghost use Rattle.tptp_run.specs.Words.{Check, Request, IsForm};
+ghost use Rattle.tptp_run.specs.Words.{Check, Verify, Request, IsForm};
 
-/// A check ends with status 0 exactly where the file has the text of a log, within the limits, whose entries refute what
-/// the problem gives. A problem that has a fault gives nothing, and the fault is said.
+/// A check ends with status 0 exactly where the file has the text of a log, within the limits, whose entries refute
+/// what the problem gives. A problem that has a fault gives nothing, and the fault is said.
 pub fn a_check_is_exact()
     ensures { (files : StoreFiles) (words : List (List ℕ)) (request : Request) (problem log : List ℕ) (ending : Ending)
         → Ends files words ending → IsForm words request → request.task ≡ Check problem log
         → IsRefused files request.root problem ending ⊎ IsExact files request.root problem log ending }
 {}
 
-/// The log of a success, put into a store in which the problem gives the same, is found to refute the problem, if it is within
-/// the limits: that of nesting, and that of the bytes that are read.
+/// The log of a success, put into a store in which the problem gives the same, is found to refute the problem, if it is
+/// within the limits: that of nesting, and that of the bytes that are read.
 pub fn a_verified_log_checks()
     ensures { (files after : StoreFiles) (words : List (List ℕ)) (request : Request) (problem log text : List ℕ)
         → (run : IsRefutation files request.root problem (Some List.[]) (Some text)) → NestWithin MAX_NESTING run.entries
         → GivesTheSame files after request.root problem → file_at after log ≡ Some text → Fits run.read (length text)
         → (ending : Ending) → Ends after words ending → IsForm words request → request.task ≡ Check problem log
         → ending ≡ refuted (length run.entries) }
+{}
+
+/// Where a derivation that claims that the axioms contradict each other is verified, the log refutes what the problem
+/// gives without its conjecture: no entry cites a given formula of role conjecture or negated_conjecture.
+pub fn contradictory_axioms_need_no_conjecture()
+    ensures { (files : StoreFiles) (words : List (List ℕ)) (request : Request) (problem derivation text : List ℕ) (named : Option (List ℕ)) (ending : Ending)
+        → Ends files words ending → IsForm words request → request.task ≡ Verify problem derivation named → ending.status ≡ 0
+        → file_at files derivation ≡ Some text → claimed text ≡ Some (codes "ContradictoryAxioms")
+        → RefutesAxioms files request.root problem ending.log }
 {}
 
 /// The problem in a file gives one theory, and its files have one number of bytes.

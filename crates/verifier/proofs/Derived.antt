@@ -44,7 +44,7 @@ some_formula t u before form is = omega (arith, ap (λ (x : Statements). length 
 pub with_stays : (t u : Statements) (more : List Form) (i : ℕ) (a : Form) → u ≡ with_formulas t more → slice_get t.formulas i ≡ Some a → slice_get u.formulas i ≡ Some a
 with_stays t u more i a is at = ap (λ (x : Statements). slice_get x.formulas i) is ∙ stays_behind t.formulas more i a at
 
-after_stays : (t u : Statements) (e : Entry) (i : ℕ) (a : Form) → After t e u → slice_get t.formulas i ≡ Some a → slice_get u.formulas i ≡ Some a
+pub after_stays : (t u : Statements) (e : Entry) (i : ℕ) (a : Form) → After t e u → slice_get t.formulas i ≡ Some a → slice_get u.formulas i ≡ Some a
 after_stays t u (Declare (decl.Sort name)) i a after at = ap (λ (x : Statements). slice_get x.formulas i) after ∙ at
 after_stays t u (Declare (decl.Symbol symbol)) i a after at = ap (λ (x : Statements). slice_get x.formulas i) after ∙ at
 after_stays t u (Lemma p) i a after at = with_stays t u (after.0 ∷ []) i a after.2 at

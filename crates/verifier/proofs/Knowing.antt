@@ -20,7 +20,8 @@ use Rattle.verifier.specs.declared.lines.Lines.{Lines}
 use Rattle.verifier.specs.Run.{Progress, begun, with_line}
 use Rattle.verifier.specs.Symbols.{IsAbsent, IsInNoNumbered, IsUnused}
 use Rattle.verifier.proofs.Derived.{with_stays}
-use Rattle.verifier.proofs.Slots.{set_here, set_elsewhere, set_cases, of_all, last_behind, one_value, in_replicate}
+use Rattle.verifier.proofs.Numbers.{stand_more}
+use Rattle.verifier.proofs.Slots.{set_here, set_elsewhere, set_cases, of_all, one_value, in_replicate}
 use Rattle.verifier.proofs.Symbols.{Gains, gained_fresh, gained_still}
 
 -- the parent stands in the theory, and the rules may be asked about it
@@ -28,11 +29,11 @@ pub record Stands (t : Statements) (p : Parent) : Type 0 where
   pub at : slice_get t.formulas p.number ≡ Some p.form
   pub ready : IsReady t.vocabulary p.form
 
-with_number_is : (n : ℕ) (form : Option Form) (p : Parent) → with_number n form ≡ Some p → (form ≡ Some p.form) × (p.number ≡ n)
+pub with_number_is : (n : ℕ) (form : Option Form) (p : Parent) → with_number n form ≡ Some p → (form ≡ Some p.form) × (p.number ≡ n)
 with_number_is n None p is = absurd (cc)
 with_number_is n (Some form) p is = let same : numbered n form ≡ p = cc in (ap (λ (q : Parent). Some q.form) same, sym (ap (λ (q : Parent). q.number) same))
 
-accepted_is : (number : Option (Option ℕ)) (form : Option Form) (p : Parent) → accepted number form ≡ Some p → (number ≡ Some (Some p.number)) × (form ≡ Some p.form)
+pub accepted_is : (number : Option (Option ℕ)) (form : Option Form) (p : Parent) → accepted number form ≡ Some p → (number ≡ Some (Some p.number)) × (form ≡ Some p.form)
 accepted_is None form p is = absurd (cc)
 accepted_is (Some None) form p is = absurd (cc)
 accepted_is (Some (Some n)) form p is = let parts = with_number_is n form p is in (ap (λ (k : ℕ). Some (Some k)) (sym parts.1), parts.0)
@@ -79,7 +80,7 @@ module _ (d : Derivation) (p : Progress) (knows : Knows d p) where
   pub knows_more : (place : ℕ) (form : Form) (u : Statements) → slice_get d.forms place ≡ Some form → Gains p.theory u form → Knows d (with_line p place u)
   knows_more place form u at gains = record {
     given = λ k a there. stays k a (knows.given k a there);
-    lines = λ k n a number there. line k n a there (set_cases p.numbers place k (Some (length u.formulas - 1)) (Some n) number);
+    lines = stand_more d p place form u at gains knows.lines;
     symbols = λ k. (forth k, back k);
     given_ready = subst (λ (v : Vocabulary). All (IsReady v) d.given) (sym same) knows.given_ready;
     lines_ready = subst (λ (v : Vocabulary). All (IsReady v) d.forms) (sym same) knows.lines_ready;
@@ -91,16 +92,6 @@ module _ (d : Derivation) (p : Progress) (knows : Knows d p) where
 
       stays : (k : ℕ) (a : Form) → slice_get p.theory.formulas k ≡ Some a → slice_get u.formulas k ≡ Some a
       stays k a there = with_stays p.theory u (gains.before ++ form ∷ []) k a gains.made there
-
-      at_last : slice_get u.formulas (length u.formulas - 1) ≡ Some form
-      at_last = subst (λ (t : Statements). slice_get t.formulas (length t.formulas - 1) ≡ Some form) (sym gains.made) (last_behind p.theory.formulas gains.before form)
-
-      line : (k n : ℕ) (a : Form) → slice_get d.forms k ≡ Some a → ((k ≡ place) × (Some n ≡ Some (length u.formulas - 1))) ⊎ (slice_get p.numbers k ≡ Some (Some n)) → slice_get u.formulas n ≡ Some a
-      line k n a there (inl (here, number)) =
-          let n_is : n ≡ length u.formulas - 1 = cc in
-          let form_is : form ≡ a = one_value (slice_get d.forms place) form a at (ap (slice_get d.forms) (sym here) ∙ there) in
-          ap (slice_get u.formulas) n_is ∙ at_last ∙ ap Some form_is
-      line k n a there (inr number) = stays n a (knows.lines k n a number there)
 
       here : slice_get (slice_set p.numbers place (Some (length u.formulas - 1))) place ≡ Some (Some (length u.formulas - 1))
       here = set_here p.numbers place (Some (length u.formulas - 1)) (omega (arith, knows.count, slice_get_within d.forms place form at))

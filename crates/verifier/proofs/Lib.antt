@@ -1,12 +1,17 @@
+pub mod Accepting
 pub mod Adding
+pub mod Citing
 pub mod Collecting
 pub mod Counting
 pub mod Declaring
 pub mod Derived
 pub mod Goodness
 pub mod Knowing
+pub mod Latest
 pub mod LineAnswers
 pub mod Logs
+pub mod Marking
+pub mod Numbers
 pub mod Refuting
 pub mod Renumbering
 pub mod Running

@@ -19,6 +19,7 @@ use Rattle.verifier.specs.Run.{Progress, IsAnswered, AnswersPlace, AreAnswered, 
 use Rattle.verifier.specs.Taking.{AnswersLine}
 use Rattle.verifier.specs.declared.answer.LineAnswer.{LineAnswer}
 use Rattle.verifier.specs.declared.answer.LineAnswer.TheVariants.{Accepted, Unverified, Skipped}
+use Rattle.verifier.specs.declared.run.Outcome.{Outcome}
 use Rattle.verifier.proofs.Logs.{range_both, takes_more_entries, logs_more}
 use Rattle.verifier.proofs.Slots.{set_here, set_elsewhere}
 use Rattle.verifier.proofs.Turns.{HasTurn, turn_of, taken_last, taken_still, taken_apart}
@@ -112,7 +113,7 @@ running_more d start order now new answers more done longer here rest place answ
 pub running_cut : (d : Derivation) (start : Progress) (order : List ℕ) (now : Progress) (answers : List LineAnswer) (done rest : List ℕ) (log_old log_now log_new : Option (List ℕ)) → IsRunning d start order now answers done rest log_old log_now → LogsSome now.theory log_now log_new → LogsSome start.theory log_old log_new
 running_cut d start order now answers done rest log_old log_now log_new so_far cut = logs_more start.theory now.theory so_far.entries log_old log_now log_new so_far.legal so_far.taken cut
 
-pub running_all : (d : Derivation) (t : Statements) (order : List ℕ) (end : Statements) (numbers : List (Option ℕ)) (answers : List LineAnswer) (done rest : List ℕ) (log_old log_now : Option (List ℕ)) → rest ≡ [] → IsRunning d (begun t d) order (progress_of end numbers) answers done rest log_old log_now → LogsRun t d order answers end log_old log_now
+pub running_all : (d : Derivation) (t : Statements) (order : List ℕ) (end : Statements) (numbers : List (Option ℕ)) (answers : List LineAnswer) (done rest : List ℕ) (log_old log_now : Option (List ℕ)) → rest ≡ [] → IsRunning d (begun t d) order (progress_of end numbers) answers done rest log_old log_now → LogsRun t d order answers numbers end log_old log_now
 running_all d t order end numbers answers done rest log_old log_now none so_far =
     let all : IsRunning d (begun t d) order (progress_of end numbers) answers done [] log_old log_now = subst (λ (ps : List ℕ). IsRunning d (begun t d) order (progress_of end numbers) answers done ps log_old log_now) none so_far in
     record {
@@ -122,6 +123,7 @@ running_all d t order end numbers answers done rest log_old log_now none so_far 
         numbers = numbers;
         answered = subst (λ (es : List Entry). AreAnswered d answers (begun t d) order es (progress_of end numbers)) (append-nil all.entries) (all.goes_on answers (λ k taken. refl) [] (progress_of end numbers) (refl, refl));
       };
+      numbered = refl;
       taken = all.taken;
       in_range = all.in_range;
     }
@@ -140,10 +142,10 @@ running_begins d t order numbers answers count log is all same turns =
     (running_none d (begun t d) order answers log turns (same ∙ all))
 
 -- a run over the formulas of a theory, which are the given formulas
-module _ {E : Type 0} (result : Result (List LineAnswer) E) (t end : Statements) (old new : Option (List ℕ)) where
+module _ {E : Type 0} (result : Result Outcome E) (t end : Statements) (old new : Option (List ℕ)) where
   pub ran_over : (given all : List Form) (nodes graph : List Node) (forms : List Form) (places order : List ℕ) → given ≡ all → nodes ≡ graph → places ≡ order
-      → IfOk result (λ answers. LogsRun t (record { given = given; nodes = nodes; forms = forms }) places answers end old new) → IfOk result (λ answers. LogsRun t (record { given = all; nodes = graph; forms = forms }) order answers end old new)
+      → IfOk result (λ ran. LogsRun t (record { given = given; nodes = nodes; forms = forms }) places ran.answers ran.numbers end old new) → IfOk result (λ ran. LogsRun t (record { given = all; nodes = graph; forms = forms }) order ran.answers ran.numbers end old new)
   ran_over given all nodes graph forms places order one two three ran =
-      subst (λ (ps : List ℕ). IfOk result (λ answers. LogsRun t (record { given = all; nodes = graph; forms = forms }) ps answers end old new)) three
-      (subst (λ (ns : List Node). IfOk result (λ answers. LogsRun t (record { given = all; nodes = ns; forms = forms }) places answers end old new)) two
-      (subst (λ (fs : List Form). IfOk result (λ answers. LogsRun t (record { given = fs; nodes = nodes; forms = forms }) places answers end old new)) one ran))
+      subst (λ (ps : List ℕ). IfOk result (λ ran. LogsRun t (record { given = all; nodes = graph; forms = forms }) ps ran.answers ran.numbers end old new)) three
+      (subst (λ (ns : List Node). IfOk result (λ ran. LogsRun t (record { given = all; nodes = ns; forms = forms }) places ran.answers ran.numbers end old new)) two
+      (subst (λ (fs : List Form). IfOk result (λ ran. LogsRun t (record { given = fs; nodes = nodes; forms = forms }) places ran.answers ran.numbers end old new)) one ran))

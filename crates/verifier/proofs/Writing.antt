@@ -76,8 +76,8 @@ pub run_writable : (start : Statements) (d : Derivation) (order : List ℕ) (ans
 run_writable start d order answers entries end run = answers_writable d answers (begun start d) order entries (record { theory = end; numbers = run.numbers }) run.answered
 
 -- and the last entries
-pub last_writable : (verdict : Verdict) (t : Statements) (entries : List Entry) → Closes verdict t entries → AreWritable entries
-last_writable (Verified word problem lines) t entries (last, shows, is) = subst AreWritable (sym is) (tt, tt)
-last_writable (Failed unverified skipped lines) t entries is = none_writable entries is
-last_writable NoFalse t entries is = none_writable entries is
-last_writable (BadClaim word) t entries is = none_writable entries is
+pub last_writable : (verdict : Verdict) (forms : List Form) (numbers : List (Option ℕ)) (entries : List Entry) → Closes verdict forms numbers entries → AreWritable entries
+last_writable (Verified word problem lines) forms numbers entries (number, last, is) = subst AreWritable (sym is) (tt, tt)
+last_writable (Failed unverified skipped lines) forms numbers entries is = none_writable entries is
+last_writable NoFalse forms numbers entries is = none_writable entries is
+last_writable (BadClaim word) forms numbers entries is = none_writable entries is

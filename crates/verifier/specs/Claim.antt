@@ -1,7 +1,10 @@
--- What a derivation claims of its problem, in the words of the SZS ontology, and when a verified refutation justifies it.
+-- What a derivation claims of its problem, in the words of the SZS ontology, and when a verified refutation justifies
+-- it.
 use Rattle.std.specs.Prelude.{◌≡◌, ⊤, ◌⊎◌, ℕ, Bool, true, false, List, [], codes, None, Some, slice_get, unwrap_or, if◌then◌else◌}
 use Rattle.std.specs.List.{list_any}
 use Rattle.std.specs.declared.option.Option.{Option}
+use Rattle.tstp_graph.specs.declared.shape.Ref.{Ref}
+use Rattle.tstp_graph.specs.declared.shape.Ref.TheVariants as ref
 use Rattle.verifier.specs.declared.answer.LineAnswer.{LineAnswer}
 use Rattle.verifier.specs.declared.answer.LineAnswer.TheVariants.{Accepted, Unverified, Skipped}
 use Rattle.verifier.specs.declared.claim.Claim.{Claim}
@@ -27,6 +30,15 @@ answer_cites_marked marks answer = some_marked marks (cites_of answer)
 -- some line cites a given formula that is marked
 abbrev pub cites_marked : List Bool → List LineAnswer → Bool
 cites_marked marks answers = list_any (answer_cites_marked marks) answers
+
+-- the given formula is marked; a line is not
+abbrev pub is_marked_ref : List Bool → Ref → Bool
+is_marked_ref marks (ref.Given place) = is_marked marks place
+is_marked_ref marks (ref.Line place) = false
+
+-- one of these given formulas and lines is marked
+abbrev pub some_marked_ref : List Bool → List Ref → Bool
+some_marked_ref marks refs = list_any (is_marked_ref marks) refs
 
 -- A refutation justifies the word: `Theorem` of a problem with a conjecture, `Unsatisfiable` of one without, and
 -- `ContradictoryAxioms` of a problem with a conjecture, where no line cites a conjecture or a negated conjecture.

@@ -1,7 +1,8 @@
--- What a good derivation is, by its texts alone. Its lines are gone through in an order: each follows from its parents by a
--- rule, each leaf from what is given, and some line is falsehood. For the rules that ask for a new symbol, a symbol is new
--- to a line where it stands neither in a given formula nor in the formula of a line before it in the order.
-use Rattle.std.specs.Prelude.{ℕ, ◌≡◌, ⊤, Bool, true, false, List, [], ◌∷◌, ◌++◌, Option, Some, map, slice_get}
+-- What a good derivation is, by its texts alone, and what its lines cite. The lines are gone through in an order: each
+-- follows from its parents by a rule, each leaf from what is given, and some line is falsehood. For the rules that ask
+-- for a new symbol, a symbol is new to a line where it stands neither in a given formula nor in the formula of a line
+-- before it in the order.
+use Rattle.std.specs.Prelude.{ℕ, ◌≡◌, Bool, true, false, List, [], ◌∷◌, ◌++◌, Option, None, Some, map, slice_get}
 use Rattle.fof_terms.specs.Vocabulary.{Vocabulary}
 use Rattle.fof_terms.specs.declared.form.Form.{Form}
 use Rattle.kernel.specs.Statements.{Statements}
@@ -30,22 +31,36 @@ without_numbers forms = map (numbered 0) forms
 abbrev pub so_far : Vocabulary → List Form → List Form → Statements
 so_far v given earlier = record { vocabulary = v; formulas = given ++ earlier }
 
--- with what is so far, the first rule of leaves, or of steps, that gives the line from parents with these formulas
-abbrev pub FollowsAs : Bool → Statements → List Form → Bool → List Form → Form → Type 0
-FollowsAs true t given cited forms line = (rule : Rule) × (i : ℕ) × LeafRule t (candidates_of given cited (without_numbers forms)) line rule i
-FollowsAs false t given cited forms line = (rule : Rule) × ByRule t (without_numbers forms) line rule
+abbrev pub cited_one : Option Ref → List Ref
+cited_one None = []
+cited_one (Some ref) = ref ∷ []
 
--- with what is so far, a rule gives the line
-abbrev pub Follows : Statements → Derivation → Line → Type 0
-Follows t d line = (forms : List Form) × (forms_of d.given d.forms line.node.parents ≡ Some forms) × FollowsAs line.node.leaf t d.given line.node.cited forms line.form
+-- What a leaf cites that follows from the candidate at this place: one of the formulas that it names, which are its
+-- parents, or else one of all that are given.
+abbrev pub cited_by_leaf : Bool → List Ref → ℕ → List Ref
+cited_by_leaf true parents i = cited_one (slice_get parents i)
+cited_by_leaf false parents i = ref.Given i ∷ []
 
--- behind lines with these formulas, the lines at these places follow, one after another
-abbrev pub FollowInTurn : Vocabulary → Derivation → List Form → List ℕ → Type 0
-FollowInTurn v d earlier [] = ⊤
-FollowInTurn v d earlier (place ∷ places) =
-    (line : Line) × IsLineAt d place line × Follows (so_far v d.given earlier) d line × FollowInTurn v d (earlier ++ line.form ∷ []) places
+-- With what is so far, the first rule of leaves, or of steps, that gives the line from parents with these formulas, and
+-- what the line cites then: a leaf the candidate from which it follows, a step its parents.
+abbrev pub FollowsAs : Bool → Statements → List Form → Bool → List Ref → List Form → Form → List Ref → Type 0
+FollowsAs true t given cited parents forms line cites =
+    (rule : Rule) × (i : ℕ) × LeafRule t (candidates_of given cited (without_numbers forms)) line rule i × (cites ≡ cited_by_leaf cited parents i)
+FollowsAs false t given cited parents forms line cites = (rule : Rule) × ByRule t (without_numbers forms) line rule × (cites ≡ parents)
 
--- with these symbols, the derivation is good in this order
-pub record IsGood (v : Vocabulary) (d : Derivation) (order : List ℕ) : Type 0 where
-  pub each : FollowInTurn v d [] order
+-- with what is so far, a rule gives the line, which cites these formulas then
+abbrev pub Follows : Statements → Derivation → Line → List Ref → Type 0
+Follows t d line cites =
+    (forms : List Form) × (forms_of d.given d.forms line.node.parents ≡ Some forms) × FollowsAs line.node.leaf t d.given line.node.cited line.node.parents forms line.form cites
+
+-- behind lines with these formulas, the lines at these places follow, one after another, and cite these formulas in
+-- turn
+abbrev pub FollowInTurn : Vocabulary → Derivation → List Form → List ℕ → List Ref → Type 0
+FollowInTurn v d earlier [] cites = cites ≡ []
+FollowInTurn v d earlier (place ∷ places) cites =
+    (line : Line) × (own : List Ref) × (later : List Ref) × IsLineAt d place line × (cites ≡ own ++ later) × Follows (so_far v d.given earlier) d line own × FollowInTurn v d (earlier ++ line.form ∷ []) places later
+
+-- with these symbols, the derivation is good in this order, and its lines cite these formulas
+pub record IsGood (v : Vocabulary) (d : Derivation) (order : List ℕ) (cites : List Ref) : Type 0 where
+  pub each : FollowInTurn v d [] order cites
   pub ends : HasFalse d.forms

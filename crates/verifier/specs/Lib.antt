@@ -1,8 +1,10 @@
+pub mod Citing
 pub mod Claim
 pub mod Closing
 pub mod Declarations
 pub mod Faults
 pub mod Good
+pub mod Latest
 pub mod Lines
 pub mod Logged
 pub mod Numbered

@@ -1,8 +1,9 @@
--- The lines of a derivation (the TSTP part of the TPTP language): what each is from, as formulas with their numbers in a
--- theory. The given formulas come first in the theory, in their order.
+-- The lines of a derivation (the TSTP part of the TPTP language): what each is from, as formulas with their numbers in
+-- a theory. The given formulas come first in the theory, in their order.
 use Rattle.std.specs.Prelude.{ℕ, ◌≡◌, ◌+◌, Bool, true, false, List, [], ◌∷◌, Option, None, Some, slice_get}
 use Rattle.fof_terms.specs.declared.form.Form.{Form}
 use Rattle.clause_form.specs.declared.path.Parent.{Parent}
+use Rattle.kernel.specs.Statements.{Statements}
 use Rattle.tstp_graph.specs.declared.shape.Node.{Node}
 use Rattle.tstp_graph.specs.declared.shape.Ref.{Ref}
 use Rattle.tstp_graph.specs.declared.shape.Ref.TheVariants as ref
@@ -44,11 +45,15 @@ accepted None form = None
 accepted (Some None) form = None
 accepted (Some (Some number)) form = with_number number form
 
--- A parent with its number, if it is given or accepted: by the given formulas, the formulas of the lines, and the numbers
--- of the lines that are accepted so far, by their places in the text.
+-- A parent with its number, if it is given or accepted: by the given formulas, the formulas of the lines, and the
+-- numbers of the lines that are accepted so far, by their places in the text.
 abbrev pub parent_of : List Form → List Form → List (Option ℕ) → Ref → Option Parent
 parent_of given forms numbers (ref.Given place) = with_number place (slice_get given place)
 parent_of given forms numbers (ref.Line place) = accepted (slice_get numbers place) (slice_get forms place)
+
+-- the formula of each accepted line stands in the theory at the line's number
+abbrev pub LinesStand : Statements → List Form → List (Option ℕ) → Type 0
+LinesStand t forms numbers = (place number : ℕ) (a : Form) → slice_get numbers place ≡ Some (Some number) → slice_get forms place ≡ Some a → slice_get t.formulas number ≡ Some a
 
 -- the first and the rest, if both are there
 abbrev pub both : {X : Type 0} → Option X → Option (List X) → Option (List X)

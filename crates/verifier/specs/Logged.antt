@@ -1,5 +1,5 @@
 -- What a log has taken of entries: their lines, without the first line of the log.
-use Rattle.std.specs.Prelude.{ℕ, List}
+use Rattle.std.specs.Prelude.{ℕ, ◌≡◌, List}
 use Rattle.std.specs.List.{flat_map}
 use Rattle.std.specs.declared.option.Option.{Option}
 use Rattle.tptp_base.specs.Sink.{Takes, TakesPrefix}
@@ -25,9 +25,11 @@ pub record LogsSome (t : Statements) (old new : Option (List ℕ)) : Type 0 wher
   pub legal : Admits t entries theory
   pub taken : TakesPrefix old new (entries_text entries)
 
--- the lines are run in this order, and the log has taken the entries of all answers, whose numbers fit their types
-pub record LogsRun (start : Statements) (d : Derivation) (order : List ℕ) (answers : List LineAnswer) (end : Statements) (old new : Option (List ℕ)) : Type 0 where
+-- The lines are run in this order, with these numbers of the accepted ones, and the log has taken the entries of all
+-- answers, whose numbers fit their types.
+pub record LogsRun (start : Statements) (d : Derivation) (order : List ℕ) (answers : List LineAnswer) (numbers : List (Option ℕ)) (end : Statements) (old new : Option (List ℕ)) : Type 0 where
   pub entries : List Entry
   pub run : IsRun start d order answers entries end
+  pub numbered : run.numbers ≡ numbers
   pub taken : Takes old new (entries_text entries)
   pub in_range : HaveNumbersInRange entries

@@ -6,7 +6,7 @@ use Rattle.clause_form.specs.declared.path.Parent.{Parent}
 use Rattle.clause_rules.specs.Steps.{IsReady}
 use Rattle.kernel.specs.Statements.{Statements}
 use Rattle.kernel.specs.Entries.{IsFresh}
-use Rattle.verifier.specs.Lines.{Derivation, given_from}
+use Rattle.verifier.specs.Lines.{Derivation, LinesStand, given_from}
 use Rattle.verifier.specs.Run.{Progress}
 use Rattle.verifier.specs.Symbols.{IsUnused}
 use Rattle.verifier.specs.declared.lines.Lines.{Lines}
@@ -29,18 +29,19 @@ progress_of theory numbers = record { theory = theory; numbers = numbers }
 abbrev pub derivation_in : Lines → Derivation
 derivation_in lines = record { given = forms_in lines.given.now; nodes = lines.nodes.now; forms = lines.forms.now }
 
--- The theory begins with the given formulas, and has that of each line which is accepted so far, at the line's number. It
--- speaks of no symbols but those of these formulas. The rules may be asked about all of them, and about those of the
+-- The theory begins with the given formulas, and has that of each line which is accepted so far, at the line's number.
+-- It speaks of no symbols but those of these formulas. The rules may be asked about all of them, and about those of the
 -- lines to come.
 pub record Knows (d : Derivation) (p : Progress) : Type 0 where
   pub given : (k : ℕ) (a : Form) → slice_get d.given k ≡ Some a → slice_get p.theory.formulas k ≡ Some a
-  pub lines : (k n : ℕ) (a : Form) → slice_get p.numbers k ≡ Some (Some n) → slice_get d.forms k ≡ Some a → slice_get p.theory.formulas n ≡ Some a
+  pub lines : LinesStand p.theory d.forms p.numbers
   pub symbols : (k : ℕ) → IsFresh k p.theory ↔ IsUnused k d p.numbers
   pub given_ready : All (IsReady p.theory.vocabulary) d.given
   pub lines_ready : All (IsReady p.theory.vocabulary) d.forms
   pub count : length p.numbers ≡ length d.forms
 
--- The lines are over the formulas of the theory, each line has its formula, and the rules may be asked about all of them.
+-- The lines are over the formulas of the theory, each line has its formula, and the rules may be asked about all of
+-- them.
 pub record IsOver (t : Statements) (lines : Lines) : Type 0 where
   pub given : lines.given.now ≡ given_from 0 t.formulas
   pub same : length lines.forms.now ≡ length lines.nodes.now

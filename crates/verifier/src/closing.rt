@@ -1,40 +1,48 @@
 // The log's last entry.
-ghost use Rattle.std.specs.Prelude.{◌≡◌, ◌≤◌, [], slice_get, IfErr, OnOk, OnErr, MatchOption, Some};
+ghost use Rattle.std.specs.Prelude.{◌≡◌, ◌≤◌, ◌↔◌, ℕ, [], IfErr, OnOk, OnErr, MatchOption, Some};
 ghost use Rattle.tptp_base.specs.Count.{Rose};
 ghost use Rattle.fof_terms.specs.declared.form.Form.{Or};
-ghost use Rattle.verifier.specs.Closing.{ClosesLog, IsVerified};
+ghost use Rattle.kernel.specs.Statements.{Statements};
+ghost use Rattle.verifier.specs.Closing.{ClosesLog, HasFalseLine, IsLastFalse, IsVerified};
 ghost use Rattle.verifier.specs.Faults.{HasCause};
+ghost use Rattle.verifier.specs.Lines.{LinesStand};
 ghost use Rattle.verifier.specs.Logged.{LogsSome};
-ghost use Rattle.verifier.specs.Report.{HasFalse};
+ghost use Rattle.verifier.specs.Latest.{later as later_of};
 
 use crate::ending::is_false;
 use crate::fault::RunFault;
-use kernel::{Entry, Proof, Theory};
+use crate::parents::number_at;
+use fof_terms::Form;
+use kernel::{Entry, Proof};
 use proof_log::write_entry;
 use std::alloc::Global;
 use szs_report::Verdict;
 use tptp_base::Sink;
 
-/// Writes the last entry of a log: where all is verified, a lemma that shows falsehood, and else nothing.
+/// Writes the last entry of a log: where all is verified, a lemma that cites the line that is falsehood, of several the
+/// one that was checked last, and else nothing. The formulas and the numbers of the lines stand in the order of the
+/// text.
 ///
 /// # Errors
 ///
-/// `Sink` where the log failed, and `Memory`. The log has then taken a prefix of the line of a legal entry.
+/// `Sink` where the log failed, and `Memory`. The log has then taken a prefix of the line of an entry, which is legal
+/// in each theory that has the lines at their numbers.
 pub fn close_log<K: Sink>(
     alloc: Global,
     verdict: &Verdict,
-    theory: &Theory,
+    forms: &[Form],
+    numbers: &[Option<u64>],
     log: &mut K,
 ) -> Result<(), RunFault>
-    requires { IsVerified verdict.now → HasFalse theory.now.formulas }
-    ensures closes { OnOk result (ClosesLog verdict.now theory.now (K.taken log.old) (K.taken log.new)) }
-    ensures cut { OnErr result (LogsSome theory.now (K.taken log.old) (K.taken log.new)) }
+    requires { IsVerified verdict.now → HasFalseLine forms.now numbers.now }
+    ensures closes { OnOk result (ClosesLog verdict.now forms.now numbers.now (K.taken log.old) (K.taken log.new)) }
+    ensures cut { (t : Statements) → LinesStand t forms.now numbers.now → OnErr result (LogsSome t (K.taken log.old) (K.taken log.new)) }
     ensures cause { IfErr result (λ fault. HasCause fault (Rose (K.faults log.old) (K.faults log.new))) }
     ensures more_faults { K.faults log.old ≤ K.faults log.new }
 {
     match verdict {
         Verdict::Verified(_, _, _) => {
-            let Some(number) = falsehood(theory) else {
+            let Some(number) = last_false(forms, numbers) else {
                 unreachable!()
             };
             write_entry(alloc, &Entry::Lemma(Proof::Line(number)), log)?;
@@ -46,16 +54,31 @@ pub fn close_log<K: Sink>(
     }
 }
 
-// The number of a formula of the theory that is falsehood, if there is one.
-fn falsehood(theory: &Theory) -> Option<u64>
-    ensures { MatchOption result (HasFalse theory.now.formulas → ⊥) (λ number. slice_get theory.now.formulas number ≡ Some (Or [])) }
+// The number of the line that is falsehood, of several the one that was checked last, if there is one.
+fn last_false(forms: &[Form], numbers: &[Option<u64>]) -> Option<u64>
+    ensures { MatchOption result (HasFalseLine forms.now numbers.now → ⊥) (IsLastFalse forms.now numbers.now) }
 {
-    for number in 0..theory.len() {
-        if let Some(form) = theory.formula(number)
-            && is_false(form)
-        {
-            return Some(number);
-        }
+    let mut last = None;
+    for (place, form) in forms.iter().enumerate() {
+        last = later(last, false_number(form, number_at(numbers, place)));
     }
-    None
+    last
+}
+
+// The number of the line, if it is falsehood.
+fn false_number(form: &Form, number: Option<u64>) -> Option<u64>
+    ensures { (n : ℕ) → (result ≡ Some n) ↔ ((form.now ≡ Or []) × (number ≡ Some n)) }
+{
+    if is_false(form) { number } else { None }
+}
+
+// The greater of two numbers, if there are any.
+fn later(first: Option<u64>, second: Option<u64>) -> Option<u64>
+    ensures { result ≡ later_of first second }
+{
+    match (first, second) {
+        (Some(one), Some(other)) if one < other => second,
+        (Some(_), _) => first,
+        (None, _) => second,
+    }
 }

@@ -22,6 +22,9 @@ pub use closing::close_log;
 pub use declarations::declare;
 pub use ending::{has_false, verdict};
 pub use fault::RunFault;
-pub use laws::{a_good_derivation_is_accepted, a_run_speaks_of_its_lines, a_verified_run_refutes};
+pub use laws::{
+    a_good_derivation_is_accepted, a_line_cites_what_is_said, a_run_cites_what_its_lines_cite,
+    a_run_speaks_of_its_lines, a_verified_run_refutes, an_accepted_derivation_is_good,
+};
 pub use names::{answer_of, reason_name, rule_name};
-pub use run::run_lines;
+pub use run::{Outcome, run_lines};

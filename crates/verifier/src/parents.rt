@@ -81,7 +81,7 @@ fn accepted_parent(
 ) -> Result<Option<Parent>, Memory>
     ensures { IfOk result (λ found. found ≡ Lines.parent_of [] forms.now numbers.now (Ref.Line place)) }
 {
-    match number_at(numbers, place) {
+    match number_at(numbers, place as usize) {
         Some(number) => match at(forms, place as usize) {
             Some(form) => Ok(Some(numbered(alloc, number, form)?)),
             None => Ok(None),
@@ -90,11 +90,11 @@ fn accepted_parent(
     }
 }
 
-// The number of the line at this place, if there is one.
-fn number_at(numbers: &[Option<u64>], place: u32) -> Option<u64>
+/// The number of the line at this place, if there is one.
+pub fn number_at(numbers: &[Option<u64>], place: usize) -> Option<u64>
     ensures { result ≡ Numbered.joined (slice_get numbers.now place) }
 {
-    match at(numbers, place as usize) {
+    match at(numbers, place) {
         Some(number) => *number,
         None => None,
     }

@@ -20,8 +20,18 @@ use std::alloc::{AllocError, Global};
 use tptp_base::{List, Sink};
 use tstp_graph::Graph;
 
-/// Runs the lines of a derivation in the theory of its given formulas, in the order of its graph, and answers each in the
-/// order of the text. The entries of an accepted line are added to the theory and logged before the next line is
+/// What the lines of a derivation come to.
+#[derive(Drop)]
+pub struct Outcome {
+    /// The answer to each line, in the order of the text.
+    pub answers: List<LineAnswer>,
+    /// For each line the number of its formula in the theory, if the line is accepted, in the order of the text. A line
+    /// that is checked later has a greater number.
+    pub numbers: List<Option<u64>>,
+}
+
+/// Runs the lines of a derivation in the theory of its given formulas, in the order of its graph, and answers each in
+/// the order of the text. The entries of an accepted line are added to the theory and logged before the next line is
 /// looked at. A line with a parent that is not accepted is skipped.
 ///
 /// # Errors
@@ -33,12 +43,12 @@ pub fn run_lines<K: Sink>(
     graph: &Graph,
     theory: &mut Theory,
     log: &mut K,
-) -> Result<List<LineAnswer>, RunFault>
+) -> Result<Outcome, RunFault>
     requires same { length forms.now ≡ length graph.now.nodes }
     requires ordered { IsOrdered graph.now.nodes graph.now }
     requires given { All (IsReady theory.old.vocabulary) theory.old.formulas }
     requires lines { All (IsReady theory.old.vocabulary) forms.now }
-    ensures ran { IfOk result (λ answers. LogsRun theory.old (record { given = theory.old.formulas; nodes = graph.now.nodes; forms = forms.now }) graph.now.order answers theory.new (K.taken log.old) (K.taken log.new)) }
+    ensures ran { IfOk result (λ ran. LogsRun theory.old (record { given = theory.old.formulas; nodes = graph.now.nodes; forms = forms.now }) graph.now.order ran.answers ran.numbers theory.new (K.taken log.old) (K.taken log.new)) }
     ensures cut { OnErr result (LogsSome theory.old (K.taken log.old) (K.taken log.new)) }
     ensures cause { IfErr result (λ fault. HasCause fault (Rose (K.faults log.old) (K.faults log.new))) }
     ensures more_faults { K.faults log.old ≤ K.faults log.new }
@@ -59,10 +69,10 @@ fn run_in_order<K: Sink>(
     order: &[u32],
     theory: &mut Theory,
     log: &mut K,
-) -> Result<List<LineAnswer>, RunFault>
+) -> Result<Outcome, RunFault>
     requires over { IsOver theory.old lines.now }
     requires turns { TakesInTurn lines.now.nodes.now [] order.now }
-    ensures ran { IfOk result (λ answers. LogsRun theory.old (derivation_in lines.now) order.now answers theory.new (K.taken log.old) (K.taken log.new)) }
+    ensures ran { IfOk result (λ ran. LogsRun theory.old (derivation_in lines.now) order.now ran.answers ran.numbers theory.new (K.taken log.old) (K.taken log.new)) }
     ensures cut { OnErr result (LogsSome theory.old (K.taken log.old) (K.taken log.new)) }
     ensures cause { IfErr result (λ fault. HasCause fault (Rose (K.faults log.old) (K.faults log.new))) }
     ensures more_faults { K.faults log.old ≤ K.faults log.new }
@@ -75,7 +85,7 @@ fn run_in_order<K: Sink>(
         let answer = run_line(alloc, lines, place, &mut numbers, theory, log)?;
         answers.set(place, answer);
     }
-    Ok(answers)
+    Ok(Outcome { answers, numbers })
 }
 
 // No line has a number yet.

@@ -7,7 +7,7 @@ run_lines-requires-clause-given g c =
 
 pub returns-in-Ok-clause-ran : goal.returns-in-Ok-clause-ran
 returns-in-Ok-clause-ran g c =
-    runs c.args.theory.now c.args.derivation.now c.args.signature.now c.begin.new.theory c.in-Ok.answers c.run_lines.new.theory (g.K.Sink.taken c.args.log.now) (g.K.Sink.taken c.begin.new.log) (g.K.Sink.taken c.run_lines.new.log) c.in_ok-begin.ensures.widens c.in_ok-begin.ensures.declared c.in_ok-begin.ensures.logged c.in_ok-begin.ensures.in_range (rw c.as_slice-forms.ensures at c.in-Ok.ensures.ran)
+    runs c.args.theory.now c.args.derivation.now c.args.signature.now c.begin.new.theory c.in-Ok.outcome.answers c.in-Ok.outcome.numbers c.run_lines.new.theory (g.K.Sink.taken c.args.log.now) (g.K.Sink.taken c.begin.new.log) (g.K.Sink.taken c.run_lines.new.log) c.in_ok-begin.ensures.widens c.in_ok-begin.ensures.declared c.in_ok-begin.ensures.logged c.in_ok-begin.ensures.in_range (rw c.as_slice-forms.ensures at c.in-Ok.ensures.ran)
 
 pub returns-in-Err-clause-cut : goal.returns-in-Err-clause-cut
 returns-in-Err-clause-cut g c =

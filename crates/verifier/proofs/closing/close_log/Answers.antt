@@ -8,9 +8,9 @@ pub returns-in_err-write_entry-in-Verified-clause-cut :
     goal.returns-in_err-write_entry-in-Verified-clause-cut
 returns-in_err-write_entry-in-Verified-clause-cut g c =
     let p = err_from_is_err_and c.from_residual.result c.from_residual.ensures.1 in
-    rw p.1 (last_cut c.args.theory.now c.in-Some.number _ _ c.in-Some.ensures c.in_err-write_entry-in-Verified.ensures.err)
+    λ t stand. rw p.1 (last_cut t c.args.forms.now c.args.numbers.now c.in-Some.number _ _ stand c.in-Some.ensures.is c.in_err-write_entry-in-Verified.ensures.err)
 
 pub returns-in_ok-write_entry-in-Verified-clause-closes :
     goal.returns-in_ok-write_entry-in-Verified-clause-closes
 returns-in_ok-write_entry-in-Verified-clause-closes g c =
-    last_closes c.args.verdict.now c.args.theory.now c.in-Some.number _ _ (subst IsVerified (sym c.in-Verified.is) tt) c.in-Some.ensures c.in_ok-write_entry-in-Verified.ensures.ok c.in_ok-write_entry-in-Verified.ensures.in_range
+    last_closes c.args.verdict.now c.args.forms.now c.args.numbers.now c.in-Some.number _ _ (subst IsVerified (sym c.in-Verified.is) tt) c.in-Some.ensures c.in_ok-write_entry-in-Verified.ensures.ok c.in_ok-write_entry-in-Verified.ensures.in_range

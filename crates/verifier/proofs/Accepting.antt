@@ -1,0 +1,108 @@
+-- A derivation whose lines are all accepted is good: so the premise that it is good asks no more than is found.
+use Rattle.std.proofs.Common.{◌≡◌, ℕ, ◌≤◌, Bool, true, false, List, [], ◌∷◌, ◌++◌, length, map, Option, None, Some, slice_get, refl, sym, ◌∙◌, ap, subst}
+use Rattle.std.proofs.lemmas.Option.{slice_get_within}
+use Rattle.fof_terms.specs.Vocabulary.{Vocabulary}
+use Rattle.fof_terms.specs.declared.form.Form.{Form}
+use Rattle.clause_form.specs.declared.path.Parent.{Parent}
+use Rattle.kernel.specs.Statements.{Statements}
+use Rattle.kernel.specs.declared.entry.Entry.{Entry}
+use Rattle.elaborate.specs.ByRule.{rules, leaf_rules}
+use Rattle.elaborate.specs.declared.answer.Rule.{Rule}
+use Rattle.elaborate.specs.declared.answer.StepAnswer.TheVariants as step
+use Rattle.tstp_graph.specs.declared.shape.Ref.{Ref}
+use Rattle.tstp_graph.specs.declared.shape.Ref.TheVariants as ref
+use Rattle.tstp_graph.specs.Order.{TakesInTurn}
+use Rattle.verifier.specs.Claim.{answer_cites_marked, cites_marked, some_marked_ref}
+use Rattle.verifier.specs.Good.{form_of, forms_of, without_numbers, so_far, cited_by_leaf, FollowsAs, Follows, FollowInTurn, IsGood}
+use Rattle.verifier.specs.Lines.{Derivation, Line, IsLineAt, parent_of, parents_of, candidates_of}
+use Rattle.verifier.specs.Report.{AreAccepted, HasFalse}
+use Rattle.verifier.specs.Run.{Progress, AnswersKind, AreAnswered, IsAnswered, IsRun, begun}
+use Rattle.verifier.specs.declared.answer.LineAnswer.{LineAnswer}
+use Rattle.verifier.specs.declared.answer.LineAnswer.TheVariants.{Accepted, Unverified, Skipped}
+use Rattle.verifier.proofs.Citing.{one_unmarked}
+use Rattle.verifier.proofs.Counting.{IsAccepted, one_accepted}
+use Rattle.verifier.proofs.Goodness.{IsSound, accepts, begun_sound, candidates_alike, forms_without_numbers}
+use Rattle.verifier.proofs.Knowing.{accepted_is, both_is, with_number_is}
+use Rattle.verifier.proofs.Marking.{answered_marked, unmarked_both}
+use Rattle.verifier.proofs.Numbers.{IsNumbered, answer_numbered, begun_numbered}
+use Rattle.verifier.proofs.Renumbering.{first_alike_rule, alone_alike_rule}
+use Rattle.verifier.proofs.Symbols.{SameSymbols, other_way}
+
+-- the formulas of parents
+abbrev forms_in : List Parent → List Form
+forms_in parents = map (λ (p : Parent). p.form) parents
+
+parent_form : (d : Derivation) (numbers : List (Option ℕ)) (r : Ref) (q : Parent) → parent_of d.given d.forms numbers r ≡ Some q → form_of d.given d.forms r ≡ Some q.form
+parent_form d numbers (ref.Given place) q is = (with_number_is place (slice_get d.given place) q is).0
+parent_form d numbers (ref.Line place) q is = (accepted_is (slice_get numbers place) (slice_get d.forms place) q is).1
+
+parents_forms : (d : Derivation) (numbers : List (Option ℕ)) (rs : List Ref) (qs : List Parent) → parents_of d.given d.forms numbers rs ≡ Some qs → forms_of d.given d.forms rs ≡ Some (forms_in qs)
+parents_forms d numbers [] qs is = let none : qs ≡ [] = cc in ap (λ (ps : List Parent). Some (forms_in ps)) (sym none)
+parents_forms d numbers (r ∷ rs) qs is =
+    let parts = both_is (parent_of d.given d.forms numbers r) (parents_of d.given d.forms numbers rs) qs is in
+    rw (parent_form d numbers r parts.0 parts.2, parents_forms d numbers rs parts.1 parts.3) (ap (λ (ps : List Parent). Some (forms_in ps)) (sym parts.4))
+
+-- what an accepted line cites by its text, and that it follows so
+kind_follows : (is_leaf : Bool) (t u : Statements) (given : List Form) (cited : Bool) (refs : List Ref) (parents : List Parent) (form : Form) (rule : Rule) (cites : List ℕ) (entries : List Entry) → SameSymbols t u → AnswersKind is_leaf t given cited parents form (step.Accepted rule cites entries)
+    → (own : List Ref) × FollowsAs is_leaf u given cited refs (forms_in parents) form own
+kind_follows false t u given cited refs parents form rule cites entries same (by, cites_are, derived) =
+    (refs, (rule, first_alike_rule rules t u form rule parents (without_numbers (forms_in parents)) same (sym (forms_without_numbers (forms_in parents))) by, refl))
+kind_follows true t u given cited refs parents form rule cites entries same (i, c, there, leaf, cites_are, derived) = (
+  cited_by_leaf cited refs i,
+  (
+    rule,
+    i,
+    alone_alike_rule leaf_rules t u form rule i (candidates_of given cited parents) (candidates_of given cited (without_numbers (forms_in parents))) same
+        (candidates_alike given cited parents (without_numbers (forms_in parents)) (sym (forms_without_numbers (forms_in parents)))) leaf,
+    refl,
+  ),
+)
+
+-- A line that is accepted follows, and what it cites by its text is marked where what the answer cites is.
+record IsFollowed (v : Vocabulary) (d : Derivation) (taken : List ℕ) (earlier : List Form) (place : ℕ) (line : Line) (answer : LineAnswer) (new : Progress) : Type 0 where
+  cites : List Ref
+  follows : Follows (so_far v d.given earlier) d line cites
+  sound : IsSound v d (taken ++ place ∷ []) (earlier ++ line.form ∷ []) new
+  marked : (marks : List Bool) → length marks ≤ length d.given → answer_cites_marked marks answer ≡ some_marked_ref marks cites
+
+module _ (v : Vocabulary) (d : Derivation) (taken : List ℕ) (earlier : List Form) (old : Progress) (place : ℕ) (line : Line) (entries : List Entry) (new : Progress) (there : IsLineAt d place line) (sound : IsSound v d taken earlier old) (numbered : IsNumbered (length d.given) d old) where
+  answer_follows : (parents : Option (List Parent)) (answer : LineAnswer) → parents_of d.given d.forms old.numbers line.node.parents ≡ parents → IsAccepted answer → IsAnswered d.given old place line parents answer entries new → IsFollowed v d taken earlier place line answer new
+  answer_follows parents Skipped known good is = absurd good
+  answer_follows parents (Unverified reason) known good is = absurd good
+  answer_follows None (Accepted rule cites) known good is = absurd is
+  answer_follows (Some parents) (Accepted rule cites) known good is =
+      let u = so_far v d.given earlier in
+      let forms = forms_in parents in
+      let follows = kind_follows line.node.leaf old.theory u d.given line.node.cited line.node.parents parents line.form rule cites entries sound.same is.0 in
+      record {
+        cites = follows.0;
+        follows = (forms, parents_forms d old.numbers line.node.parents parents known, follows.1);
+        sound = (accepts v d taken earlier old place line parents forms follows.0 (Accepted rule cites) entries new sound (slice_get_within d.nodes place line.node there.node) refl follows.1 is).1;
+        marked = λ marks short. answered_marked marks d old place line u follows.0 parents forms (Accepted rule cites) entries new short numbered (other_way old.theory u sound.same) refl known follows.1 tt is;
+      }
+
+-- the lines of a run follow in turn
+record AreFollowed (v : Vocabulary) (d : Derivation) (earlier : List Form) (places : List ℕ) (answers : List LineAnswer) : Type 0 where
+  cites : List Ref
+  follow : FollowInTurn v d earlier places cites
+  unmarked : (marks : List Bool) → length marks ≤ length d.given → cites_marked marks answers ≡ false → some_marked_ref marks cites ≡ false
+
+answers_follow : (v : Vocabulary) (d : Derivation) (answers : List LineAnswer) (taken : List ℕ) (earlier : List Form) (old : Progress) (places : List ℕ) (entries : List Entry) (new : Progress) → IsSound v d taken earlier old → IsNumbered (length d.given) d old → AreAccepted answers → AreAnswered d answers old places entries new → AreFollowed v d earlier places answers
+answers_follow v d answers taken earlier old [] entries new sound numbered all are = record { cites = []; follow = refl; unmarked = λ marks short none. refl }
+answers_follow v d answers taken earlier old (place ∷ places) entries new sound numbered all (own, mid, a, (later, is, rest)) =
+    let parents = parents_of d.given d.forms old.numbers a.line.node.parents in
+    let here = answer_follows v d taken earlier old place a.line own mid a.there sound numbered parents a.answer refl (one_accepted answers place a.answer all a.answer_there) a.is in
+    let behind = answers_follow v d answers (taken ++ place ∷ []) (earlier ++ a.line.form ∷ []) mid places later new here.sound (answer_numbered (length d.given) d old place a.line parents a.answer own mid a.there a.is numbered) all rest in
+    record {
+      cites = here.cites ++ behind.cites;
+      follow = (a.line, here.cites, behind.cites, a.there, refl, here.follows, behind.follow);
+      unmarked = λ marks short none. unmarked_both marks here.cites behind.cites (sym (here.marked marks short) ∙ one_unmarked marks answers place a.answer none a.answer_there) (behind.unmarked marks short none);
+    }
+
+-- the derivation is good, and cites what is marked only where an answer does
+pub accepted_good : (start : Statements) (d : Derivation) (order : List ℕ) (answers : List LineAnswer) (entries : List Entry) (end : Statements) → start.formulas ≡ d.given → IsRun start d order answers entries end → AreAccepted answers → HasFalse d.forms
+    → (cites : List Ref) × IsGood start.vocabulary d order cites × ((marks : List Bool) → length marks ≤ length d.given → cites_marked marks answers ≡ false → some_marked_ref marks cites ≡ false)
+accepted_good start d order answers entries end given run all ends =
+    let numbered = subst (λ (fs : List Form). IsNumbered (length fs) d (begun start d)) given (begun_numbered start d) in
+    let found = answers_follow start.vocabulary d answers [] [] (begun start d) order entries (record { theory = end; numbers = run.numbers }) (begun_sound start d given) numbered all run.answered in
+    (found.cites, record { each = found.follow; ends = ends }, found.unmarked)
