@@ -62,8 +62,9 @@ fn denoted(alloc: Global, signature: &mut Signature, text: &str) -> Result<Optio
 
 fn form_of_log(alloc: Global, text: &str) -> Result<Form> {
     let log = format!(in alloc; "tptp-log 1\nN 0 {text}\n")?;
-    match read_log(alloc, log.as_bytes())?.pop() {
-        Some(Entry::Name(_, form)) => Ok(form),
+    let entries = read_log(alloc, log.as_bytes())?;
+    match entries.get(0) {
+        Some(Entry::Name(_, form)) => Ok(form.copy(alloc)?),
         _ => bail!("no formula"),
     }
 }

@@ -33,16 +33,13 @@ pub fn found(alloc: Global, line: &Line<'_>) -> Result<String> {
     }
 }
 
-fn whole(text: &[u8]) -> Region {
-    Region {
-        start: 0,
-        end: text.len() as u64,
-    }
-}
-
 fn tokens_of(alloc: Global, text: &str, style: Style) -> Result<String> {
     let bytes = text.as_bytes();
-    Ok(listed(alloc, tokens(alloc, 0, bytes, whole(bytes), style))?)
+    let whole = Region {
+        start: 0,
+        end: bytes.len() as u64,
+    };
+    Ok(listed(alloc, tokens(alloc, 0, bytes, whole, style))?)
 }
 
 fn places_in(alloc: Global, before: &str, part: &str, behind: &str) -> Result<String> {

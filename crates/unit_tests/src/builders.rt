@@ -14,8 +14,9 @@ const SYMBOLS: &str = "tptp-log 1\nD p 'p' 0\nD p 'q' 0\nD p 'r' 1 0\nD f 'c' 0 
 // The formula of a text as logs have it.
 fn form(alloc: Global, text: &str) -> Result<Form, Fail> {
     let log = format!(in alloc; "tptp-log 1\nN 0 {text}\n")?;
-    match read_log(alloc, log.as_bytes())?.pop() {
-        Some(Entry::Name(_, form)) => Ok(form),
+    let entries = read_log(alloc, log.as_bytes())?;
+    match entries.get(0) {
+        Some(Entry::Name(_, form)) => Ok(form.copy(alloc)?),
         _ => Err(Fail::from("no formula")),
     }
 }
