@@ -5,22 +5,23 @@ ghost use Rattle.tptp_base.specs.Count.{Rose};
 ghost use Rattle.tptp_base.specs.Sink.{Takes};
 ghost use Rattle.tstp_graph.specs.Graphs.{IsOrdered};
 ghost use Rattle.kernel.specs.Entries.{Admits};
+ghost use Rattle.kernel.specs.Statements.{Statements};
 ghost use Rattle.proof_log.specs.Entries.{HaveNumbersInRange};
 ghost use Rattle.clause_rules.specs.Steps.{IsReady};
-ghost use Rattle.verifier.specs.Closing.{ClosesLog, IsVerified};
+ghost use Rattle.verifier.specs.Closing.{ClosesLog, HasFalseLine, IsVerified};
 ghost use Rattle.verifier.specs.Declarations;
 ghost use Rattle.verifier.specs.Faults.{HasCause};
+ghost use Rattle.verifier.specs.Lines.{LinesStand};
 ghost use Rattle.verifier.specs.Logged.{CanAdmit, LogsSome, LogsRun, entries_text};
-ghost use Rattle.verifier.specs.Report.{HasFalse};
 
 use crate::{Control, Probe};
 use fof_terms::{Form, Signature};
 use kernel::Theory;
 use std::alloc::Global;
 use szs_report::Verdict;
-use tptp_base::{List, Sink};
+use tptp_base::Sink;
 use tstp_graph::Graph;
-use verifier::{LineAnswer, RunFault, close_log, declare, run_lines};
+use verifier::{Outcome, RunFault, close_log, declare, run_lines};
 
 /// Runs lines and logs their entries.
 pub trait Running {
@@ -32,12 +33,12 @@ pub trait Running {
         graph: &Graph,
         theory: &mut Theory,
         log: &mut K,
-    ) -> Result<List<LineAnswer>, RunFault>
+    ) -> Result<Outcome, RunFault>
         requires same { length forms.now ≡ length graph.now.nodes }
         requires ordered { IsOrdered graph.now.nodes graph.now }
         requires given { All (IsReady theory.old.vocabulary) theory.old.formulas }
         requires lines { All (IsReady theory.old.vocabulary) forms.now }
-        ensures ran { IfOk result (λ answers. LogsRun theory.old (record { given = theory.old.formulas; nodes = graph.now.nodes; forms = forms.now }) graph.now.order answers theory.new (K.taken log.old) (K.taken log.new)) }
+        ensures ran { IfOk result (λ ran. LogsRun theory.old (record { given = theory.old.formulas; nodes = graph.now.nodes; forms = forms.now }) graph.now.order ran.answers ran.numbers theory.new (K.taken log.old) (K.taken log.new)) }
         ensures cut { OnErr result (LogsSome theory.old (K.taken log.old) (K.taken log.new)) }
         ensures cause { IfErr result (λ fault. HasCause fault (Rose (K.faults log.old) (K.faults log.new))) }
         ensures more_faults { K.faults log.old ≤ K.faults log.new };
@@ -57,16 +58,18 @@ pub trait Running {
         ensures cause { IfErr result (λ fault. HasCause fault (Rose (K.faults log.old) (K.faults log.new))) }
         ensures more_faults { K.faults log.old ≤ K.faults log.new };
 
-    /// Writes the last entry of a log: where all is verified, a lemma that shows falsehood, and else nothing.
+    /// Writes the last entry of a log: where all is verified, a lemma that cites the last line that is
+    /// falsehood, and else nothing.
     fn close_log<K: Sink>(
         alloc: Global,
         verdict: &Verdict,
-        theory: &Theory,
+        forms: &[Form],
+        numbers: &[Option<u64>],
         log: &mut K,
     ) -> Result<(), RunFault>
-        requires { IsVerified verdict.now → HasFalse theory.now.formulas }
-        ensures closes { OnOk result (ClosesLog verdict.now theory.now (K.taken log.old) (K.taken log.new)) }
-        ensures cut { OnErr result (LogsSome theory.now (K.taken log.old) (K.taken log.new)) }
+        requires { IsVerified verdict.now → HasFalseLine forms.now numbers.now }
+        ensures closes { OnOk result (ClosesLog verdict.now forms.now numbers.now (K.taken log.old) (K.taken log.new)) }
+        ensures cut { (t : Statements) → LinesStand t forms.now numbers.now → OnErr result (LogsSome t (K.taken log.old) (K.taken log.new)) }
         ensures cause { IfErr result (λ fault. HasCause fault (Rose (K.faults log.old) (K.faults log.new))) }
         ensures more_faults { K.faults log.old ≤ K.faults log.new };
 }
@@ -78,7 +81,7 @@ impl Running for Probe {
         graph: &Graph,
         theory: &mut Theory,
         log: &mut K,
-    ) -> Result<List<LineAnswer>, RunFault> {
+    ) -> Result<Outcome, RunFault> {
         run_lines(alloc, forms, graph, theory, log)
     }
 
@@ -94,10 +97,11 @@ impl Running for Probe {
     fn close_log<K: Sink>(
         alloc: Global,
         verdict: &Verdict,
-        theory: &Theory,
+        forms: &[Form],
+        numbers: &[Option<u64>],
         log: &mut K,
     ) -> Result<(), RunFault> {
-        close_log(alloc, verdict, theory, log)
+        close_log(alloc, verdict, forms, numbers, log)
     }
 }
 
@@ -108,9 +112,9 @@ impl Running for Control {
         graph: &Graph,
         theory: &mut Theory,
         log: &mut K,
-    ) -> Result<List<LineAnswer>, RunFault> {
+    ) -> Result<Outcome, RunFault> {
         match run_lines(alloc, forms, graph, theory, log) {
-            Ok(answers) => Ok(answers),
+            Ok(Outcome { answers, numbers }) => Ok(Outcome { answers, numbers }),
             Err(RunFault::Sink) => Err(RunFault::Sink),
             Err(RunFault::Memory) => Err(RunFault::Memory),
         }
@@ -132,11 +136,12 @@ impl Running for Control {
     fn close_log<K: Sink>(
         alloc: Global,
         verdict: &Verdict,
-        theory: &Theory,
+        forms: &[Form],
+        numbers: &[Option<u64>],
         log: &mut K,
     ) -> Result<(), RunFault> {
         match verdict {
-            Verdict::Verified(_, _, _) => close_log(alloc, verdict, theory, log),
+            Verdict::Verified(_, _, _) => close_log(alloc, verdict, forms, numbers, log),
             Verdict::Failed(_, _, _) | Verdict::NoFalse | Verdict::BadClaim(_) => Ok(()),
         }
     }
