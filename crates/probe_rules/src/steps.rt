@@ -377,8 +377,10 @@ impl Steps for Control {
         parents: &[Parent],
         line: &Form,
     ) -> Result<Option<Just>, Memory> {
-        let all = parents.len();
-        recognise(alloc, sig, &parents[..all], line)
+        match recognise(alloc, sig, parents, line)? {
+            Some(just) => Ok(Some(just)),
+            None => Ok(None),
+        }
     }
 
     fn cover_clause(
