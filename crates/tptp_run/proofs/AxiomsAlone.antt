@@ -1,7 +1,7 @@
 -- Where a run verifies a derivation that claims that the axioms contradict each other, its log cites no conjecture.
 use Rattle.std.specs.Prelude.{codes, unwrap_or}
 use Rattle.std.specs.Option.{option_map}
-use Rattle.std.proofs.Common.{◌≡◌, inl, inr, ℕ, ◌-◌, ◌<◌, Bool, true, false, List, length, Option, Some, Ok, slice_get, refl, sym, ◌∙◌, ap, subst, arith}
+use Rattle.std.proofs.Common.{◌≡◌, inl, inr, ℕ, ◌-◌, Bool, true, false, List, Option, Some, Ok, slice_get, sym, ◌∙◌, ap, subst, arith}
 use Rattle.std.proofs.lemmas.List.{length-map}
 use Rattle.std.proofs.lemmas.Option.{slice_get-map, slice_get_within}
 use Rattle.tptp_base.specs.Store.{Files, file_at}
@@ -56,7 +56,7 @@ module _ (files : Files) (root : Option (List ℕ)) (problem file text : List �
         log_is = shown.1;
         refutes = shown.2;
         spares = λ number entry at role.
-            shown.3 number (omega (arith, slice_get_within (given_entries lines) number entry at, length-map (λ (e : GivenEntry). e.form) (given_entries lines))) (role_marked (given_entries lines) number entry at role);
+            shown.3 number (omega (arith, slice_get_within (given_entries lines) number entry at, length-map (given_entries lines) (λ (e : GivenEntry). e.form))) (role_marked (given_entries lines) number entry at role);
       }
 
   verify_spares : EndsVerify files root problem file ending → RefutesAxioms files root problem ending.log

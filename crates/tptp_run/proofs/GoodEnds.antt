@@ -23,7 +23,7 @@ use Rattle.tptp_run.proofs.Stages.{if_map}
 -- there are as many marks as given formulas
 marks_fit : (lines : List Line) (v : Vocabulary) → length (conjecture_marks lines) ≤ length (given_theory lines v).formulas
 marks_fit lines v =
-    omega (arith, length-map (λ (entry : GivenEntry). is_of_conjecture entry.role) (given_entries lines), length-map (λ (entry : GivenEntry). entry.form) (given_entries lines))
+    omega (arith, length-map (given_entries lines) (λ (entry : GivenEntry). is_of_conjecture entry.role), length-map (given_entries lines) (λ (entry : GivenEntry). entry.form))
 
 text_good : (problem file : List ℕ) (lines : List Line) (v : Vocabulary) (text : List ℕ) (ending : Ending) → IsGoodText problem file lines v text → SaysDerivation problem file (given_theory lines v) (given_names lines) (conjecture_marks lines) (has_conjecture lines) text ending → ending.status ≡ 0
 text_good problem file lines v text ending good (inl refused) = absurd (good.no_fault ending refused)
