@@ -3,7 +3,6 @@
 #![tactic(auto)]
 
 mod checks;
-mod copies;
 mod lines;
 mod proving;
 mod runs;

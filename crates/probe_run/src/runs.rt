@@ -8,7 +8,6 @@ ghost use Rattle.tptp_run.specs.OtherFaults.{TakesOtherFault};
 ghost use Rattle.tptp_run.specs.Outcome.{IsAnswer, IsOutcome, IsRefutation, SaysMissing};
 ghost use Rattle.tptp_run.specs.Words.{texts, Verify, Request, IsForm};
 
-use crate::copies::copied;
 use crate::{Control, Probe};
 use std::alloc::Global;
 use tptp_base::{Sink, Store};
@@ -73,12 +72,9 @@ impl Commanding for Control {
         out: &mut O,
         log: &mut L,
     ) -> u8 {
-        match copied(alloc, words) {
-            Ok(words) => match run_tptp(alloc, &words, store, out, log) {
-                0 => 0,
-                status => status,
-            },
-            Err(_) => 6,
+        match run_tptp(alloc, words, store, out, log) {
+            6 => 6,
+            status => status,
         }
     }
 }

@@ -44,9 +44,14 @@ impl Asking for Control {
 
     #[tactic(auto, using(tptp_run::proofs::Requests::one_task))]
     fn log_name(words: &[String]) -> Option<&str> {
-        match read_words(words)?.job {
-            Job::Verify(_, _, log) => log,
-            Job::Format(_) | Job::Parse(_) | Job::Check(_, _) => None,
+        match read_words(words) {
+            Some(
+                Command {
+                    job: Job::Verify(_, _, log),
+                    ..
+                },
+            ) => log,
+            Some(_) | None => log_name(words),
         }
     }
 }
