@@ -15,14 +15,14 @@ use std::mem;
 use tptp_base::{List, Memory};
 
 // A node that waits: its parents before this place are taken.
-#[derive(Clone, Copy, Drop)]
+#[derive(Clone, Copy, Debug, Drop)]
 pub struct Waiter {
     pub number: u32,
     pub place: usize,
 }
 
 // A parent that is not taken: its line, and its place among the parents.
-#[derive(Clone, Copy, Drop)]
+#[derive(Clone, Copy, Debug, Drop)]
 pub struct Missing {
     pub line: u32,
     pub place: usize,
