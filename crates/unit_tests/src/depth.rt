@@ -5,36 +5,34 @@ use std::test::Fail;
 use tptp_base::{List, SteadySink, SteadyStore, Text};
 use tptp_run::run_tptp;
 
-// A run that ends with status 1.
-#[derive(Clone, Copy)]
-struct Run<'a> {
-    words: &'a [&'a str],
-    files: &'a [(&'a str, &'a str)],
-    printed: &'a str,
+fn text(alloc: Global, text: &str) -> Result<Text, AllocError> {
+    Text::from_slice(alloc, text.as_bytes())
 }
 
-impl Run<'_> {
-    // Whether the run ends so, and prints the text.
-    fn ends(&self, alloc: Global) -> Result<bool, Fail> {
-        let mut words = Vec::new(alloc);
-        for word in self.words {
-            words.push(String::from_str(alloc, word)?)?;
-        }
-        let mut store = SteadyStore::new(alloc, self.files(alloc)?)?;
-        let mut out = SteadySink::new(alloc);
-        let mut log = SteadySink::new(alloc);
-        let status = run_tptp(alloc, &words, &mut store, &mut out, &mut log);
-        Ok(status == 1 && out.bytes() == self.printed.as_bytes())
+fn files(alloc: Global, named: &[(&str, &str)]) -> Result<List<(Text, Text)>, AllocError> {
+    let mut files = List::new(alloc);
+    for &(name, bytes) in named {
+        files.push((text(alloc, name)?, text(alloc, bytes)?))?;
     }
+    Ok(files)
+}
 
-    fn files(&self, alloc: Global) -> Result<List<(Text, Text)>, AllocError> {
-        let mut files = List::new(alloc);
-        for &(name, text) in self.files {
-            let name = Text::from_slice(alloc, name.as_bytes())?;
-            files.push((name, Text::from_slice(alloc, text.as_bytes())?))?;
-        }
-        Ok(files)
+fn words_of(alloc: Global, line: &str) -> Result<Vec<String>, AllocError> {
+    let mut words = Vec::new(alloc);
+    for word in line.split(' ') {
+        words.push(String::from_str(alloc, word)?)?;
     }
+    Ok(words)
+}
+
+// Whether a run on these words and files ends with status 1 and prints the text.
+fn prints(alloc: Global, line: &str, named: &[(&str, &str)], printed: &str) -> Result<bool, Fail> {
+    let words = words_of(alloc, line)?;
+    let mut store = SteadyStore::new(alloc, files(alloc, named)?)?;
+    let mut out = SteadySink::new(alloc);
+    let mut log = SteadySink::new(alloc);
+    let answer = run_tptp(alloc, &words, &mut store, &mut out, &mut log);
+    Ok(answer == 1 && out.bytes() == printed.as_bytes())
 }
 
 // The words, so many times, and what stands behind them.
@@ -101,12 +99,8 @@ fn a_log_nests_4000_deep(rt: HostRuntime) -> Result<(), Fail> {
     for deep in &PROOFS {
         let proof = nested(alloc, deep.times, deep.level, deep.behind)?;
         let log = format!(in alloc; "tptp-log 1\nL {proof}")?;
-        let run = Run {
-            words: &["check", "p.p", "p.log"],
-            files: &[("p.p", "cnf(a,axiom,p)."), ("p.log", log.as_str())],
-            printed: deep.printed,
-        };
-        assert!(rt; run.ends(alloc)?);
+        let files = [("p.p", "cnf(a,axiom,p)."), ("p.log", log.as_str())];
+        assert!(rt; prints(alloc, "check p.p p.log", &files, deep.printed)?);
     }
     Ok(())
 }
@@ -121,11 +115,8 @@ fn implications_nest_250_deep(rt: HostRuntime) -> Result<(), Fail> {
     let derivation = format!(in alloc;
         "fof(a,axiom,{left}{form},file('d.p',a)).\nfof(b,plain,{clause},inference(nnf,[],[a])).\n"
     )?;
-    let run = Run {
-        words: &["verify", "d.p", "d.s"],
-        files: &[("d.p", problem.as_str()), ("d.s", derivation.as_str())],
-        printed: "a ok norm\nb ok norm\nnot verified: no line is $false\n",
-    };
-    assert!(rt; run.ends(alloc)?);
+    let files = [("d.p", problem.as_str()), ("d.s", derivation.as_str())];
+    let printed = "a ok norm\nb ok norm\nnot verified: no line is $false\n";
+    assert!(rt; prints(alloc, "verify d.p d.s", &files, printed)?);
     Ok(())
 }
