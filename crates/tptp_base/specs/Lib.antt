@@ -1,7 +1,9 @@
+pub mod Calls
 pub mod Count
 pub mod Names
 pub mod Place
 pub mod Quotable
 pub mod Read
 pub mod Sink
+pub mod Steady
 pub mod Store

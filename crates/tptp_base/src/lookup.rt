@@ -1,6 +1,6 @@
 // How a store in memory finds a file and reads from it.
 ghost use Rattle.std.specs.Prelude.{◌≡◌, ◌<◌, ◌≤◌, length, option_copied};
-ghost use Rattle.tptp_base.specs.Store.{file_at, GivesAt};
+ghost use Rattle.tptp_base.specs.Store.{file_at, fill_count, GivesAt};
 
 use crate::Text;
 
@@ -21,6 +21,7 @@ pub fn copy_from(file: &[u8], offset: u64, most: usize, into: &mut [u8]) -> usiz
     requires room { 0 < length into.old }
     requires some { 0 < most }
     ensures bound { result ≤ length into.new }
+    ensures count { result ≡ fill_count file.now offset (length into.new) most }
     ensures bytes { GivesAt file.now offset result into.new }
 {
     if offset >= file.len() as u64 {

@@ -1,8 +1,8 @@
 // Reads a whole file.
-ghost use Rattle.std.specs.Prelude.{◌≡◌, ◌<◌, ◌≤◌, ◌++◌, IfOk, OnOk, IsErrOf, length, if◌then◌else◌};
+ghost use Rattle.std.specs.Prelude.{◌≡◌, ◌+◌, ◌<◌, ◌≤◌, ◌++◌, IfOk, OnOk, OnErr, IsErrOf, length, if◌then◌else◌};
 ghost use Rattle.tptp_base.specs.declared.limit.LimitName.{LimitName};
 ghost use Rattle.tptp_base.specs.declared.read.ReadFault.TheVariants.{Memory};
-ghost use Rattle.tptp_base.specs.Count.{Rose};
+ghost use Rattle.tptp_base.specs.Count.{Rose, count_after};
 ghost use Rattle.tptp_base.specs.Store.{HasFile, GivesAt, IsMissing};
 ghost use Rattle.tptp_base.specs.Read.{IsOver, read_fault};
 
@@ -53,7 +53,7 @@ impl From<Memory> for ReadFault {
 }
 
 /// The bytes of a file, which may be as many as the budget. A file over the budget is read on until it ends
-/// or is over the limit of a file.
+/// or is over the limit of a file, so that at most one byte over that limit is read.
 pub fn read_whole<S: Store>(
     alloc: Global,
     store: &mut S,
@@ -63,6 +63,7 @@ pub fn read_whole<S: Store>(
     ensures whole { IfOk result (λ text. HasFile (S.files store.old) name.now (λ file. file ≡ text)) }
     ensures in_budget { IfOk result (λ text. length text ≤ budget) }
     ensures in_limit { IfOk result (λ text. length text ≤ FILE_SIZE) }
+    ensures given { S.given store.new ≤ S.given store.old + (FILE_SIZE + 1) }
 
     ensures limit { (limit : LimitName) → IsErrOf result (ReadFault.Limit limit) →
         HasFile (S.files store.old) name.now (λ file. IsOver limit budget (length file)) }
@@ -105,6 +106,8 @@ fn read_piece<S: Store>(
     requires fits { room ≤ length piece.old }
     ensures bound { IfOk result (λ count. count ≤ room) }
     ensures in_piece { IfOk result (λ count. count ≤ length piece.new) }
+    ensures given { IfOk result (λ count. S.given store.new ≡ count_after count (S.given store.old)) }
+    ensures none_given { OnErr result (S.given store.new ≡ S.given store.old) }
     ensures bytes { IfOk result (λ count. HasFile (S.files store.old) name.now (λ file. GivesAt file offset count piece.new)) }
     ensures missing { IsErrOf result StoreFault.Absent → IsMissing (S.files store.old) name.now }
     ensures absent { IsErrOf result StoreFault.Absent → Rose (S.absents store.old) (S.absents store.new) }
