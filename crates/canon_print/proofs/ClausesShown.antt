@@ -11,8 +11,9 @@ use Rattle.tptp_grammar.specs.Clauses as g
 use Rattle.tptp_grammar.specs.Clauses.{IsLiteral, IsClause}
 use Rattle.tptp_grammar.specs.Terms.{IsAtom}
 use Rattle.canon_print.specs.Words.{later, separated}
-use Rattle.canon_print.specs.Canonical.{Shown, is_compound, formula_text, unit_text}
-use Rattle.canon_print.specs.Equations.{shown-Not, shown-Or}
+use Rattle.canon_print.specs.Canonical.{Shown, formula_text}
+use Rattle.canon_print.specs.code.Canonical.{is_compound, unit_text}
+use Rattle.canon_print.proofs.Equations.{shown-Not, shown-Or}
 use Rattle.canon_print.proofs.Lexed.{blank, sign, Given}
 use Rattle.canon_print.proofs.Shows.{Printed, Prints, Shows, by_rule, by_text, two, bar, shows_listed}
 use Rattle.canon_print.proofs.TermsShown.{AtomShown, atom_shown, inequation_shown}

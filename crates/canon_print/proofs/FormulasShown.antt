@@ -16,8 +16,9 @@ use Rattle.tptp_grammar.specs.Tokens.{Tokens, operator, quantifier}
 use Rattle.tptp_grammar.specs.Formulas as g
 use Rattle.tptp_grammar.specs.Formulas.{IsBoundVariable, AreBoundVariables, under, IsUnit, IsFormula, AreUnits}
 use Rattle.canon_print.specs.Words.{later, separated}
-use Rattle.canon_print.specs.Canonical.{Shown, opening, closing, shown, is_compound, formula_text, unit_text, sort_text, variable_text, operator_text, quantifier_text}
-use Rattle.canon_print.specs.Equations.{shown-Not, shown-And, shown-Or, shown-Binary, shown-Bind}
+use Rattle.canon_print.specs.Canonical.{Shown, opening, closing, shown, formula_text, sort_text, variable_text, operator_text, quantifier_text}
+use Rattle.canon_print.specs.code.Canonical.{is_compound, unit_text}
+use Rattle.canon_print.proofs.Equations.{shown-Not, shown-And, shown-Or, shown-Binary, shown-Bind}
 use Rattle.canon_print.proofs.Longest.{Ends}
 use Rattle.canon_print.proofs.Lexed.{LexedTo, done, blank, join, sign, Given, print_upper}
 use Rattle.canon_print.proofs.Shows.{Prints, Shows, by_rule, by_text, prints_by, two, Separator, comma, bar, ampersand, separated_one, shows_listed}

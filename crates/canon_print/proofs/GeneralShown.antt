@@ -12,7 +12,7 @@ use Rattle.tptp_grammar.specs.GeneralTerms as g
 use Rattle.tptp_grammar.specs.GeneralTerms.{IsFormulaOf, IsGeneralData, IsGeneralTerm, IsGeneralList, AreGeneralTerms}
 use Rattle.canon_print.specs.Words.{word_text, later, separated}
 use Rattle.canon_print.specs.Canonical.{term_text, formula_text, list_text, general_text}
-use Rattle.canon_print.specs.Equations.{general_text-Word, general_text-Func, general_text-Var, general_text-Number, general_text-Distinct, general_text-Formula, general_text-Term, general_text-List, general_text-Pair}
+use Rattle.canon_print.proofs.Equations.{general_text-Word, general_text-Func, general_text-Var, general_text-Number, general_text-Distinct, general_text-Formula, general_text-Term, general_text-List, general_text-Pair}
 use Rattle.canon_print.proofs.Longest.{Ends}
 use Rattle.canon_print.proofs.Lexed.{LexedTo, done, join, sign, Given, word_facts, print_word, print_upper, print_number, print_distinct, print_dollar}
 use Rattle.canon_print.proofs.Shows.{Shows, by_rule, by_text, two, comma, separated_one}

@@ -11,3 +11,4 @@ pub mod ItemsShown
 pub mod FilesShown
 pub mod OneReading
 pub mod ReadBack
+pub mod Equations

@@ -10,8 +10,9 @@ use Rattle.tptp_grammar.specs.Tokens.{Tokens}
 use Rattle.tptp_grammar.specs.Terms as g
 use Rattle.tptp_grammar.specs.Terms.{IsTerm, IsApplied, AreTerms, IsAtom, IsInequation}
 use Rattle.canon_print.specs.Words.{word_text, later, separated}
-use Rattle.canon_print.specs.Canonical.{applied_text, term_text, terms_text, Shown, shown, formula_text, is_compound}
-use Rattle.canon_print.specs.Equations.{term_text-Var, term_text-App, shown-True, shown-False, shown-Atom, shown-Eq, shown-Neq}
+use Rattle.canon_print.specs.Canonical.{applied_text, term_text, terms_text, Shown, shown, formula_text}
+use Rattle.canon_print.specs.code.Canonical.{is_compound}
+use Rattle.canon_print.proofs.Equations.{term_text-Var, term_text-App, shown-True, shown-False, shown-Atom, shown-Eq, shown-Neq}
 use Rattle.canon_print.proofs.Lexed.{done, join, sign, Given, word_facts, print_word, print_upper, print_dollar}
 use Rattle.canon_print.proofs.Shows.{Shows, by_rule, by_text, two, comma, equal, not_equal, separated_one}
 

@@ -11,9 +11,11 @@ use Rattle.tptp_base.specs.declared.surface.Surface.TheVariants.{Binary}
 use Rattle.tptp_base.specs.Sink.{Takes, TakesPrefix}
 use Rattle.tptp_base.proofs.Taken.{takes_both, takes_then_prefix, prefix_of_more}
 use Rattle.tptp_lexer.specs.Quotes.{is_escaped}
-use Rattle.canon_print.specs.Canonical.{operator_text, Shown, formula_text, unit_text}
-use Rattle.canon_print.specs.Equations.{shown-Binary}
-use Rattle.canon_print.specs.Words.{escaped, is_bare}
+use Rattle.canon_print.specs.Canonical.{operator_text, Shown, formula_text}
+use Rattle.canon_print.specs.code.Canonical.{unit_text}
+use Rattle.canon_print.proofs.Equations.{shown-Binary}
+use Rattle.canon_print.specs.Words.{escaped}
+use Rattle.canon_print.specs.code.Words.{is_bare}
 
 -- characters that stand for themselves
 plain_by : (quote : ℕ) (x : ℕ) (xs : List ℕ) (n : ℕ) (t : Bool) → is_escaped quote x ≡ t → suc n ≤ (if not t then 1 + prefix_len (is_bare quote) xs else 0)

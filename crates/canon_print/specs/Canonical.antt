@@ -4,34 +4,34 @@ use Rattle.std.specs.Prelude.{Bool, true, false, List, [], ◌∷◌, ◌++◌, 
 use Rattle.std.specs.List.{flat_map}
 use Rattle.tptp_base.specs.declared.name.Name.{Name}
 use Rattle.tptp_base.specs.declared.surface.STerm.{STerm}
-use Rattle.tptp_base.specs.declared.surface.STerm.TheOpen as tm
 use Rattle.tptp_base.specs.declared.surface.STerm.TheFolds.{fold-STerm}
 use Rattle.tptp_base.specs.declared.surface.SortName.{SortName}
-use Rattle.tptp_base.specs.declared.surface.SortName.TheVariants as sort
 use Rattle.tptp_base.specs.declared.surface.BoundVar.{BoundVar}
 use Rattle.tptp_base.specs.declared.surface.BinOp.{BinOp}
-use Rattle.tptp_base.specs.declared.surface.BinOp.TheVariants as op
 use Rattle.tptp_base.specs.declared.surface.Quant.{Quant}
-use Rattle.tptp_base.specs.declared.surface.Quant.TheVariants as q
 use Rattle.tptp_base.specs.declared.surface.Surface.{Surface}
-use Rattle.tptp_base.specs.declared.surface.Surface.TheOpen as fm
 use Rattle.tptp_base.specs.declared.surface.Surface.TheFolds.{fold-Surface}
 use Rattle.tptp_base.specs.declared.item.Shape.{Shape}
-use Rattle.tptp_base.specs.declared.item.Shape.TheVariants as shape
 use Rattle.tptp_base.specs.declared.item.Typing.{Typing}
 use Rattle.tptp_base.specs.declared.item.Body.{Body}
-use Rattle.tptp_base.specs.declared.item.Body.TheVariants as body
 use Rattle.tptp_base.specs.declared.item.GTerm.{GTerm}
-use Rattle.tptp_base.specs.declared.item.GTerm.TheOpen as gt
 use Rattle.tptp_base.specs.declared.item.GTerm.TheFolds.{fold-GTerm}
 use Rattle.tptp_base.specs.declared.item.Annotated.{Annotated}
 use Rattle.tptp_base.specs.declared.item.Include.{Include}
 use Rattle.tptp_base.specs.declared.item.Item.{Item}
-use Rattle.tptp_base.specs.declared.item.Item.TheVariants as item
 use Rattle.tptp_lexer.specs.Bytes.{Text}
 use Rattle.tptp_lexer.specs.Quotes.{single_quote, double_quote}
 use Rattle.tptp_grammar.specs.Tokens.{lang_text, embedded_text, role_text}
 use Rattle.canon_print.specs.Words.{quoted, word_text, name_text, separated}
+use Rattle.tptp_base.specs.declared.surface.STerm.TheOpen as tm
+use Rattle.tptp_base.specs.declared.surface.SortName.TheVariants as sort
+use Rattle.tptp_base.specs.declared.surface.BinOp.TheVariants as op
+use Rattle.tptp_base.specs.declared.surface.Quant.TheVariants as q
+use Rattle.tptp_base.specs.declared.surface.Surface.TheOpen as fm
+use Rattle.tptp_base.specs.declared.item.Shape.TheVariants as shape
+use Rattle.tptp_base.specs.declared.item.Body.TheVariants as body
+use Rattle.tptp_base.specs.declared.item.GTerm.TheOpen as gt
+use Rattle.tptp_base.specs.declared.item.Item.TheVariants as item
 
 -- ---- terms
 
@@ -122,16 +122,9 @@ formula_node (fm.Bind quantifier variables part) = (false, quantifier_text quant
 unfoldable pub shown : Surface → Shown
 shown = fold-Surface Shown formula_node
 
-abbrev pub is_compound : Surface → Bool
-is_compound formula = (shown formula).0
-
 -- <fof_logic_formula>, <tff_logic_formula> or <cnf_formula>
 abbrev pub formula_text : Surface → Text
 formula_text formula = (shown formula).1
-
--- <fof_unit_formula>
-abbrev pub unit_text : Surface → Text
-unit_text formula = as_unit (shown formula)
 
 -- ---- general terms
 

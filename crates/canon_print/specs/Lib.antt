@@ -1,4 +1,4 @@
 pub mod Words
 pub mod Canonical
-pub mod Equations
 pub mod RoundTrip
+pub mod code

@@ -3,19 +3,19 @@ use Rattle.std.specs.Prelude.{◌≡◌, ℕ, List, [], length, map, Result, Ok,
 use Rattle.tptp_base.specs.declared.place.Place.{Place}
 use Rattle.tptp_base.specs.declared.place.Region.{Region}
 use Rattle.tptp_base.specs.declared.item.Item.{Item}
-use Rattle.tptp_base.specs.declared.item.Item.TheVariants as item
 use Rattle.tptp_lexer.specs.declared.fault.LexFault.{LexFault}
-use Rattle.tptp_lexer.specs.declared.fault.LexFault.TheVariants as lf
 use Rattle.tptp_lexer.specs.declared.style.Style.TheVariants.{Problem}
 use Rattle.tptp_lexer.specs.declared.token.Tokens.{Tokens}
-use Rattle.tptp_lexer.specs.Answer as lexer
 use Rattle.tptp_lexer.specs.Bytes.{Text}
 use Rattle.tptp_lexer.specs.Tokenized.{Cut, placed}
 use Rattle.tptp_grammar.specs.declared.fault.GrammarFault.{GrammarFault}
-use Rattle.tptp_grammar.specs.declared.fault.GrammarFault.TheVariants as gf
-use Rattle.tptp_grammar.specs.Answers as grammar
 use Rattle.tptp_grammar.specs.Solid.{Placed}
 use Rattle.tptp_grammar.specs.Files.{SpellsWithin}
+use Rattle.tptp_base.specs.declared.item.Item.TheVariants as item
+use Rattle.tptp_lexer.specs.declared.fault.LexFault.TheVariants as lf
+use Rattle.tptp_lexer.specs.Answer as lexer
+use Rattle.tptp_grammar.specs.declared.fault.GrammarFault.TheVariants as gf
+use Rattle.tptp_grammar.specs.Answers as grammar
 
 -- the text of the file is cut into tokens, and these spell the items, nested no deeper than the limit
 abbrev pub TextSpells : ℕ → ℕ → List Item → Text → Type 0

@@ -1,18 +1,14 @@
 -- How words, names and lists are written: the lexical rules of the TPTP BNF, with one spelling chosen for each.
-use Rattle.std.specs.Prelude.{ℕ, Bool, false, ◌&&◌, not, if◌then◌else◌, List, [], ◌∷◌, ◌++◌}
+use Rattle.std.specs.Prelude.{ℕ, Bool, false, ◌&&◌, if◌then◌else◌, List, [], ◌∷◌, ◌++◌}
 use Rattle.std.specs.List.{flat_map, list_all}
 use Rattle.tptp_base.specs.declared.name.Name.{Name}
-use Rattle.tptp_base.specs.declared.name.Name.TheVariants as nm
 use Rattle.tptp_lexer.specs.Bytes.{Text, is_lower_alpha, is_alpha_numeric}
 use Rattle.tptp_lexer.specs.Quotes.{single_quote, backslash, is_escaped}
+use Rattle.tptp_base.specs.declared.name.Name.TheVariants as nm
 
 -- a character between quotes: the quote and `\` have a `\` before them
 abbrev pub escaped : ℕ → ℕ → Text
 escaped quote char = if is_escaped quote char then backslash ∷ char ∷ [] else char ∷ []
-
--- a character that stands for itself between quotes
-abbrev pub is_bare : ℕ → ℕ → Bool
-is_bare quote char = not (is_escaped quote char)
 
 -- between quotes
 abbrev pub quoted : ℕ → Text → Text

@@ -1,7 +1,9 @@
 // The text of formulas.
 ghost use Rattle.std.specs.Prelude.{◌≡◌, ◌++◌, OnOk, codes, map};
 ghost use Rattle.canon_print.specs.Canonical as spec;
-ghost use Rattle.canon_print.specs.Canonical.{term_text, formula_text, unit_text, variable_text};
+ghost use Rattle.canon_print.specs.code.Canonical as spec_code;
+ghost use Rattle.canon_print.specs.Canonical.{term_text, formula_text, variable_text};
+ghost use Rattle.canon_print.specs.code.Canonical.{unit_text};
 ghost use Rattle.canon_print.specs.Words.{separated};
 
 use crate::terms::{put_applied, put_sort, put_term};
@@ -75,9 +77,9 @@ fn put_equation(
 }
 
 // Whether the formula stands in parentheses where a unit is wanted.
-#[tactic(auto, using(crate::specs::Equations::formula_equations))]
+#[tactic(auto, using(crate::proofs::Equations::formula_equations))]
 fn is_compound(formula: &Surface) -> bool
-    ensures { result ≡ spec.is_compound formula.now }
+    ensures { result ≡ spec_code.is_compound formula.now }
 {
     match formula {
         Surface::And(_) | Surface::Or(_) | Surface::Binary(_, _, _) => true,
@@ -89,7 +91,7 @@ fn is_compound(formula: &Surface) -> bool
 
 // Appends the parenthesis that opens a unit, where it wants one.
 fn put_opening(formula: &Surface, text: &mut Vec<u8>) -> Result<(), AllocError>
-    ensures { OnOk result (text.new.items ≡ text.old.items ++ spec.opening (spec.is_compound formula.now)) }
+    ensures { OnOk result (text.new.items ≡ text.old.items ++ spec.opening (spec_code.is_compound formula.now)) }
 {
     if is_compound(formula) {
         text.push(b'(')?;
@@ -99,7 +101,7 @@ fn put_opening(formula: &Surface, text: &mut Vec<u8>) -> Result<(), AllocError>
 
 // Appends the parenthesis that closes a unit, where it wants one.
 fn put_closing(formula: &Surface, text: &mut Vec<u8>) -> Result<(), AllocError>
-    ensures { OnOk result (text.new.items ≡ text.old.items ++ spec.closing (spec.is_compound formula.now)) }
+    ensures { OnOk result (text.new.items ≡ text.old.items ++ spec.closing (spec_code.is_compound formula.now)) }
 {
     if is_compound(formula) {
         text.push(b')')?;
@@ -162,7 +164,7 @@ fn put_bound(
 }
 
 /// Appends a formula.
-#[tactic(auto, using(crate::specs::Equations::formula_equations))]
+#[tactic(auto, using(crate::proofs::Equations::formula_equations))]
 #[cycle(put_formula)]
 pub fn put_formula(formula: &Surface, text: &mut Vec<u8>) -> Result<(), AllocError>
     ensures { OnOk result (text.new.items ≡ text.old.items ++ formula_text formula.now) }

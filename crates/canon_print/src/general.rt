@@ -82,7 +82,7 @@ fn put_function(word: &[u8], terms: &[GTerm], text: &mut Vec<u8>) -> Result<(), 
 }
 
 /// Appends a general term.
-#[tactic(auto, using(crate::specs::Equations::general_equations))]
+#[tactic(auto, using(crate::proofs::Equations::general_equations))]
 #[cycle(put_general)]
 pub fn put_general(term: &GTerm, text: &mut Vec<u8>) -> Result<(), AllocError>
     ensures { OnOk result (text.new.items ≡ text.old.items ++ general_text term.now) }

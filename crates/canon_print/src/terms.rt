@@ -9,7 +9,7 @@ use std::alloc::AllocError;
 use tptp_base::{STerm, Shape, SortName, Typing};
 
 /// Appends a term.
-#[tactic(auto, using(crate::specs::Equations::term_equations))]
+#[tactic(auto, using(crate::proofs::Equations::term_equations))]
 #[cycle(put_term)]
 pub fn put_term(term: &STerm, text: &mut Vec<u8>) -> Result<(), AllocError>
     ensures { OnOk result (text.new.items ≡ text.old.items ++ term_text term.now) }
@@ -21,7 +21,7 @@ pub fn put_term(term: &STerm, text: &mut Vec<u8>) -> Result<(), AllocError>
 }
 
 /// Appends a word, with its arguments in parentheses where it has any.
-#[tactic(auto, using(crate::specs::Equations::term_equations))]
+#[tactic(auto, using(crate::proofs::Equations::term_equations))]
 #[cycle(put_term)]
 pub fn put_applied(word: &[u8], terms: &[STerm], text: &mut Vec<u8>) -> Result<(), AllocError>
     ensures { OnOk result (text.new.items ≡ text.old.items ++ applied_text word.now (terms_text terms.now)) }

@@ -5,6 +5,7 @@ ghost use Rattle.tptp_base.specs.Count.{Rose};
 ghost use Rattle.tptp_base.specs.Sink.{Takes, TakesPrefix};
 ghost use Rattle.tptp_lexer.specs.Quotes.{single_quote};
 ghost use Rattle.canon_print.specs.Words as spec;
+ghost use Rattle.canon_print.specs.code.Words as spec_code;
 
 use crate::words::is_lower_word;
 use tptp_base::{Name, Sink, SinkFault, put_all};
@@ -25,7 +26,7 @@ fn write_escaped<K: Sink>(char: u8, sink: &mut K) -> Result<(), SinkFault>
 
 // How many characters stand for themselves before the first that is written with `\`.
 fn plain_len(chars: &[u8]) -> usize
-    ensures value { result ≡ prefix_len (spec.is_bare single_quote) chars.now }
+    ensures value { result ≡ prefix_len (spec_code.is_bare single_quote) chars.now }
     ensures within { result ≤ length chars.now }
 {
     chars

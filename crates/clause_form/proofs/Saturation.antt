@@ -2,7 +2,7 @@
 use Rattle.std.specs.Prelude.{ℕ, ◌≡◌, ◌*◌, ◌≤◌, ◌<◌, ◌+◌, min, List, [], ◌∷◌, map, take, length, get_or}
 use Rattle.std.proofs.Common.{arith, zero, suc, add-one, inl, inr, ap, sym, ◌∙◌}
 use Rattle.std.proofs.Math.Nat.{mul-le-mul_left, mul_comm, mul_assoc}
-use Rattle.fof_terms.specs.Laws.{below_or_above}
+use Rattle.fof_terms.proofs.LiftingLaws.{below_or_above}
 use Rattle.clause_form.specs.Sizes.{product}
 
 -- a factor of at least 1 makes no product less

@@ -7,7 +7,9 @@ use Rattle.std.proofs.lemmas.Option.{slice_get-map, slice_get-get_or}
 use Rattle.fof_terms.specs.declared.form.Form.{Form, And, Or}
 use Rattle.clause_form.specs.declared.clause.Lit.{Lit}
 use Rattle.clause_form.specs.declared.clause.Clause.{Clause}
-use Rattle.clause_form.specs.ClauseView.{View, view_of, view_of_or, view_of_and, all_there, within, under, open_clause, view_of-And, view_of-Or}
+use Rattle.clause_form.specs.ClauseView.{View, view_of, view_of_or, view_of_and, all_there, within, open_clause}
+use Rattle.clause_form.specs.code.ClauseView.{under}
+use Rattle.clause_form.proofs.ClauseViewFacts.{view_of-And, view_of-Or}
 
 pub under_within : (sorts : List ℕ) (s : ℕ) (c : Option Clause) → option_map (under (sorts ++ s ∷ [])) c ≡ option_map (under sorts) (option_map (within s) c)
 under_within sorts s None = refl

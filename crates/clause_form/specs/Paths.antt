@@ -4,10 +4,8 @@ use Rattle.std.specs.Prelude.{ℕ, ◌≡◌, Bool, true, false, if◌then◌els
 use Rattle.std.specs.Option.{option_map}
 use Rattle.fof_terms.specs.Lift.{lifted_term}
 use Rattle.fof_terms.specs.declared.form.Form.{Form}
-use Rattle.fof_terms.specs.declared.form.Form.TheOpen as form
 use Rattle.fof_terms.specs.declared.form.Form.TheViews.{out-Form}
 use Rattle.clause_form.specs.declared.path.Path.{Path}
-use Rattle.clause_form.specs.declared.path.Path.TheOpen as path
 use Rattle.clause_form.specs.declared.path.Path.TheFolds.{fold-Path}
 use Rattle.clause_form.specs.declared.clause.AtomOf.{AtomOf}
 use Rattle.clause_form.specs.declared.clause.AtomOf.TheVariants.{Pred, Eq, True, False}
@@ -15,6 +13,8 @@ use Rattle.clause_form.specs.declared.clause.Lit.{Lit}
 use Rattle.clause_form.specs.declared.clause.Clause.{Clause}
 use Rattle.clause_form.specs.ClauseView.{view_of, alone_lit, open_clause, within}
 use Rattle.clause_form.specs.Covers.{in_lit}
+use Rattle.fof_terms.specs.declared.form.Form.TheOpen as form
+use Rattle.clause_form.specs.declared.path.Path.TheOpen as path
 
 -- an atom or an equation
 abbrev pub is_plain : AtomOf → Bool

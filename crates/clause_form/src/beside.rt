@@ -4,8 +4,10 @@ ghost use Rattle.fof_terms.specs.Lift.{lifted_term, lift_reach};
 ghost use Rattle.clause_form.specs.ClauseView.{form_of_atom as atom_form, form_of_lit as lit_form};
 ghost use Rattle.clause_form.specs.Covers.{at_terms, in_lit};
 ghost use Rattle.clause_form.specs.Paths.{all_beside as beside_of};
-ghost use Rattle.clause_form.specs.Beside.{moved, all_sorts as sorts_of_all, segments as segments_of};
-ghost use Rattle.clause_form.specs.Room.{MovesWithin, AreOver};
+ghost use Rattle.clause_form.specs.code.Beside.{moved, segments as segments_of};
+ghost use Rattle.clause_form.specs.Beside.{all_sorts as sorts_of_all};
+ghost use Rattle.clause_form.specs.code.Room.{MovesWithin};
+ghost use Rattle.clause_form.specs.Room.{AreOver};
 
 use crate::clause::{AtomOf, Clause, Lit};
 use fof_terms::{SortId, lift_term, lift_terms};
@@ -13,7 +15,7 @@ use std::alloc::Global;
 use tptp_base::{List, Memory};
 
 // The atom with its variables moved.
-#[tactic(auto, using(crate::specs::Room::reach_rules))]
+#[tactic(auto, using(crate::proofs::RoomFacts::reach_rules))]
 fn lift_atom(alloc: Global, atom: &AtomOf, by: u32, from: u32) -> Result<AtomOf, Memory>
     requires { lift_reach by from (atom_form atom.now) < 2 ^ 32 }
     ensures { IfOk result (λ lifted. lifted ≡ at_terms (lifted_term by from) atom.now) }
@@ -33,7 +35,7 @@ fn lift_atom(alloc: Global, atom: &AtomOf, by: u32, from: u32) -> Result<AtomOf,
 }
 
 // The literal with its variables moved.
-#[tactic(auto, using(crate::specs::Room::lit_reach))]
+#[tactic(auto, using(crate::proofs::RoomFacts::lit_reach))]
 fn lift_lit(alloc: Global, lit: &Lit, by: u32, from: u32) -> Result<Lit, Memory>
     requires { lift_reach by from (lit_form lit.now) < 2 ^ 32 }
     ensures { IfOk result (λ lifted. lifted ≡ in_lit (lifted_term by from) lit.now) }

@@ -56,7 +56,7 @@ pub fn join_flat(alloc: Global, positive: bool, flat: List<Form>) -> Form
 }
 
 /// Moves the members of a node of that sign to the end of the list, or the formula itself.
-#[tactic(auto, using(crate::specs::Kinds::members_equations))]
+#[tactic(auto, using(crate::proofs::MemberKinds::members_equations))]
 pub fn push_members(flat: &mut List<Form>, positive: bool, form: Form) -> Result<(), Memory>
     ensures { OnOk result (flat.new ≡ flat.old ++ members_of positive form) }
 {
@@ -87,7 +87,7 @@ pub fn push_members(flat: &mut List<Form>, positive: bool, form: Form) -> Result
 }
 
 /// The members of a node of that sign; None for another formula.
-#[tactic(auto, using(crate::specs::Kinds::members_equations))]
+#[tactic(auto, using(crate::proofs::MemberKinds::members_equations))]
 pub fn own_members(positive: bool, form: &Form) -> Option<&[Form]>
     ensures { MatchOption result (members_of positive form.now ≡ form.now ∷ []) (λ inner. (form.now ≡ node_of positive inner.now) × (members_of positive form.now ≡ inner.now)) }
 {
@@ -129,7 +129,7 @@ fn one_ends(positive: bool, forms: &[Form]) -> bool
 }
 
 /// Whether the formula is falsehood, or under minus truth.
-#[tactic(auto, using(crate::specs::Kinds::ends_equations))]
+#[tactic(auto, using(crate::proofs::MemberKinds::ends_equations))]
 pub fn is_end(positive: bool, form: &Form) -> bool
     ensures { result ≡ ends positive form.now }
 {

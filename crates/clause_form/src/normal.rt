@@ -31,7 +31,7 @@ pub fn norm(alloc: Global, form: &Form) -> Result<Form, FormFault>
 
 /// The normal form of the formula, or under minus of its negation.
 #[cycle(norm_signed)]
-#[tactic(auto, using(crate::specs::Norm::norm_equations))]
+#[tactic(auto, using(crate::proofs::NormFacts::norm_equations))]
 pub fn norm_signed(alloc: Global, form: &Form, positive: bool) -> Result<Form, Memory>
     requires { binder_depth form.now < 2 ^ 32 }
     ensures { IfOk result (λ made. made ≡ norm_of positive form.now) }

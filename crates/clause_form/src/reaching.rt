@@ -5,7 +5,8 @@ ghost use Rattle.clause_form.specs.ClauseView.{open_clause as open_of, alone_lit
 ghost use Rattle.clause_form.specs.Paths.{is_plain as plain_atom, plain as plain_of, all_beside as beside_of, reached};
 ghost use Rattle.clause_form.specs.Reached.{Suits};
 ghost use Rattle.clause_form.specs.Room.{AreOver};
-ghost use Rattle.clause_form.specs.Found.{IsRoomy, IsFound, AreFound};
+ghost use Rattle.clause_form.specs.Found.{IsRoomy, AreFound};
+ghost use Rattle.clause_form.specs.code.Found.{IsFound};
 
 use crate::beside::all_beside;
 use crate::clause::{AtomOf, Clause, Lit};

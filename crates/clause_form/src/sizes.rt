@@ -5,7 +5,7 @@ use fof_terms::Form;
 
 /// The greatest number of nodes that the normal form of the formula can have, up to the greatest value.
 #[cycle(norm_size)]
-#[tactic(auto, using(crate::specs::Sizes::norm_size_of_equations))]
+#[tactic(auto, using(crate::proofs::SizesFacts::norm_size_of_equations))]
 pub fn norm_size(form: &Form) -> u128
     ensures { result ≡ min (norm_size_of form.now) (2 ^ 128 - 1) }
 {
@@ -38,7 +38,7 @@ fn size_with_members(members: &[Form]) -> u128
 
 /// The number of clauses of the formula, a normal form, up to the greatest value.
 #[cycle(clause_count)]
-#[tactic(auto, using(crate::specs::Sizes::clause_count_of_equations))]
+#[tactic(auto, using(crate::proofs::SizesFacts::clause_count_of_equations))]
 pub fn clause_count(form: &Form) -> u128
     ensures { result ≡ min (clause_count_of form.now) (2 ^ 128 - 1) }
 {

@@ -7,7 +7,7 @@ use tptp_base::{Boxed, List, Memory};
 
 /// The formula with every Ex turned into All.
 #[cycle(strip)]
-#[tactic(auto, using(crate::specs::Strip::strip_of_equations))]
+#[tactic(auto, using(crate::proofs::StripFacts::strip_of_equations))]
 pub fn strip(alloc: Global, form: &Form) -> Result<Form, Memory>
     ensures { IfOk result (λ made. made ≡ strip_of form.now) }
 {

@@ -1,6 +1,7 @@
 ghost use Rattle.std.specs.Prelude.{◌≡◌, IfOk, map};
 ghost use Rattle.std.specs.Option.{option_map};
-ghost use Rattle.clause_form.specs.ClauseView.{view_of, clause_of, all_there, alone_lit, denied as denied_lit, stated as stated_lit, under, open_clause};
+ghost use Rattle.clause_form.specs.ClauseView.{view_of, clause_of, all_there, alone_lit, denied as denied_lit, stated as stated_lit, open_clause};
+ghost use Rattle.clause_form.specs.code.ClauseView.{under};
 
 use crate::clause::{AtomOf, Clause, Lit};
 use fof_terms::{Form, SortId, copy_terms};
@@ -16,7 +17,7 @@ pub fn as_clause(alloc: Global, form: &Form) -> Result<Option<Clause>, Memory>
 }
 
 // The clause that the formula is under quantifiers over these sorts.
-#[tactic(auto, using(crate::specs::ClauseView::view_of_equations, crate::proofs::Views::view_rules))]
+#[tactic(auto, using(crate::proofs::ClauseViewFacts::view_of_equations, crate::proofs::Views::view_rules))]
 fn clause_under(alloc: Global, form: &Form, sorts: List<SortId>) -> Result<Option<Clause>, Memory>
     ensures { IfOk result (λ found. found ≡ option_map (under sorts) (clause_of form.now)) }
 {
@@ -82,7 +83,7 @@ fn one_lit(alloc: Global, form: &Form) -> Result<Option<List<Lit>>, Memory>
 }
 
 /// The literal that the formula is: an atom, an equation, truth, falsehood, or the negation of one of these.
-#[tactic(auto, using(crate::specs::ClauseView::view_of_equations, crate::proofs::Views::view_rules))]
+#[tactic(auto, using(crate::proofs::ClauseViewFacts::view_of_equations, crate::proofs::Views::view_rules))]
 pub fn as_lit(alloc: Global, form: &Form) -> Result<Option<Lit>, Memory>
     ensures { IfOk result (λ lit. lit ≡ (view_of form.now).lit) }
 {
@@ -116,7 +117,7 @@ fn lit_of(positive: bool, atom: Option<AtomOf>) -> Option<Lit>
 }
 
 // The atom that the formula is.
-#[tactic(auto, using(crate::specs::ClauseView::view_of_equations, crate::proofs::Views::view_rules))]
+#[tactic(auto, using(crate::proofs::ClauseViewFacts::view_of_equations, crate::proofs::Views::view_rules))]
 fn as_atom(alloc: Global, form: &Form) -> Result<Option<AtomOf>, Memory>
     ensures { IfOk result (λ atom. atom ≡ (view_of form.now).atom) }
 {

@@ -7,16 +7,17 @@ use Rattle.std.proofs.lemmas.Option.{slice_get_within, slice_get-map}
 use Rattle.fof_terms.specs.declared.term.Term.{Term, Var}
 use Rattle.fof_terms.specs.declared.form.Form.{Form}
 use Rattle.fof_terms.specs.Vocabulary.{Vocabulary}
-use Rattle.fof_terms.specs.Moved.{closed_anywhere}
-use Rattle.fof_terms.specs.Scoped.{IsScope}
+use Rattle.fof_terms.proofs.Moved.{closed_anywhere}
+use Rattle.fof_terms.specs.Sorts.{IsScope}
 use Rattle.fof_terms.specs.Sorts.{sort_of_term, one_sort}
-use Rattle.fof_terms.specs.Laws.{one_found}
+use Rattle.fof_terms.proofs.LiftingLaws.{one_found}
 use Rattle.clause_form.specs.declared.clause.AtomOf.TheVariants.{Eq as Equation}
 use Rattle.clause_form.specs.declared.clause.Lit.{Lit}
 use Rattle.clause_form.specs.declared.clause.Clause.{Clause}
 use Rattle.clause_form.specs.Covers.{in_lit, lit_image, scope_of, is_sorted_atom, AreSorted, IsCovered}
-use Rattle.clause_form.specs.Images.{image, image_image, image_sorted, image_agrees, IsImages, AgreeOn}
-use Rattle.clause_form.specs.ClauseLaws.{images_then, lits_sorted}
+use Rattle.clause_form.specs.Images.{image, IsImages}
+use Rattle.clause_form.proofs.ImagesFacts.{image_image, image_sorted, image_agrees, AgreeOn}
+use Rattle.clause_form.proofs.ClauseLaws.{images_then, lits_sorted}
 use Rattle.unify_terms.specs.Substitution.{image_at, IsSubstitution}
 use Rattle.clause_form.specs.declared.path.Parent.{Parent}
 use Rattle.clause_rules.specs.Justified.{IsMatch, Shows}
@@ -27,10 +28,10 @@ use Rattle.clause_rules.proofs.Equations.{equation_image}
 use Rattle.clause_rules.proofs.ParamodulatedAt.{sorted_at}
 use Rattle.clause_proofs.specs.declared.opening.Opened.{Opened}
 use Rattle.clause_proofs.specs.declared.premises.Premise.{Premise}
-use Rattle.clause_proofs.specs.Bodies.{IsReadyClause}
+use Rattle.clause_proofs.specs.code.Bodies.{IsReadyClause}
 use Rattle.clause_proofs.specs.Premises.{IsSource, IsPremiseOf}
 use Rattle.clause_proofs.specs.Refuting.{ShowsBody}
-use Rattle.clause_proofs.specs.Rewriting.{AreInstances, IsMarked, IsRewriting, chained_images, filled}
+use Rattle.clause_proofs.specs.code.Rewriting.{AreInstances, IsMarked, IsRewriting, chained_images, filled}
 use Rattle.clause_proofs.proofs.CoverLines.{image_there}
 use Rattle.clause_proofs.proofs.Fillings.{map_at}
 use Rattle.clause_proofs.proofs.Joints.{left_instances, left_source}

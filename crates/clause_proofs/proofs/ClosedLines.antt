@@ -3,15 +3,17 @@ use Rattle.std.specs.Prelude.{ℕ, ◌≡◌, ◌+◌, ◌<◌, ◌≤◌, List,
 use Rattle.std.proofs.Common.{ap, sym, subst, ◌∙◌, arith, append_assoc, append-nil, length-append}
 use Rattle.std.proofs.lemmas.List.{reverse-append, length-reverse}
 use Rattle.fof_terms.specs.declared.form.Form.{Form, Or, Not, All}
-use Rattle.fof_terms.specs.Lift.{lifted, lifted-Or, lifted-Not}
-use Rattle.fof_terms.specs.Laws.{closed_stays}
-use Rattle.fof_terms.specs.Moved.{closed_anywhere}
+use Rattle.fof_terms.specs.Lift.{lifted}
+use Rattle.fof_terms.proofs.LiftFacts.{lifted-Or, lifted-Not}
+use Rattle.fof_terms.proofs.LiftingLaws.{closed_stays}
+use Rattle.fof_terms.proofs.Moved.{closed_anywhere}
 use Rattle.fof_terms.specs.Vocabulary.{Vocabulary}
-use Rattle.fof_terms.specs.Scoped.{IsScope, SortedTo, Sorted, sorted_of_all, not_sorted}
+use Rattle.fof_terms.specs.Sorts.{IsScope, SortedTo, Sorted}
+use Rattle.fof_terms.proofs.Scoped.{sorted_of_all, not_sorted}
 use Rattle.clause_form.specs.ClauseView.{closed_by}
 use Rattle.kernel.specs.Statements.{Statements}
 use Rattle.kernel.specs.Proves.{Proves, over, all_over}
-use Rattle.kernel.specs.Building.{by_hyp, by_raa, by_not_e, by_all_i, by_inhabit}
+use Rattle.kernel.proofs.Building.{by_hyp, by_raa, by_not_e, by_all_i, by_inhabit}
 use Rattle.kernel.specs.declared.proof.Proof.{Proof, Hyp, Raa, NotE, AllI, Inhabit}
 use Rattle.clause_proofs.specs.Closed.{all_tree, inhabit_tree, whole_tree}
 

@@ -8,11 +8,13 @@ use Rattle.std.proofs.lemmas.Option.{slice_get-map}
 use Rattle.fof_terms.specs.declared.term.Term.{Term}
 use Rattle.fof_terms.specs.declared.form.Form.{Form, And, Or, Not, Imp}
 use Rattle.fof_terms.specs.Vocabulary.{Vocabulary}
-use Rattle.fof_terms.specs.Scope.{scope_sorts, scope_sorts-Outside}
+use Rattle.fof_terms.specs.Scope.{scope_sorts}
+use Rattle.fof_terms.proofs.ScopeFacts.{scope_sorts-Outside}
 use Rattle.fof_terms.specs.declared.sorting.Scope.{Outside}
-use Rattle.fof_terms.specs.Moved.{closed_anywhere}
+use Rattle.fof_terms.proofs.Moved.{closed_anywhere}
 use Rattle.fof_terms.specs.Sorts.{binder_depth}
-use Rattle.fof_terms.specs.Scoped.{IsScope, Sorted, sorted_of_imp, and_sorted}
+use Rattle.fof_terms.specs.Sorts.{IsScope, Sorted}
+use Rattle.fof_terms.proofs.Scoped.{sorted_of_imp, and_sorted}
 use Rattle.clause_form.specs.declared.path.Parent.{Parent}
 use Rattle.clause_form.specs.declared.path.Path.{Path}
 use Rattle.clause_form.specs.declared.clause.AtomOf.TheVariants.{True}
@@ -23,8 +25,8 @@ use Rattle.clause_form.specs.Covers.{lit_image, scope_of, AreSorted, CoversBy, I
 use Rattle.clause_form.specs.Found.{IsRoomy}
 use Rattle.clause_form.specs.Images.{IsImages}
 use Rattle.clause_form.specs.Norm.{norm_of}
-use Rattle.clause_form.specs.NormSize.{norm_small}
-use Rattle.derive_kit.specs.Routes.{roomy_start}
+use Rattle.clause_form.proofs.NormSize.{norm_small}
+use Rattle.derive_kit.proofs.RoutesFacts.{roomy_start}
 use Rattle.clause_form.specs.Paths.{reached}
 use Rattle.clause_form.specs.Sizes.{norm_size_of}
 use Rattle.unify_terms.specs.Substitution.{image_at}
@@ -34,13 +36,14 @@ use Rattle.clause_rules.specs.Steps.{AreCovered, IsJoint, IsReady, images_of_par
 use Rattle.clause_rules.specs.declared.just.Just.TheVariants.{Cover}
 use Rattle.kernel.specs.Statements.{Statements}
 use Rattle.kernel.specs.Proves.{Proves}
-use Rattle.kernel.specs.Building.{by_line, by_imp_e, by_and_i, shown_sorted}
+use Rattle.kernel.proofs.Building.{by_line, by_imp_e, by_and_i, shown_sorted}
 use Rattle.kernel.specs.declared.proof.Proof.{Proof, Line, ImpE, AndI}
 use Rattle.derive_kit.specs.Placed.{SortedSomewhere}
 use Rattle.clause_proofs.specs.declared.opening.Opened.{Opened}
 use Rattle.clause_proofs.specs.declared.premises.Premise.{Premise}
 use Rattle.clause_proofs.specs.Bodies.{body_of, HasClause}
-use Rattle.clause_proofs.specs.Premises.{IsPremiseBy, IsClosed, IsFact, ShowsAnywhere}
+use Rattle.clause_proofs.specs.Premises.{IsPremiseBy}
+use Rattle.clause_proofs.specs.code.Premises.{IsClosed, IsFact, ShowsAnywhere}
 use Rattle.clause_proofs.specs.Refuting.{theory_of, AllSettled, RefutesBody, RefutesIn, ShowsBody}
 use Rattle.clause_proofs.proofs.BodySorts.{under_closed, body_sorted}
 use Rattle.clause_proofs.proofs.LineGoals.{Exist, closed_depth}

@@ -6,7 +6,8 @@ use Rattle.std.proofs.lemmas.Option.{slice_get-map, slice_get_within, slice_get-
 use Rattle.fof_terms.specs.declared.term.Term.{Term}
 use Rattle.fof_terms.specs.declared.form.Form.{Form, Eq, Not, And, Or}
 use Rattle.fof_terms.specs.Vocabulary.{Vocabulary}
-use Rattle.fof_terms.specs.Scoped.{IsScope, SortedTo, Sorted, not_sorted, sorted_of_not, sorted_of_eq, member_of, sorted_of_or}
+use Rattle.fof_terms.specs.Sorts.{IsScope, SortedTo, Sorted}
+use Rattle.fof_terms.proofs.Scoped.{not_sorted, sorted_of_not, sorted_of_eq, member_of, sorted_of_or}
 use Rattle.clause_form.specs.declared.clause.AtomOf.{AtomOf}
 use Rattle.clause_form.specs.declared.clause.AtomOf.TheVariants.{Pred, Eq as Equation, True, False}
 use Rattle.clause_form.specs.declared.clause.Lit.{Lit}
@@ -14,11 +15,12 @@ use Rattle.clause_form.specs.ClauseView.{form_of_atom, form_of_lit, signed_form}
 use Rattle.clause_form.specs.Covers.{IsSame, Denies, IsAbsurd, IsCovered}
 use Rattle.kernel.specs.Statements.{Statements}
 use Rattle.kernel.specs.Proves.{Proves}
-use Rattle.kernel.specs.Building.{by_hyp, by_refl, by_not_e, by_or_i, by_and_i}
+use Rattle.kernel.proofs.Building.{by_hyp, by_refl, by_not_e, by_or_i, by_and_i}
 use Rattle.kernel.specs.declared.proof.Proof.{Proof, Hyp, Refl, NotE, AndI}
 use Rattle.clause_proofs.specs.declared.opening.Opened.{Opened}
 use Rattle.clause_proofs.specs.Bodies.{body_of}
-use Rattle.clause_proofs.specs.Refuting.{theory_of, ShowsFrom, Refutes, IsAbsurdity, IsGoal, body, injected_tree}
+use Rattle.clause_proofs.specs.Refuting.{theory_of, Refutes, IsGoal, body, injected_tree}
+use Rattle.clause_proofs.specs.code.Refuting.{ShowsFrom, IsAbsurdity}
 
 pub injected_shows : (t : Statements) (v : List ℕ) (h : List Form) (b : Bool) (lits : List Lit) (k : ℕ) (l : Lit) (p : Proof) → (b ≡ false → length lits ≡ 1) → Sorted t.vocabulary v (body_of b lits) → slice_get lits k ≡ Some l
     → Proves t v h p (form_of_lit l) → Proves t v h (injected_tree b lits k p) (body_of b lits)

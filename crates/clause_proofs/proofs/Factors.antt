@@ -7,11 +7,14 @@ use Rattle.fof_terms.specs.declared.term.Term.{Term, Var}
 use Rattle.fof_terms.specs.declared.form.Form.{Form, Eq, Not, Or}
 use Rattle.fof_terms.specs.Vocabulary.{Vocabulary}
 use Rattle.fof_terms.specs.Lift.{lifted_term}
-use Rattle.fof_terms.specs.Instance.{instance_at, instance_term, instance_at-Eq}
-use Rattle.fof_terms.specs.Laws.{here, instance_of_lifted, below_or_above}
-use Rattle.fof_terms.specs.Sorts.{sort_of_term, sort_of_term-Var}
-use Rattle.fof_terms.specs.Scoped.{IsScope, Sorted, eq_sorted, not_sorted, sorted_of_not, sorted_of_eq}
-use Rattle.fof_terms.specs.Walks.{lifted_sort}
+use Rattle.fof_terms.specs.Instance.{instance_at, instance_term}
+use Rattle.fof_terms.proofs.InstanceFacts.{instance_at-Eq}
+use Rattle.fof_terms.proofs.LiftingLaws.{here, instance_of_lifted, below_or_above}
+use Rattle.fof_terms.specs.Sorts.{sort_of_term}
+use Rattle.fof_terms.proofs.SortsFacts.{sort_of_term-Var}
+use Rattle.fof_terms.specs.Sorts.{IsScope, Sorted}
+use Rattle.fof_terms.proofs.Scoped.{eq_sorted, not_sorted, sorted_of_not, sorted_of_eq}
+use Rattle.fof_terms.proofs.Walks.{lifted_sort}
 use Rattle.clause_form.specs.declared.clause.AtomOf.{AtomOf}
 use Rattle.clause_form.specs.declared.clause.AtomOf.TheVariants.{Pred, Eq as Equation, True, False}
 use Rattle.clause_form.specs.declared.clause.Lit.{Lit}
@@ -22,7 +25,7 @@ use Rattle.clause_rules.specs.EqFactorRule.{IsFactored, Factors, FactorsAt, IsEq
 use Rattle.clause_rules.specs.Steps.{AreReady, IsClauseAt, IsJoint, images_of_parents, instances, equation, unequal}
 use Rattle.kernel.specs.Statements.{Statements}
 use Rattle.kernel.specs.Proves.{Proves}
-use Rattle.kernel.specs.Building.{by_hyp, by_subst}
+use Rattle.kernel.proofs.Building.{by_hyp, by_subst}
 use Rattle.kernel.specs.declared.proof.Proof.{Proof, Hyp, Refl, Subst}
 use Rattle.clause_form.specs.declared.path.Parent.{Parent}
 use Rattle.clause_rules.specs.Justified.{Shows}
@@ -30,10 +33,11 @@ use Rattle.clause_rules.specs.declared.just.Just.TheVariants.{EqFactor}
 use Rattle.unify_terms.specs.Substitution.{image_at}
 use Rattle.clause_proofs.specs.declared.opening.Opened.{Opened}
 use Rattle.clause_proofs.specs.declared.premises.Premise.{Premise}
-use Rattle.clause_proofs.specs.Bodies.{IsReadyClause}
+use Rattle.clause_proofs.specs.code.Bodies.{IsReadyClause}
 use Rattle.clause_proofs.specs.Premises.{IsSource, IsPremiseOf}
-use Rattle.clause_proofs.specs.Factoring.{IsChained, IsFactoring, IsWritten, pick}
-use Rattle.clause_proofs.specs.Refuting.{theory_of, IsDenial, IsTurned, Refutes, RefutesIn, ShowsFrom, ShowsBody, IsSettled, AllSettled}
+use Rattle.clause_proofs.specs.code.Factoring.{IsChained, IsFactoring, IsWritten, pick}
+use Rattle.clause_proofs.specs.Refuting.{theory_of, IsDenial, Refutes, RefutesIn, ShowsBody, IsSettled, AllSettled}
+use Rattle.clause_proofs.specs.code.Refuting.{IsTurned, ShowsFrom}
 use Rattle.clause_proofs.proofs.Peeling.{lifted_nothing}
 use Rattle.clause_proofs.proofs.TurnedSides.{turned_shows}
 use Rattle.clause_proofs.proofs.LineGoals.{Exist, both_exist, own_exist}

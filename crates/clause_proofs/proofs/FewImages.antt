@@ -6,7 +6,7 @@ use Rattle.fof_terms.specs.declared.term.Term.{Term}
 use Rattle.fof_terms.specs.declared.form.Form.{Form}
 use Rattle.fof_terms.specs.Vocabulary.{Vocabulary}
 use Rattle.clause_proofs.specs.declared.opening.Opened.{Opened}
-use Rattle.clause_proofs.specs.Bodies.{IsReadyClause}
+use Rattle.clause_proofs.specs.code.Bodies.{IsReadyClause}
 use Rattle.clause_proofs.proofs.LineGoals.{few_sorts}
 
 pub few_images : (w : Vocabulary) (form : Form) (o : Opened) (images part : List Term) (m : ℕ) → IsReadyClause w form o → part ≡ take (length o.clause.sorts) (drop m images) → length part ≤ 1000000000

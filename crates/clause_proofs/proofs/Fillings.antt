@@ -10,22 +10,25 @@ use Rattle.fof_terms.specs.declared.form.Form.{Form, Eq, Or}
 use Rattle.fof_terms.specs.Vocabulary.{Vocabulary}
 use Rattle.fof_terms.specs.Lift.{greatest, lifted_term, lift_term_reach}
 use Rattle.fof_terms.specs.Instance.{instance_term, instance_at}
-use Rattle.fof_terms.specs.Laws.{here, instance_of_lifted, below_or_above}
-use Rattle.fof_terms.specs.Sorts.{sort_of_term, sort_of_term-Var}
-use Rattle.fof_terms.specs.Scoped.{IsScope, SortedTo, Sorted, eq_sorted, or_sorted}
-use Rattle.fof_terms.specs.Walks.{both_terms, placing_term, same_terms, lifted_sort}
+use Rattle.fof_terms.proofs.LiftingLaws.{here, instance_of_lifted, below_or_above}
+use Rattle.fof_terms.specs.Sorts.{sort_of_term}
+use Rattle.fof_terms.proofs.SortsFacts.{sort_of_term-Var}
+use Rattle.fof_terms.specs.Sorts.{IsScope, SortedTo, Sorted}
+use Rattle.fof_terms.proofs.Scoped.{eq_sorted, or_sorted}
+use Rattle.fof_terms.proofs.Walks.{both_terms, placing_term, same_terms, lifted_sort}
 use Rattle.clause_form.specs.declared.clause.Lit.{Lit}
 use Rattle.clause_form.specs.ClauseView.{form_of_lit}
 use Rattle.clause_form.specs.Covers.{in_lit, lit_image, is_sorted_atom, AreSorted}
-use Rattle.clause_form.specs.Images.{image, image-Var, image_sorted, IsImages, AgreeOn}
-use Rattle.clause_form.specs.ClauseLaws.{lits_agree, lits_sorted}
+use Rattle.clause_form.specs.Images.{image, IsImages}
+use Rattle.clause_form.proofs.ImagesFacts.{image-Var, image_sorted, AgreeOn}
+use Rattle.clause_form.proofs.ClauseLaws.{lits_agree, lits_sorted}
 use Rattle.unify_terms.specs.Substitution.{image_at}
 use Rattle.kernel.specs.Statements.{Statements}
 use Rattle.kernel.specs.Proves.{Proves}
 use Rattle.kernel.specs.declared.proof.Proof.{Proof}
 use Rattle.clause_proofs.specs.Bodies.{body_of}
 use Rattle.clause_proofs.specs.Refuting.{theory_of}
-use Rattle.clause_proofs.specs.Rewriting.{filled, with_hole, IsMarked}
+use Rattle.clause_proofs.specs.code.Rewriting.{filled, with_hole, IsMarked}
 use Rattle.clause_proofs.proofs.BodySorts.{lit_sorted}
 use Rattle.clause_proofs.proofs.Peeling.{lifted_nothing, imaging, lits_twice, lits_same, instance_body, get_front, get_last, slice_last}
 use Rattle.clause_proofs.proofs.TurnedSides.{side_reach}

@@ -5,16 +5,18 @@ use Rattle.std.proofs.lemmas.List.{length-reverse, reverse-reverse}
 use Rattle.fof_terms.specs.declared.term.Term.{Term}
 use Rattle.fof_terms.specs.declared.form.Form.{Form}
 use Rattle.fof_terms.specs.Vocabulary.{Vocabulary}
-use Rattle.fof_terms.specs.Walks.{same_terms}
+use Rattle.fof_terms.proofs.Walks.{same_terms}
 use Rattle.clause_form.specs.declared.clause.Lit.{Lit}
 use Rattle.clause_form.specs.ClauseView.{closed_by}
 use Rattle.clause_form.specs.Covers.{lit_image}
-use Rattle.clause_form.specs.Images.{image, image-Var}
-use Rattle.unify_terms.specs.Substitution.{image_at, applied, applied-Var}
-use Rattle.unify_terms.specs.SubstitutionLaws.{applying}
+use Rattle.clause_form.specs.Images.{image}
+use Rattle.clause_form.proofs.ImagesFacts.{image-Var}
+use Rattle.unify_terms.specs.Substitution.{image_at, applied}
+use Rattle.unify_terms.proofs.SubstitutionFacts.{applied-Var}
+use Rattle.unify_terms.proofs.SubstitutionLaws.{applying}
 use Rattle.kernel.specs.Statements.{Statements}
 use Rattle.kernel.specs.Proves.{Proves}
-use Rattle.kernel.specs.Building.{by_line}
+use Rattle.kernel.proofs.Building.{by_line}
 use Rattle.kernel.specs.declared.proof.Proof.{Proof, Line}
 use Rattle.derive_kit.specs.Instances.{IsInstance}
 use Rattle.clause_proofs.specs.declared.opening.Opened.{Opened}

@@ -5,8 +5,8 @@ use Rattle.std.proofs.lemmas.List.{length-reverse}
 use Rattle.fof_terms.specs.declared.term.Term.{Term}
 use Rattle.fof_terms.specs.declared.form.Form.{Form}
 use Rattle.fof_terms.specs.Vocabulary.{Vocabulary}
-use Rattle.fof_terms.specs.Moved.{closed_anywhere}
-use Rattle.fof_terms.specs.Scoped.{IsScope, Sorted}
+use Rattle.fof_terms.proofs.Moved.{closed_anywhere}
+use Rattle.fof_terms.specs.Sorts.{IsScope, Sorted}
 use Rattle.clause_form.specs.declared.clause.Lit.{Lit}
 use Rattle.clause_form.specs.declared.clause.Clause.{Clause}
 use Rattle.clause_form.specs.Covers.{lit_image, scope_of, AreSorted}
@@ -23,10 +23,11 @@ use Rattle.clause_rules.specs.ResolutionRule.{IsResolvent, Resolves, IsResolutio
 use Rattle.clause_rules.specs.ParamodulationRule.{IsParamodulant, Paramodulates, IsParamodulationStep}
 use Rattle.clause_proofs.specs.declared.opening.Opened.{Opened}
 use Rattle.clause_proofs.specs.declared.premises.Premise.{Premise}
-use Rattle.clause_proofs.specs.Bodies.{IsOpening, IsReadyClause}
+use Rattle.clause_proofs.specs.Bodies.{IsOpening}
+use Rattle.clause_proofs.specs.code.Bodies.{IsReadyClause}
 use Rattle.clause_proofs.specs.Premises.{IsSource, IsPremiseOf}
 use Rattle.clause_proofs.specs.Refuting.{ShowsBody}
-use Rattle.clause_proofs.specs.Rewriting.{AreInstances}
+use Rattle.clause_proofs.specs.code.Rewriting.{AreInstances}
 use Rattle.clause_proofs.proofs.NormLines.{full, parent_at, parent_ready}
 use Rattle.clause_proofs.proofs.LineGoals.{Exist, both_exist, own_exist, own_lits, opened_clause}
 use Rattle.clause_proofs.proofs.Resolvents.{apart_instances, part_length, part_within, part_images, part_lits, part_sorted}

@@ -6,11 +6,13 @@ use Rattle.std.proofs.lemmas.List.{length-reverse}
 use Rattle.fof_terms.specs.declared.form.Form.{Form, Or, Not}
 use Rattle.std.specs.Borrow.{Bor}
 use Rattle.fof_terms.specs.Vocabulary.{Vocabulary}
-use Rattle.fof_terms.specs.Scope.{scope_sorts, scope_sorts-Outside}
+use Rattle.fof_terms.specs.Scope.{scope_sorts}
+use Rattle.fof_terms.proofs.ScopeFacts.{scope_sorts-Outside}
 use Rattle.fof_terms.specs.declared.sorting.Scope.{Outside}
-use Rattle.fof_terms.specs.Moved.{closed_anywhere}
-use Rattle.fof_terms.specs.Sorts.{binder_depth, binder_depth-All}
-use Rattle.fof_terms.specs.Scoped.{IsScope, Sorted}
+use Rattle.fof_terms.proofs.Moved.{closed_anywhere}
+use Rattle.fof_terms.specs.Sorts.{binder_depth}
+use Rattle.fof_terms.proofs.SortsFacts.{binder_depth-All}
+use Rattle.fof_terms.specs.Sorts.{IsScope, Sorted}
 use Rattle.clause_form.specs.declared.clause.Lit.{Lit}
 use Rattle.clause_form.specs.declared.clause.Clause.{Clause}
 use Rattle.clause_form.specs.ClauseView.{clause_of, closed_by, form_of_lit}
@@ -18,13 +20,13 @@ use Rattle.clause_form.specs.Covers.{IsCovered, IsTrivial, AreSorted, negated}
 use Rattle.clause_rules.specs.Steps.{IsReady}
 use Rattle.kernel.specs.Statements.{Statements}
 use Rattle.kernel.specs.Proves.{Proves}
-use Rattle.kernel.specs.Building.{by_raa}
+use Rattle.kernel.proofs.Building.{by_raa}
 use Rattle.kernel.specs.declared.proof.Proof.{Proof, Raa}
 use Rattle.clause_proofs.specs.declared.opening.Opened.{Opened}
 use Rattle.clause_proofs.specs.Bodies.{body_of, HasClause, IsOpening}
 use Rattle.clause_proofs.specs.Closed.{whole_tree}
 use Rattle.clause_proofs.specs.Refuting.{theory_of, body, IsGoal, Refutes, IsDenial, RefutesBody}
-use Rattle.fof_terms.specs.Laws.{below_or_above}
+use Rattle.fof_terms.proofs.LiftingLaws.{below_or_above}
 use Rattle.clause_proofs.proofs.BodySorts.{under_closed, body_sorted, placed}
 use Rattle.clause_proofs.proofs.TurnedSides.{no_then}
 use Rattle.clause_proofs.proofs.ClosedLines.{whole_shown}

@@ -7,19 +7,21 @@ use Rattle.std.proofs.lemmas.List.Elements.{recursion_from_All, All-from_recursi
 use Rattle.std.proofs.lemmas.Option.{slice_get_within}
 use Rattle.fof_terms.specs.declared.term.Term.{Term, Var, App}
 use Rattle.fof_terms.specs.Vocabulary.{Vocabulary}
-use Rattle.fof_terms.specs.Laws.{below_or_above}
-use Rattle.fof_terms.specs.Scoped.{member_of}
-use Rattle.fof_terms.specs.Sorts.{sort_of_term, sort_of_term-Var}
+use Rattle.fof_terms.proofs.LiftingLaws.{below_or_above}
+use Rattle.fof_terms.proofs.Scoped.{member_of}
+use Rattle.fof_terms.specs.Sorts.{sort_of_term}
+use Rattle.fof_terms.proofs.SortsFacts.{sort_of_term-Var}
 use Rattle.clause_form.specs.declared.clause.AtomOf.{AtomOf}
 use Rattle.clause_form.specs.declared.clause.AtomOf.TheVariants.{Pred, Eq as Equation, True, False}
 use Rattle.clause_form.specs.declared.clause.Lit.{Lit}
 use Rattle.clause_form.specs.Covers.{in_lit, lit_image, negated, is_sorted_atom, AreSorted}
-use Rattle.clause_form.specs.Images.{image, image-Var, image_image, image_sorted, IsImages, AgreeOn}
-use Rattle.clause_form.specs.ClauseLaws.{get_image, lits_agree, sorted_more}
+use Rattle.clause_form.specs.Images.{image, IsImages}
+use Rattle.clause_form.proofs.ImagesFacts.{image-Var, image_image, image_sorted, AgreeOn}
+use Rattle.clause_form.proofs.ClauseLaws.{get_image, lits_agree, sorted_more}
 use Rattle.unify_terms.specs.Substitution.{image_at}
 use Rattle.clause_rules.specs.ParamodulationRule.{HasPlace, IsParamodulant}
 use Rattle.clause_rules.specs.Places.{args_of, with_args, term_at, put_at, args_of_atom, atom_with_args, sides_of, lit_term_at, lit_put_at}
-use Rattle.clause_rules.specs.PlaceSearch.{go_on, below, set_on, put_below}
+use Rattle.clause_rules.specs.code.PlaceSearch.{go_on, below, set_on, put_below}
 use Rattle.clause_rules.specs.RewriteRule.{IsRewritten, AreRewritten, IsAtomRewritten, AreLitsRewritten, StandsIn, all_of_it, a_variable, inside, none, more}
 use Rattle.clause_rules.specs.Steps.{AreCovered, equation}
 use Rattle.clause_rules.proofs.Equations.{map_set}
@@ -28,7 +30,7 @@ use Rattle.clause_rules.proofs.PlaceLaws.{args_of-App, with_args-App, term_below
 use Rattle.clause_rules.proofs.PlaceSorts.{replaced_fits, term_found}
 use Rattle.clause_rules.proofs.Rewritten.{lits_kept, lits_same as rewritten_same}
 use Rattle.clause_proofs.specs.Refuting.{AllSettled, IsSettled}
-use Rattle.clause_proofs.specs.Rewriting.{filled, IsMarked, IsRewriting, AreInstances}
+use Rattle.clause_proofs.specs.code.Rewriting.{filled, IsMarked, IsRewriting, AreInstances}
 use Rattle.clause_proofs.proofs.Peeling.{imaging, lits_twice, lits_same, get_front, get_last, slice_last}
 
 -- what stands at a place, put there again

@@ -6,7 +6,8 @@ use Rattle.std.proofs.lemmas.Option.{slice_get_within, slice_get-get_or}
 use Rattle.std.proofs.lemmas.List.Elements.{recursion_from_All}
 use Rattle.fof_terms.specs.declared.form.Form.{Form, Imp}
 use Rattle.fof_terms.specs.Vocabulary.{Vocabulary}
-use Rattle.fof_terms.specs.Scoped.{SortedTo, Sorted, raised, member_of}
+use Rattle.fof_terms.specs.Sorts.{SortedTo, Sorted}
+use Rattle.fof_terms.proofs.Scoped.{raised, member_of}
 use Rattle.clause_form.specs.declared.path.Parent.{Parent}
 use Rattle.clause_form.specs.Norm.{norm_of}
 use Rattle.clause_rules.specs.NormRule.{HasNorm, NormsAlike, HasLinesNorm}
@@ -16,7 +17,7 @@ use Rattle.clause_rules.specs.declared.just.Just.TheVariants.{Norm}
 use Rattle.clause_rules.specs.Steps.{IsReady, AreReady}
 use Rattle.kernel.specs.Statements.{Statements}
 use Rattle.kernel.specs.Proves.{Proves}
-use Rattle.kernel.specs.Building.{by_line, by_imp_e}
+use Rattle.kernel.proofs.Building.{by_line, by_imp_e}
 use Rattle.kernel.specs.declared.proof.Proof.{Proof, Line, ImpE}
 use Rattle.derive_kit.specs.Derived.{AreOfTheory}
 use Rattle.clause_proofs.specs.Shown.{AreAlike, ShowsLine}

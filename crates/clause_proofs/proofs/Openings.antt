@@ -3,12 +3,13 @@ use Rattle.std.specs.Prelude.{ℕ, ◌≡◌, Bool, true, false, List, [], ◌�
 use Rattle.std.specs.Option.{option_map}
 use Rattle.std.proofs.Common.{ap, sym, subst, ◌∙◌}
 use Rattle.fof_terms.specs.declared.form.Form.{Form, Atom, Eq, Not, And, Or, Imp, Iff, All, Ex}
-use Rattle.fof_terms.specs.Induction.{form_induction}
+use Rattle.fof_terms.proofs.Induction.{form_induction}
 use Rattle.clause_form.specs.declared.clause.AtomOf.{AtomOf}
 use Rattle.clause_form.specs.declared.clause.AtomOf.TheVariants.{Pred, Eq as Equation, True, False}
 use Rattle.clause_form.specs.declared.clause.Lit.{Lit}
 use Rattle.clause_form.specs.declared.clause.Clause.{Clause}
-use Rattle.clause_form.specs.ClauseView.{View, view_of, view_of_or, view_of_and, view_of_lit, clause_of, all_there, stated, denied, alone_lit, open_clause, within, closed_by, form_of_atom, form_of_lit, view_of-Atom, view_of-Eq, view_of-Not, view_of-And, view_of-Or, view_of-Imp, view_of-Iff, view_of-All, view_of-Ex}
+use Rattle.clause_form.specs.ClauseView.{View, view_of, view_of_or, view_of_and, view_of_lit, clause_of, all_there, stated, denied, alone_lit, open_clause, within, closed_by, form_of_atom, form_of_lit}
+use Rattle.clause_form.proofs.ClauseViewFacts.{view_of-Atom, view_of-Eq, view_of-Not, view_of-And, view_of-Or, view_of-Imp, view_of-Iff, view_of-All, view_of-Ex}
 use Rattle.clause_proofs.specs.Bodies.{body_of, HasClause}
 
 back_by : {X : Type 0} (f : X → Form) (x b : X) → Some x ≡ Some b → f x ≡ f b

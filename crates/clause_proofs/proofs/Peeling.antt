@@ -9,17 +9,19 @@ use Rattle.fof_terms.specs.declared.term.Term.{Term, Var, App}
 use Rattle.fof_terms.specs.declared.form.Form.{Form, Or, All}
 use Rattle.fof_terms.specs.Vocabulary.{Vocabulary}
 use Rattle.fof_terms.specs.Lift.{lifted_term}
-use Rattle.fof_terms.specs.Instance.{instance_term, instance_at, instance_at-Atom, instance_at-Eq, instance_at-Not, instance_at-And, instance_at-Or, instance_at-All}
-use Rattle.fof_terms.specs.Laws.{moves, here, smaller, instance_of_lifted, below_or_above}
+use Rattle.fof_terms.specs.Instance.{instance_term, instance_at}
+use Rattle.fof_terms.proofs.InstanceFacts.{instance_at-Atom, instance_at-Eq, instance_at-Not, instance_at-And, instance_at-Or, instance_at-All}
+use Rattle.fof_terms.proofs.LiftingLaws.{moves, here, smaller, instance_of_lifted, below_or_above}
 use Rattle.fof_terms.specs.Sorts.{sort_of_term}
-use Rattle.fof_terms.specs.Walks.{TermWalk, staying_term, lifting_term, placing_term, both_terms, same_terms}
+use Rattle.fof_terms.proofs.Walks.{TermWalk, staying_term, lifting_term, placing_term, both_terms, same_terms}
 use Rattle.clause_form.specs.declared.clause.AtomOf.{AtomOf}
 use Rattle.clause_form.specs.declared.clause.AtomOf.TheVariants.{Pred, Eq as Equation, True, False}
 use Rattle.clause_form.specs.declared.clause.Lit.{Lit}
 use Rattle.clause_form.specs.ClauseView.{form_of_atom, form_of_lit, signed_form, closed_by}
 use Rattle.clause_form.specs.Covers.{at_terms, in_lit, lit_image, AreSorted}
-use Rattle.clause_form.specs.Images.{image, image-Var, image-App, IsImages, AgreeOn}
-use Rattle.clause_form.specs.ClauseLaws.{lits_agree, lits_themselves}
+use Rattle.clause_form.specs.Images.{image, IsImages}
+use Rattle.clause_form.proofs.ImagesFacts.{image-Var, image-App, AgreeOn}
+use Rattle.clause_form.proofs.ClauseLaws.{lits_agree, lits_themselves}
 use Rattle.unify_terms.specs.Substitution.{image_at}
 use Rattle.kernel.specs.Statements.{Statements}
 use Rattle.kernel.specs.Proves.{Proves}

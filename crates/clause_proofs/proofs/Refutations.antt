@@ -3,7 +3,8 @@ use Rattle.std.specs.Prelude.{ℕ, ◌≡◌, ◌+◌, ◌<◌, ◌≤◌, Bool,
 use Rattle.std.proofs.Common.{ap, sym, subst, ◌∙◌, arith, inl, inr, zero, suc, add-one}
 use Rattle.fof_terms.specs.declared.form.Form.{Form, Not, Or}
 use Rattle.fof_terms.specs.Vocabulary.{Vocabulary}
-use Rattle.fof_terms.specs.Scoped.{IsScope, SortedTo, Sorted, not_sorted, sorted_of_not, or_sorted}
+use Rattle.fof_terms.specs.Sorts.{IsScope, SortedTo, Sorted}
+use Rattle.fof_terms.proofs.Scoped.{not_sorted, sorted_of_not, or_sorted}
 use Rattle.clause_form.specs.declared.clause.AtomOf.{AtomOf}
 use Rattle.clause_form.specs.declared.clause.AtomOf.TheVariants.{Pred, Eq as Equation, True, False}
 use Rattle.clause_form.specs.declared.clause.Lit.{Lit}
@@ -12,12 +13,13 @@ use Rattle.clause_form.specs.Covers.{IsSame, IsSameAtom, AreComplementary, IsCov
 use Rattle.kernel.specs.Statements.{Statements}
 use Rattle.kernel.specs.Proves.{Proves}
 use Rattle.kernel.specs.Rules.{ProveEach}
-use Rattle.kernel.specs.Building.{by_hyp, by_not_i, by_not_e, by_raa}
+use Rattle.kernel.proofs.Building.{by_hyp, by_not_i, by_not_e, by_raa}
 use Rattle.kernel.specs.declared.proof.Proof.{Proof, Hyp, NotI, NotE, Raa}
 use Rattle.clause_proofs.specs.declared.opening.Opened.{Opened}
 use Rattle.clause_proofs.proofs.TurnedSides.{same_back}
 use Rattle.clause_proofs.specs.Bodies.{body_of}
-use Rattle.clause_proofs.specs.Refuting.{theory_of, ShowsFrom, Refutes, RefutesUnder, ShowsUnder, AllRefute, IsDenial, IsSettled}
+use Rattle.clause_proofs.specs.Refuting.{theory_of, Refutes, ShowsUnder, IsDenial, IsSettled}
+use Rattle.clause_proofs.specs.code.Refuting.{ShowsFrom, RefutesUnder, AllRefute}
 
 positive_form : (l : Lit) → l.positive ≡ true → form_of_lit l ≡ form_of_atom l.atom
 positive_form l e = ap (λ (g : Bool). signed_form g (form_of_atom l.atom)) e

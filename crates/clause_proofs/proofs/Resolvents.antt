@@ -12,8 +12,9 @@ use Rattle.clause_form.specs.declared.clause.AtomOf.TheVariants.{Pred, Eq as Equ
 use Rattle.clause_form.specs.declared.clause.Lit.{Lit}
 use Rattle.clause_form.specs.declared.clause.Clause.{Clause}
 use Rattle.clause_form.specs.Covers.{at_terms, in_lit, lit_image, lit_apart, turned_atom, negated, scope_of, IsSame, IsSameAtom, AreComplementary, IsCovered, AreSorted}
-use Rattle.clause_form.specs.Images.{image, IsImages, AgreeOn, image_sorted, image_of_lifted}
-use Rattle.clause_form.specs.ClauseLaws.{lits_agree, lits_sorted}
+use Rattle.clause_form.specs.Images.{image, IsImages}
+use Rattle.clause_form.proofs.ImagesFacts.{AgreeOn, image_sorted, image_of_lifted}
+use Rattle.clause_form.proofs.ClauseLaws.{lits_agree, lits_sorted}
 use Rattle.unify_terms.specs.Substitution.{image_at, IsSubstitution}
 use Rattle.clause_rules.specs.ResolutionRule.{IsResolvent}
 use Rattle.clause_rules.specs.Steps.{AreCovered, IsJoint, images_of_parents, instances, apart_from}

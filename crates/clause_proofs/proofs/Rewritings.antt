@@ -5,15 +5,16 @@ use Rattle.fof_terms.specs.declared.term.Term.{Term}
 use Rattle.fof_terms.specs.declared.form.Form.{Form, Eq}
 use Rattle.fof_terms.specs.Vocabulary.{Vocabulary}
 use Rattle.fof_terms.specs.Sorts.{sort_of_term}
-use Rattle.fof_terms.specs.Scoped.{Sorted, sorted_of_eq}
+use Rattle.fof_terms.specs.Sorts.{Sorted}
+use Rattle.fof_terms.proofs.Scoped.{sorted_of_eq}
 use Rattle.clause_form.specs.declared.clause.AtomOf.TheVariants.{Eq as Equation}
 use Rattle.clause_form.specs.declared.clause.Lit.{Lit}
 use Rattle.clause_form.specs.ClauseView.{form_of_lit}
 use Rattle.clause_form.specs.Covers.{AreSorted, negated}
 use Rattle.clause_rules.specs.Steps.{equation, AreCovered}
-use Rattle.clause_proofs.specs.Factoring.{pick}
+use Rattle.clause_proofs.specs.code.Factoring.{pick}
 use Rattle.clause_proofs.specs.Refuting.{AllSettled}
-use Rattle.clause_proofs.specs.Rewriting.{filled, IsMarked, IsRewriting}
+use Rattle.clause_proofs.specs.code.Rewriting.{filled, IsMarked, IsRewriting}
 use Rattle.clause_proofs.proofs.Factors.{sides_at, lit_equation}
 use Rattle.clause_proofs.proofs.Fillings.{filled_sorted}
 

@@ -4,13 +4,17 @@ use Rattle.std.proofs.Common.{ap, sym, subst, ◌∙◌, arith, inl, inr, add-on
 use Rattle.fof_terms.specs.declared.term.Term.{Term, Var}
 use Rattle.fof_terms.specs.declared.form.Form.{Form, Eq, Not, Or}
 use Rattle.fof_terms.specs.Vocabulary.{Vocabulary}
-use Rattle.fof_terms.specs.Lift.{lifted_term, lift_term_reach, lift_reach, lift_reach-Eq}
-use Rattle.fof_terms.specs.Instance.{instance_at, instance_term, instance_at-Eq}
-use Rattle.fof_terms.specs.Laws.{here, instance_of_lifted}
-use Rattle.fof_terms.specs.Sorts.{sort_of_term, sort_of_term-Var}
-use Rattle.fof_terms.specs.Scoped.{IsScope, Sorted, eq_sorted, not_sorted, sorted_of_not}
-use Rattle.fof_terms.specs.Reaches.{lift_fits}
-use Rattle.fof_terms.specs.Walks.{lifted_sort}
+use Rattle.fof_terms.specs.Lift.{lifted_term, lift_term_reach, lift_reach}
+use Rattle.fof_terms.proofs.LiftFacts.{lift_reach-Eq}
+use Rattle.fof_terms.specs.Instance.{instance_at, instance_term}
+use Rattle.fof_terms.proofs.InstanceFacts.{instance_at-Eq}
+use Rattle.fof_terms.proofs.LiftingLaws.{here, instance_of_lifted}
+use Rattle.fof_terms.specs.Sorts.{sort_of_term}
+use Rattle.fof_terms.proofs.SortsFacts.{sort_of_term-Var}
+use Rattle.fof_terms.specs.Sorts.{IsScope, Sorted}
+use Rattle.fof_terms.proofs.Scoped.{eq_sorted, not_sorted, sorted_of_not}
+use Rattle.fof_terms.proofs.Reaches.{lift_fits}
+use Rattle.fof_terms.proofs.Walks.{lifted_sort}
 use Rattle.clause_form.specs.declared.clause.AtomOf.{AtomOf}
 use Rattle.clause_form.specs.declared.clause.AtomOf.TheVariants.{Pred, Eq as Equation, True, False}
 use Rattle.clause_form.specs.declared.clause.Lit.{Lit}
@@ -18,9 +22,10 @@ use Rattle.clause_form.specs.ClauseView.{form_of_atom, form_of_lit, signed_form}
 use Rattle.clause_form.specs.Covers.{IsSame, IsSameAtom, turned_atom, turned}
 use Rattle.kernel.specs.Statements.{Statements}
 use Rattle.kernel.specs.Proves.{Proves}
-use Rattle.kernel.specs.Building.{by_hyp, by_refl, by_subst, by_not_i, by_not_e}
+use Rattle.kernel.proofs.Building.{by_hyp, by_refl, by_subst, by_not_i, by_not_e}
 use Rattle.kernel.specs.declared.proof.Proof.{Proof, Hyp, Refl, Subst, NotI, NotE}
-use Rattle.clause_proofs.specs.Refuting.{theory_of, IsTurned, ShowsFrom}
+use Rattle.clause_proofs.specs.Refuting.{theory_of}
+use Rattle.clause_proofs.specs.code.Refuting.{IsTurned, ShowsFrom}
 use Rattle.clause_proofs.proofs.Peeling.{lifted_nothing}
 
 hole_at : (x l : Term) → instance_at x 0 (Eq (Var 0) (lifted_term 1 0 l)) ≡ Eq x l

@@ -1,11 +1,9 @@
 -- The body of a clause's formula, which stands under its quantifiers.
-use Rattle.std.specs.Prelude.{ℕ, ◌≡◌, Bool, true, false, List, [], ◌∷◌, length, map, Option, Some, None}
+use Rattle.std.specs.Prelude.{◌≡◌, Bool, true, false, List, [], ◌∷◌, length, map, Option, Some, None}
 use Rattle.fof_terms.specs.declared.form.Form.{Form, Or}
 use Rattle.clause_form.specs.declared.clause.Lit.{Lit}
 use Rattle.clause_form.specs.declared.clause.Clause.{Clause}
 use Rattle.clause_form.specs.ClauseView.{clause_of, closed_by, form_of_lit}
-use Rattle.clause_rules.specs.Steps.{IsReady}
-use Rattle.fof_terms.specs.Vocabulary.{Vocabulary}
 use Rattle.clause_proofs.specs.declared.opening.Opened.{Opened}
 
 -- the Or of the literals, or the first of them alone
@@ -23,8 +21,3 @@ pub record HasClause (a : Form) (c : Clause) (is_or : Bool) : Type 0 where
 abbrev pub IsOpening : Form → Option Opened → Type 0
 IsOpening a None = clause_of a ≡ None
 IsOpening a (Some o) = (clause_of a ≡ Some o.clause) × HasClause a o.clause o.is_or
-
--- the formula is ready for the rules and has the clause that is opened
-pub record IsReadyClause (w : Vocabulary) (a : Form) (o : Opened) : Type 0 where
-  pub ready : IsReady w a
-  pub opening : IsOpening a (Some o)

@@ -1,29 +1,19 @@
 -- What a part shows with the symbols of w, over variables of the sorts v, whatever formulas hold.
 use Rattle.std.specs.Prelude.{ℕ, ◌≡◌, ◌<◌, ◌⊎◌, Bool, true, false, List, [], ◌∷◌, length, map, Some, slice_get}
-use Rattle.fof_terms.specs.declared.term.Term.{Term, Var}
-use Rattle.fof_terms.specs.declared.form.Form.{Form, Eq, Or, Not}
+use Rattle.fof_terms.specs.declared.form.Form.{Form, Or, Not}
 use Rattle.fof_terms.specs.Vocabulary.{Vocabulary}
-use Rattle.fof_terms.specs.Lift.{lifted_term}
-use Rattle.fof_terms.specs.Sorts.{sort_of_term, Sorted}
+use Rattle.fof_terms.specs.Sorts.{Sorted}
 use Rattle.clause_form.specs.declared.clause.Lit.{Lit}
 use Rattle.clause_form.specs.ClauseView.{form_of_lit}
 use Rattle.clause_form.specs.Covers.{AreComplementary, IsCovered, negated}
 use Rattle.kernel.specs.Statements.{Statements}
 use Rattle.kernel.specs.Proves.{Proves}
-use Rattle.kernel.specs.declared.proof.Proof.{Proof, OrI, Refl, Subst}
+use Rattle.kernel.specs.declared.proof.Proof.{Proof, OrI}
 use Rattle.clause_proofs.specs.declared.opening.Opened.{Opened}
 use Rattle.clause_proofs.specs.Bodies.{body_of}
 
 abbrev pub theory_of : Vocabulary → List Form → Statements
 theory_of w formulas = record { vocabulary = w; formulas = formulas }
-
--- the part has the equation of l and some other term turned round, by a part that shows the equation
-abbrev pub IsTurned : Vocabulary → List ℕ → Term → Proof → Proof → Type 0
-IsTurned w v l p made = (s : ℕ) × (sort_of_term w v l ≡ Some s) × (s < length w.sorts) × (made ≡ Subst s (Eq (Var 0) (lifted_term 1 0 l)) p (Refl l))
-
--- from hypothesis number n, which is a, the part shows b
-abbrev pub ShowsFrom : Vocabulary → List ℕ → ℕ → Form → Form → Proof → Type 0
-ShowsFrom w v n a b p = (formulas h : List Form) → slice_get h n ≡ Some a → Proves (theory_of w formulas) v h p b
 
 -- where hypothesis 0 is a, and number n is the negation of g, the part shows falsehood
 abbrev pub Refutes : Vocabulary → List ℕ → ℕ → Form → Form → Proof → Type 0
@@ -32,17 +22,6 @@ Refutes w v n g a p = (formulas h : List Form) → slice_get h 0 ≡ Some a → 
 -- the literal is covered by the line, or complementary to the other literal
 abbrev pub IsSettled : List Lit → Lit → Lit → Type 0
 IsSettled line other k = IsCovered line k ⊎ AreComplementary k other
-
--- under a, then b and the negation of g, the part shows falsehood
-abbrev pub RefutesUnder : Vocabulary → List ℕ → Form → Form → Form → Proof → Type 0
-RefutesUnder w v g b a p = (formulas h : List Form) → Proves (theory_of w formulas) v (a ∷ b ∷ Not g ∷ h) p (Or [])
-
--- the same for each literal of a list, by the part at its place
-abbrev pub AllRefute : Vocabulary → List ℕ → Form → Form → List Lit → List Proof → Type 0
-AllRefute w v g b [] [] = Unit {0}
-AllRefute w v g b [] (p ∷ ps) = ⊥
-AllRefute w v g b (l ∷ lits) [] = ⊥
-AllRefute w v g b (l ∷ lits) (p ∷ ps) = RefutesUnder w v g b (form_of_lit l) p × AllRefute w v g b lits ps
 
 -- the body from the literal at place k
 abbrev pub injected_tree : Bool → List Lit → ℕ → Proof → Proof
@@ -74,10 +53,6 @@ ShowsUnder w v formulas h a p = Proves (theory_of w formulas) v h p a
 -- in this theory, under b and the negation of g, the part shows falsehood
 abbrev pub RefutesIn : Vocabulary → List ℕ → List Form → Form → Form → Proof → Type 0
 RefutesIn w v formulas g b p = (h : List Form) → Proves (theory_of w formulas) v (b ∷ Not g ∷ h) p (Or [])
-
--- the part shows falsehood from the literal as hypothesis 0, wherever it is well-sorted
-abbrev pub IsAbsurdity : Lit → Proof → Type 0
-IsAbsurdity l p = (t : Statements) (v : List ℕ) (h : List Form) → Sorted t.vocabulary v (form_of_lit l) → slice_get h 0 ≡ Some (form_of_lit l) → Proves t v h p (Or [])
 
 -- under the literal's form, falsehood: so its opposite
 abbrev pub IsDenial : Lit → Proof → Proof → Type 0

@@ -1,5 +1,5 @@
 -- What the proof of a line by a rule says.
-use Rattle.std.specs.Prelude.{ℕ, ◌≡◌, List, [], Option, Some, None}
+use Rattle.std.specs.Prelude.{List, [], Option, Some, None}
 use Rattle.fof_terms.specs.declared.form.Form.{Form}
 use Rattle.fof_terms.specs.Vocabulary.{Vocabulary}
 use Rattle.clause_form.specs.declared.path.Parent.{Parent}
@@ -18,10 +18,6 @@ ShowsLine w parents line p = (formulas : List Form) → AreOfTheory (theory_of w
 abbrev pub IsByRule : Vocabulary → List Parent → Form → Word → Option Proof → Type 0
 IsByRule w parents line rule None = Gives w parents line rule → ⊥
 IsByRule w parents line rule (Some p) = Gives w parents line rule × ShowsLine w parents line p
-
--- with these symbols, the proof shows the line, whatever formulas hold
-abbrev pub ShowsAlone : Vocabulary → Form → Proof → Type 0
-ShowsAlone w line p = (formulas : List Form) → Proves (theory_of w formulas) [] [] p line
 
 -- the formulas have one normal form
 pub record AreAlike (a b : Form) : Type 0 where

@@ -15,8 +15,9 @@ ghost use Rattle.clause_rules.specs.Steps.{AreCovered, AreReady, IsJoint, IsRead
 ghost use Rattle.clause_rules.specs.declared.just.Just.TheVariants.{Cover as ByCover};
 ghost use Rattle.kernel.specs.Proves.{Proves};
 ghost use Rattle.clause_rules.specs.Answers.{cover as cover_rule};
-ghost use Rattle.clause_proofs.specs.Bodies.{HasClause, IsReadyClause};
-ghost use Rattle.clause_proofs.specs.Premises.{IsClosed, IsFact, ShowsAnywhere};
+ghost use Rattle.clause_proofs.specs.Bodies.{HasClause};
+ghost use Rattle.clause_proofs.specs.code.Bodies.{IsReadyClause};
+ghost use Rattle.clause_proofs.specs.code.Premises.{IsClosed, IsFact, ShowsAnywhere};
 ghost use Rattle.clause_proofs.specs.Shown.{IsByRule, ShowsLine};
 ghost use Rattle.clause_proofs.specs.Refuting.{IsGoal, RefutesBody, ShowsBody, body, theory_of};
 

@@ -7,7 +7,8 @@ ghost use Rattle.clause_form.specs.declared.clause.Lit.{Lit as Literal};
 ghost use Rattle.clause_form.specs.ClauseView.{form_of_lit as lit_form};
 ghost use Rattle.clause_form.specs.Covers.{IsAbsurd, IsCovered, IsSame};
 ghost use Rattle.clause_proofs.specs.Bodies.{body_of};
-ghost use Rattle.clause_proofs.specs.Refuting.{IsAbsurdity, IsGoal, Refutes, body, injected_tree};
+ghost use Rattle.clause_proofs.specs.code.Refuting.{IsAbsurdity};
+ghost use Rattle.clause_proofs.specs.Refuting.{IsGoal, Refutes, body, injected_tree};
 
 use crate::nodes::{number, refl, truth};
 use crate::opening::Opened;

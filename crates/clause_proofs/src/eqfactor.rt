@@ -12,10 +12,11 @@ ghost use Rattle.clause_rules.specs.Steps.{AreReady, IsJoint, IsReady, equation,
 ghost use Rattle.clause_rules.specs.declared.just.Just.TheVariants.{EqFactor as ByEqFactor};
 ghost use Rattle.kernel.specs.Proves.{Proves};
 ghost use Rattle.clause_rules.specs.Answers.{eqfactor as eqfactor_rule};
-ghost use Rattle.clause_proofs.specs.Bodies.{IsReadyClause};
-ghost use Rattle.clause_proofs.specs.Factoring.{IsChained, IsFactoring, IsWritten, pick};
+ghost use Rattle.clause_proofs.specs.code.Bodies.{IsReadyClause};
+ghost use Rattle.clause_proofs.specs.code.Factoring.{IsChained, IsFactoring, IsWritten, pick};
 ghost use Rattle.clause_proofs.specs.Shown.{IsByRule, ShowsLine};
-ghost use Rattle.clause_proofs.specs.Refuting.{IsGoal, RefutesBody, RefutesIn, ShowsBody, ShowsFrom, body, theory_of};
+ghost use Rattle.clause_proofs.specs.Refuting.{IsGoal, RefutesBody, RefutesIn, ShowsBody, body, theory_of};
+ghost use Rattle.clause_proofs.specs.code.Refuting.{ShowsFrom};
 
 use crate::covering::contrary;
 use crate::opening::{Opened, known_clause};

@@ -6,7 +6,8 @@ ghost use Rattle.fof_terms.specs.Sorts.{Sorted};
 ghost use Rattle.clause_form.specs.ClauseView.{form_of_lit as lit_form};
 ghost use Rattle.clause_form.specs.Covers.{AreComplementary, AreSorted, negated as opposite_of};
 ghost use Rattle.clause_proofs.specs.Bodies.{body_of};
-ghost use Rattle.clause_proofs.specs.Refuting.{AllRefute, AllSettled, IsDenial, IsGoal, IsSettled, RefutesBody, RefutesIn, RefutesUnder, ShowsBody, ShowsUnder, body};
+ghost use Rattle.clause_proofs.specs.code.Refuting.{AllRefute, RefutesUnder};
+ghost use Rattle.clause_proofs.specs.Refuting.{AllSettled, IsDenial, IsGoal, IsSettled, RefutesBody, RefutesIn, ShowsBody, ShowsUnder, body};
 
 use crate::covering::contrary;
 use crate::opening::Opened;

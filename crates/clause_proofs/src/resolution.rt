@@ -9,7 +9,7 @@ ghost use Rattle.clause_rules.specs.Steps.{AreReady, IsJoint, IsReady, images_of
 ghost use Rattle.clause_rules.specs.declared.just.Just.TheVariants.{Resolution as ByResolution};
 ghost use Rattle.clause_rules.specs.Answers.{resolution as resolution_rule};
 ghost use Rattle.clause_proofs.specs.Shown.{IsByRule, ShowsLine};
-ghost use Rattle.clause_proofs.specs.Bodies.{IsReadyClause};
+ghost use Rattle.clause_proofs.specs.code.Bodies.{IsReadyClause};
 ghost use Rattle.clause_proofs.specs.Refuting.{IsGoal, RefutesBody, ShowsBody, body, theory_of};
 ghost use Rattle.kernel.specs.Proves.{Proves};
 

@@ -11,10 +11,10 @@ ghost use Rattle.clause_rules.specs.RewriteRule.{AreLitsRewritten, Rewrites};
 ghost use Rattle.clause_rules.specs.Steps.{AreReady, IsJoint, IsReady, images_of_parents, scope_of_both};
 ghost use Rattle.clause_rules.specs.declared.just.Just.TheVariants.{Rewrite as ByRewrite};
 ghost use Rattle.kernel.specs.Proves.{Proves};
-ghost use Rattle.clause_proofs.specs.Bodies.{IsReadyClause};
+ghost use Rattle.clause_proofs.specs.code.Bodies.{IsReadyClause};
 ghost use Rattle.clause_proofs.specs.Shown.{IsByRule, ShowsLine};
 ghost use Rattle.clause_proofs.specs.Refuting.{IsGoal, RefutesBody, ShowsBody, body, theory_of};
-ghost use Rattle.clause_proofs.specs.Rewriting.{IsRewriting, chained_images};
+ghost use Rattle.clause_proofs.specs.code.Rewriting.{IsRewriting, chained_images};
 
 use crate::opening::{Opened, known_clause};
 use crate::premises::{Premise, images_of, instance_by, some_images};

@@ -9,9 +9,10 @@ ghost use Rattle.clause_form.specs.ClauseView.{form_of_lit as lit_form};
 ghost use Rattle.clause_form.specs.Covers.{AreSorted, negated as opposite_of};
 ghost use Rattle.clause_rules.specs.Steps.{equation as equation_of};
 ghost use Rattle.clause_proofs.specs.Bodies.{body_of};
-ghost use Rattle.clause_proofs.specs.Factoring.{pick};
-ghost use Rattle.clause_proofs.specs.Refuting.{AllSettled, IsGoal, RefutesBody, ShowsBody, ShowsFrom, ShowsUnder, body};
-ghost use Rattle.clause_proofs.specs.Rewriting.{IsMarked, IsRewriting, filled as filled_lits, with_hole};
+ghost use Rattle.clause_proofs.specs.code.Factoring.{pick};
+ghost use Rattle.clause_proofs.specs.Refuting.{AllSettled, IsGoal, RefutesBody, ShowsBody, ShowsUnder, body};
+ghost use Rattle.clause_proofs.specs.code.Refuting.{ShowsFrom};
+ghost use Rattle.clause_proofs.specs.code.Rewriting.{IsMarked, IsRewriting, filled as filled_lits, with_hole};
 
 use crate::covering::form_of_body;
 use crate::opening::Opened;

@@ -9,7 +9,8 @@ ghost use Rattle.clause_form.specs.Covers.{AreComplementary, HasOne, IsCovered, 
 ghost use Rattle.clause_rules.specs.Steps.{IsReady};
 ghost use Rattle.clause_rules.specs.TautologyRule.{IsTautologyStep};
 ghost use Rattle.clause_rules.specs.Answers.{tautology as tautology_rule};
-ghost use Rattle.clause_proofs.specs.Shown.{IsByRule, ShowsAlone};
+ghost use Rattle.clause_proofs.specs.Shown.{IsByRule};
+ghost use Rattle.clause_proofs.specs.code.Shown.{ShowsAlone};
 ghost use Rattle.clause_proofs.specs.Refuting.{IsGoal, RefutesBody, body};
 
 use crate::covering::contrary;

@@ -7,21 +7,23 @@ use Rattle.std.proofs.lemmas.List.Elements.{recursion_from_All}
 use Rattle.std.proofs.lemmas.Option.{slice_get_within}
 use Rattle.fof_terms.specs.declared.term.Term.{Term, Var}
 use Rattle.fof_terms.specs.Vocabulary.{Vocabulary}
-use Rattle.clause_form.specs.ClauseLaws.{get_image, lits_agree}
+use Rattle.clause_form.proofs.ClauseLaws.{get_image, lits_agree}
 use Rattle.clause_form.specs.declared.clause.Clause.{Clause}
 use Rattle.clause_form.specs.declared.clause.Lit.{Lit}
 use Rattle.clause_form.specs.Covers.{lit_image, scope_of, is_sorted_atom, IsCovered}
-use Rattle.clause_form.specs.Images.{image, image-Var, image_image, AgreeOn}
+use Rattle.clause_form.specs.Images.{image}
+use Rattle.clause_form.proofs.ImagesFacts.{image-Var, image_image, AgreeOn}
 use Rattle.clause_rules.specs.declared.sites.Reading.{Reading}
 use Rattle.clause_rules.specs.declared.sites.Site.{Site}
-use Rattle.clause_rules.specs.EqFactorSearch.{NoneFrom}
+use Rattle.clause_rules.specs.code.EqFactorSearch.{NoneFrom}
 use Rattle.clause_rules.specs.ParamodulationRule.{Paramodulates}
-use Rattle.clause_rules.specs.ParamodulationSearch.{FoundAtSite, HasClause, NeverAt}
+use Rattle.clause_rules.specs.code.ParamodulationSearch.{FoundAtSite, HasClause, NeverAt}
 use Rattle.clause_rules.specs.Places.{lit_put_at, lit_term_at}
 use Rattle.clause_rules.specs.RewriteRule.{AreLitsRewritten}
-use Rattle.clause_rules.specs.RewriteSearch.{NeverRewritten}
-use Rattle.clause_rules.specs.Screens.{NeverAll, NeverCovered, NeverOthers}
-use Rattle.clause_rules.specs.Settled.{AllFit, IsFit}
+use Rattle.clause_rules.specs.code.RewriteSearch.{NeverRewritten}
+use Rattle.clause_rules.specs.code.Screens.{NeverAll, NeverCovered, NeverOthers}
+use Rattle.clause_rules.specs.code.Settled.{AllFit}
+use Rattle.clause_rules.specs.Settled.{IsFit}
 use Rattle.clause_rules.specs.Steps.{apart_from, instances}
 use Rattle.clause_rules.proofs.Factoring.{get_of_map}
 use Rattle.clause_rules.proofs.Firsts.{one_at}

@@ -7,14 +7,16 @@ use Rattle.std.proofs.lemmas.List.{reverse-append}
 use Rattle.std.proofs.lemmas.List.Elements.{All-from_recursion}
 use Rattle.fof_terms.specs.Vocabulary.{Vocabulary}
 use Rattle.fof_terms.specs.declared.form.Form.{Form}
-use Rattle.fof_terms.specs.Induction.{form_induction}
-use Rattle.fof_terms.specs.Laws.{both, each_true}
-use Rattle.fof_terms.specs.Sorts.{is_sorted, is_sorted-Atom, is_sorted-Eq, is_sorted-Not, is_sorted-Or, is_sorted-All, binder_depth, binder_depth-All}
+use Rattle.fof_terms.proofs.Induction.{form_induction}
+use Rattle.fof_terms.proofs.LiftingLaws.{both, each_true}
+use Rattle.fof_terms.specs.Sorts.{is_sorted, binder_depth}
+use Rattle.fof_terms.proofs.SortsFacts.{is_sorted-Atom, is_sorted-Eq, is_sorted-Not, is_sorted-Or, is_sorted-All, binder_depth-All}
 use Rattle.clause_form.specs.declared.clause.AtomOf.{AtomOf}
 use Rattle.clause_form.specs.declared.clause.AtomOf.TheVariants.{Pred, Eq as Equation, True, False}
 use Rattle.clause_form.specs.declared.clause.Lit.{Lit}
 use Rattle.clause_form.specs.declared.clause.Clause.{Clause}
-use Rattle.clause_form.specs.ClauseView.{View, view_of, clause_of, all_there, stated, denied, alone_lit, open_clause, within, no_view, view_of_atom, view_of_lit, view_of_lits, view_of_and, view_of_or, view_of-Atom, view_of-Eq, view_of-Not, view_of-And, view_of-Or, view_of-Imp, view_of-Iff, view_of-All, view_of-Ex}
+use Rattle.clause_form.specs.ClauseView.{View, view_of, clause_of, all_there, stated, denied, alone_lit, open_clause, within, no_view, view_of_atom, view_of_lit, view_of_lits, view_of_and, view_of_or}
+use Rattle.clause_form.proofs.ClauseViewFacts.{view_of-Atom, view_of-Eq, view_of-Not, view_of-And, view_of-Or, view_of-Imp, view_of-Iff, view_of-All, view_of-Ex}
 use Rattle.clause_form.specs.Covers.{is_sorted_atom, AreSorted}
 
 abbrev next : Option Lit → Option (List Lit) → Option (List Lit)

@@ -10,13 +10,13 @@ use Rattle.clause_form.specs.declared.clause.Lit.{Lit}
 use Rattle.clause_form.specs.declared.clause.Clause.{Clause}
 use Rattle.clause_form.specs.declared.path.Parent.{Parent}
 use Rattle.clause_form.specs.declared.path.Path.{Path}
-use Rattle.clause_form.specs.ClauseLaws.{get_image}
+use Rattle.clause_form.proofs.ClauseLaws.{get_image}
 use Rattle.clause_form.specs.ClauseView.{clause_of}
 use Rattle.clause_form.specs.Covers.{lit_image, scope_of, IsCovered, CoversBy, AreSorted}
 use Rattle.clause_form.specs.Found.{IsRoomy}
 use Rattle.clause_form.specs.Images.{IsImages}
 use Rattle.clause_form.specs.Norm.{norm_of}
-use Rattle.clause_form.specs.NormSize.{norm_small}
+use Rattle.clause_form.proofs.NormSize.{norm_small}
 use Rattle.clause_form.specs.Paths.{reached}
 use Rattle.clause_form.specs.Sizes.{norm_size_of}
 use Rattle.unify_terms.specs.declared.goal.Goal.{Goal}
@@ -28,13 +28,14 @@ use Rattle.clause_rules.specs.declared.just.Just.{Just}
 use Rattle.clause_rules.specs.declared.just.Just.TheVariants.{Cover}
 use Rattle.clause_rules.specs.declared.taking.Reached.{Reached}
 use Rattle.clause_rules.specs.Answers.{IsAnswer, cover, rule_of}
-use Rattle.clause_rules.specs.CoverFound.{NoCover, FoundCover, FoundInForm, NoCoverAt, ShowsCover, ShowsCoverAt, FoundCoverAmong, SettlesReached}
-use Rattle.clause_rules.specs.JointClauses.{IsJoinedOne}
+use Rattle.clause_rules.specs.code.CoverFound.{NoCover, FoundCover, FoundInForm, NoCoverAt, ShowsCover, ShowsCoverAt, FoundCoverAmong, SettlesReached}
+use Rattle.clause_rules.specs.code.JointClauses.{IsJoinedOne}
 use Rattle.clause_rules.specs.Justified.{Shows}
 use Rattle.clause_rules.specs.NormRule.{HasNorm}
-use Rattle.clause_rules.specs.Settled.{IsFit, IsGuessed, IsSolution, Settles}
+use Rattle.clause_rules.specs.Settled.{IsFit, Settles}
+use Rattle.clause_rules.specs.code.Settled.{IsGuessed, IsSolution}
 use Rattle.clause_rules.specs.Steps.{AreCovered, instances}
-use Rattle.clause_rules.specs.Ways.{cover_needs, goal_of_needs}
+use Rattle.clause_rules.specs.code.Ways.{cover_needs, goal_of_needs}
 use Rattle.clause_rules.proofs.CoverTop.{CoversSome}
 use Rattle.clause_rules.proofs.Covering.{covers_forth, covers_back}
 use Rattle.clause_rules.proofs.Factoring.{get_of_map, no_lits}

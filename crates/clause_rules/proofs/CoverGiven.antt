@@ -7,7 +7,7 @@ use Rattle.std.proofs.Common.{ap, sym, subst, ◌∙◌, zero, suc}
 use Rattle.std.proofs.lemmas.List.{reverse-append, length-reverse}
 use Rattle.fof_terms.specs.Vocabulary.{Vocabulary}
 use Rattle.fof_terms.specs.declared.term.Term.{Term, Var}
-use Rattle.fof_terms.specs.Induction.{form_induction}
+use Rattle.fof_terms.proofs.Induction.{form_induction}
 use Rattle.fof_terms.specs.Sorts.{sort_of_term}
 use Rattle.fof_terms.specs.declared.form.Form.{Form, Atom, Eq, Not, And, Or, Imp, Iff, All, Ex}
 use Rattle.fof_terms.specs.declared.form.Form.TheViews.{out-Form, outs-And, outs-Or, outs-All}
@@ -16,15 +16,18 @@ use Rattle.clause_form.specs.declared.clause.Lit.{Lit}
 use Rattle.clause_form.specs.declared.clause.Clause.{Clause}
 use Rattle.clause_form.specs.ClauseView.{view_of, alone_lit, open_clause, within}
 use Rattle.clause_form.specs.Covers.{lit_image, IsCovered}
-use Rattle.clause_form.specs.Images.{image, image-Var}
+use Rattle.clause_form.specs.Images.{image}
+use Rattle.clause_form.proofs.ImagesFacts.{image-Var}
 use Rattle.clause_form.specs.Paths.{plain, reached, all_beside, one_more, each_reaches, at_member, pick_in, each_in, under_in}
 use Rattle.unify_terms.specs.declared.goal.Goal.{Goal, Same}
 use Rattle.unify_terms.specs.declared.pair.Pair.{Pair}
-use Rattle.unify_terms.specs.Goals.{each_of, and_then, with_pairs, chosen_way, asked, asked-All, asked-Any}
+use Rattle.unify_terms.specs.Goals.{each_of, and_then, with_pairs, chosen_way, asked}
+use Rattle.unify_terms.proofs.GoalsFacts.{asked-All, asked-Any}
 use Rattle.unify_terms.specs.Substitution.{image_at}
 use Rattle.unify_terms.specs.Unifiers.{Unifies}
-use Rattle.clause_rules.specs.CoverSearch.{Opening, sorts_of_all, goals_from, over, named, goal_of_lit, opened_leaf, opened_and, opened_or, opened_all, opening, opening-And, opening-Or, opening-All}
-use Rattle.clause_rules.specs.Ways.{cover_ways}
+use Rattle.clause_rules.specs.code.CoverSearch.{Opening, sorts_of_all, goals_from, over, named, goal_of_lit, opened_leaf, opened_and, opened_or, opened_all, opening}
+use Rattle.clause_rules.proofs.CoverSearchFacts.{opening-And, opening-Or, opening-All}
+use Rattle.clause_rules.specs.code.Ways.{cover_ways}
 use Rattle.clause_rules.proofs.Covering.{cover_back}
 use Rattle.clause_rules.proofs.Meeting.{way_of, chosen_there, unifies_both}
 use Rattle.clause_rules.proofs.Named.{over_two, beside_images, named_image, one_name}

@@ -8,7 +8,7 @@ use Rattle.std.proofs.lemmas.List.{reverse-append, length-reverse}
 use Rattle.std.proofs.lemmas.Option.{some_pair_parts}
 use Rattle.fof_terms.specs.Vocabulary.{Vocabulary}
 use Rattle.fof_terms.specs.declared.term.Term.{Term, Var}
-use Rattle.fof_terms.specs.Induction.{form_induction}
+use Rattle.fof_terms.proofs.Induction.{form_induction}
 use Rattle.fof_terms.specs.Sorts.{sort_of_term}
 use Rattle.fof_terms.specs.declared.form.Form.{Form, Atom, Eq, Not, And, Or, Imp, Iff, All, Ex}
 use Rattle.fof_terms.specs.declared.form.Form.TheViews.{outs-And, outs-Or, outs-All}
@@ -17,15 +17,18 @@ use Rattle.clause_form.specs.declared.clause.Lit.{Lit}
 use Rattle.clause_form.specs.declared.clause.Clause.{Clause}
 use Rattle.clause_form.specs.ClauseView.{view_of, alone_lit, open_clause, within}
 use Rattle.clause_form.specs.Covers.{lit_image, IsCovered}
-use Rattle.clause_form.specs.Images.{image, image-Var}
+use Rattle.clause_form.specs.Images.{image}
+use Rattle.clause_form.proofs.ImagesFacts.{image-Var}
 use Rattle.clause_form.specs.Paths.{plain, reached, beside, all_beside, one_more, each_reaches, at_member, pick_in, each_in, under_in}
 use Rattle.unify_terms.specs.declared.goal.Goal.{Same}
 use Rattle.unify_terms.specs.declared.pair.Pair.{Pair}
-use Rattle.unify_terms.specs.Goals.{each_of, one_of, chosen_way, asked, asked-All, asked-Any}
+use Rattle.unify_terms.specs.Goals.{each_of, one_of, chosen_way, asked}
+use Rattle.unify_terms.proofs.GoalsFacts.{asked-All, asked-Any}
 use Rattle.unify_terms.specs.Substitution.{image_at}
 use Rattle.unify_terms.specs.Unifiers.{Unifies}
-use Rattle.clause_rules.specs.CoverSearch.{Taking, Taken, TakenAll, Opening, sorts_of_all, goals_from, over, down, named, goal_of_lit, later, take_leaf, take_at, with_choices, take_pick, first_taken, take_each, all_taken, with_sort, opened_and, opened_or, opened_all, opening, opening-And, opening-Or, opening-All}
-use Rattle.clause_rules.specs.Ways.{cover_ways}
+use Rattle.clause_rules.specs.code.CoverSearch.{Taking, Taken, TakenAll, Opening, sorts_of_all, goals_from, over, down, named, goal_of_lit, later, take_leaf, take_at, with_choices, take_pick, first_taken, take_each, all_taken, with_sort, opened_and, opened_or, opened_all, opening}
+use Rattle.clause_rules.proofs.CoverSearchFacts.{opening-And, opening-Or, opening-All}
+use Rattle.clause_rules.specs.code.Ways.{cover_ways}
 use Rattle.clause_rules.proofs.Covering.{cover_forth}
 use Rattle.clause_rules.proofs.Meeting.{chosen_is, need_is, has_way, then_is, unifies_parts}
 use Rattle.clause_rules.proofs.Named.{over_two, beside_images, named_image, one_name, down_length, down_both}

@@ -4,16 +4,18 @@ use Rattle.std.specs.List.{AllByRecursion}
 use Rattle.std.proofs.Common.{ap, sym, subst, ◌∙◌, arith, zero, suc, append_assoc, append-nil, length-append, length-drop, length-take, take-append-drop, get_or-drop}
 use Rattle.std.proofs.lemmas.List.{length-reverse}
 use Rattle.std.proofs.lemmas.Option.{slice_get_within}
-use Rattle.fof_terms.specs.Sorts.{sort_of_term, sort_of_term-Var, is_sorted}
+use Rattle.fof_terms.specs.Sorts.{sort_of_term, is_sorted}
+use Rattle.fof_terms.proofs.SortsFacts.{sort_of_term-Var}
 use Rattle.fof_terms.specs.Vocabulary.{Vocabulary}
 use Rattle.fof_terms.specs.declared.term.Term.{Term, Var}
 use Rattle.fof_terms.specs.declared.form.Form.{Form}
 use Rattle.clause_form.specs.declared.path.Path.{Path}
 use Rattle.clause_form.specs.declared.clause.Lit.{Lit}
 use Rattle.clause_form.specs.declared.clause.Clause.{Clause}
-use Rattle.clause_form.specs.ClauseLaws.{lits_agree, lits_themselves, sorted_more}
+use Rattle.clause_form.proofs.ClauseLaws.{lits_agree, lits_themselves, sorted_more}
 use Rattle.clause_form.specs.Covers.{lit_image, scope_of, AreSorted, CoversBy, IsCovered}
-use Rattle.clause_form.specs.Images.{image, image-Var, IsImages, AgreeOn}
+use Rattle.clause_form.specs.Images.{image, IsImages}
+use Rattle.clause_form.proofs.ImagesFacts.{image-Var, AgreeOn}
 use Rattle.clause_form.specs.Paths.{reached}
 use Rattle.clause_form.specs.Sizes.{norm_size_of}
 use Rattle.unify_terms.specs.declared.goal.Goal.{Goal}
@@ -22,8 +24,8 @@ use Rattle.unify_terms.specs.declared.solving.Solution.{Solution}
 use Rattle.unify_terms.specs.Goals.{asked, goal_sorted, SolvesGoal}
 use Rattle.unify_terms.specs.Substitution.{image_at, IsSubstitution}
 use Rattle.clause_rules.specs.declared.taking.Reached.{Reached}
-use Rattle.clause_rules.specs.CoverFound.{IsTaken, NoCover, begun}
-use Rattle.clause_rules.specs.CoverSearch.{Taking, Taken, over, named, near, down, opening}
+use Rattle.clause_rules.specs.code.CoverFound.{IsTaken, NoCover, begun}
+use Rattle.clause_rules.specs.code.CoverSearch.{Taking, Taken, over, named, near, down, opening}
 use Rattle.clause_rules.specs.Settled.{IsFit}
 use Rattle.clause_rules.proofs.CoverGiven.{gives}
 use Rattle.clause_rules.proofs.CoverMet.{met}

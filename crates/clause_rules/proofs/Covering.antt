@@ -8,13 +8,14 @@ use Rattle.clause_form.specs.declared.clause.AtomOf.{AtomOf}
 use Rattle.clause_form.specs.declared.clause.AtomOf.TheVariants.{Pred, Eq, True, False}
 use Rattle.clause_form.specs.declared.clause.Lit.{Lit}
 use Rattle.clause_form.specs.Covers.{at_terms, lit_image, turned_atom, IsSameAtom, IsSame, Denies, IsCovered}
-use Rattle.clause_form.specs.ClauseLaws.{get_image}
+use Rattle.clause_form.proofs.ClauseLaws.{get_image}
 use Rattle.clause_form.specs.Images.{image}
 use Rattle.unify_terms.specs.declared.pair.Pair.{Pair}
 use Rattle.unify_terms.specs.Unifiers.{Unifies}
 use Rattle.unify_terms.specs.Substitution.{image_at, instance}
 use Rattle.clause_rules.specs.Steps.{AreCovered}
-use Rattle.clause_rules.specs.Ways.{HasWay, MeetsNeeds, zip_pairs, atom_ways, signed_ways, lit_ways, absurd_ways, cover_ways, cover_needs}
+use Rattle.clause_rules.specs.code.Ways.{HasWay, zip_pairs, atom_ways, signed_ways, lit_ways, absurd_ways, cover_ways, cover_needs}
+use Rattle.clause_rules.proofs.WaysFacts.{MeetsNeeds}
 use Rattle.clause_rules.proofs.LitImages.{instance_is}
 
 module _ (images : List Term) where

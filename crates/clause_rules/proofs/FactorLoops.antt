@@ -13,7 +13,7 @@ use Rattle.clause_rules.specs.declared.just.Just.TheVariants.{EqFactor}
 use Rattle.clause_rules.specs.Answers.{IsAnswer, eqfactor, rule_of}
 use Rattle.clause_rules.specs.Justified.{Shows}
 use Rattle.clause_rules.specs.EqFactorRule.{Factors}
-use Rattle.clause_rules.specs.EqFactorSearch.{NoneIn, IsFactor, FoundFactor, FoundInParent, FoundInParents, ShowsFactor}
+use Rattle.clause_rules.specs.code.EqFactorSearch.{NoneIn, IsFactor, FoundFactor, FoundInParent, FoundInParents, ShowsFactor}
 use Rattle.clause_rules.specs.Steps.{clauses_of}
 use Rattle.clause_rules.proofs.Firsts.{one_at}
 

@@ -7,10 +7,10 @@ use Rattle.std.proofs.lemmas.List.Elements.{All-nil}
 use Rattle.fof_terms.specs.Vocabulary.{Vocabulary}
 use Rattle.fof_terms.specs.declared.term.Term.{Term}
 use Rattle.fof_terms.specs.Lift.{lifted_term}
-use Rattle.fof_terms.specs.Scoped.{member_of}
+use Rattle.fof_terms.proofs.Scoped.{member_of}
 use Rattle.clause_form.specs.declared.clause.Lit.{Lit}
 use Rattle.clause_form.specs.declared.clause.Clause.{Clause}
-use Rattle.clause_form.specs.ClauseLaws.{get_image}
+use Rattle.clause_form.proofs.ClauseLaws.{get_image}
 use Rattle.clause_form.specs.Covers.{lit_apart, lit_image, scope_of, is_sorted_atom, AreSorted}
 use Rattle.clause_form.specs.Images.{image, IsImages}
 use Rattle.unify_terms.specs.declared.goal.Goal.{Goal}
@@ -20,11 +20,14 @@ use Rattle.unify_terms.specs.Substitution.{image_at}
 use Rattle.clause_rules.specs.declared.eqfactor_rule.Factor.{Factor}
 use Rattle.clause_rules.specs.declared.joint.Joint.{Joint}
 use Rattle.clause_rules.specs.EqFactorRule.{IsFactored, Factors}
-use Rattle.clause_rules.specs.EqFactorSearch.{factor_needs, FoundFactor}
-use Rattle.clause_rules.specs.JointClauses.{IsJoinedOne}
-use Rattle.clause_rules.specs.Settled.{IsFit, Settles, IsSolution}
+use Rattle.clause_rules.proofs.EqFactorSearchFacts.{factor_needs}
+use Rattle.clause_rules.specs.code.EqFactorSearch.{FoundFactor}
+use Rattle.clause_rules.specs.code.JointClauses.{IsJoinedOne}
+use Rattle.clause_rules.specs.Settled.{IsFit, Settles}
+use Rattle.clause_rules.specs.code.Settled.{IsSolution}
 use Rattle.clause_rules.specs.Steps.{AreCovered, equation, unequal, instances}
-use Rattle.clause_rules.specs.Ways.{MeetsNeeds, goal_of_needs}
+use Rattle.clause_rules.proofs.WaysFacts.{MeetsNeeds}
+use Rattle.clause_rules.specs.code.Ways.{goal_of_needs}
 use Rattle.clause_rules.proofs.Covering.{pair_forth, pair_back, covers_forth, covers_back}
 use Rattle.clause_rules.proofs.Equations.{equation_image, equation_parts, same_sides, map_set}
 use Rattle.clause_rules.proofs.Firsts.{one_at, there_at}

@@ -4,7 +4,8 @@ use Rattle.std.proofs.Common.{sym, subst, ap, get_or, ◌∙◌, arith}
 use Rattle.std.proofs.lemmas.Option.{slice_get_within, slice_get-get_or}
 use Rattle.fof_terms.specs.declared.form.Form.{Form}
 use Rattle.clause_form.specs.declared.path.Parent.{Parent}
-use Rattle.clause_rules.specs.NormRule.{HasNorm, NormsAlike, IsFirstAlike, IsFirstNorm, IsNormStep}
+use Rattle.clause_rules.specs.NormRule.{HasNorm, NormsAlike, IsFirstNorm, IsNormStep}
+use Rattle.clause_rules.specs.code.NormRule.{IsFirstAlike}
 
 pub untrue : (b : Bool) (P : Type 0) → b ≡ false → (IsTrue b ↔ P) → P → ⊥
 untrue b P e h p = let t : IsTrue b = h.1 p in cc

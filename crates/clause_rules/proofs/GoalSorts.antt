@@ -3,22 +3,27 @@ use Rattle.std.specs.Prelude.{ℕ, ◌≡◌, ◌+◌, ◌≤◌, true, nat_lt, 
 use Rattle.std.specs.List.{AllByRecursion, list_all}
 use Rattle.std.proofs.Common.{ap, sym, subst, ◌∙◌, arith, zero, suc, length-append}
 use Rattle.fof_terms.specs.Vocabulary.{Vocabulary}
-use Rattle.fof_terms.specs.Induction.{form_induction}
-use Rattle.fof_terms.specs.Laws.{both, each_true}
-use Rattle.fof_terms.specs.Sorts.{sort_of_term, sort_of_term-Var, is_sorted, is_sorted-And, is_sorted-Or, is_sorted-All}
+use Rattle.fof_terms.proofs.Induction.{form_induction}
+use Rattle.fof_terms.proofs.LiftingLaws.{both, each_true}
+use Rattle.fof_terms.specs.Sorts.{sort_of_term, is_sorted}
+use Rattle.fof_terms.proofs.SortsFacts.{sort_of_term-Var, is_sorted-And, is_sorted-Or, is_sorted-All}
 use Rattle.fof_terms.specs.declared.term.Term.{Term, Var}
 use Rattle.fof_terms.specs.declared.form.Form.{Form, Atom, Eq, Not, And, Or, Imp, Iff, All, Ex}
 use Rattle.clause_form.specs.declared.clause.Lit.{Lit}
-use Rattle.clause_form.specs.ClauseLaws.{atom_sorted}
+use Rattle.clause_form.proofs.ClauseLaws.{atom_sorted}
 use Rattle.clause_form.specs.ClauseView.{view_of}
-use Rattle.clause_form.specs.Images.{image, image_sorted, IsImages}
+use Rattle.clause_form.specs.Images.{image, IsImages}
+use Rattle.clause_form.proofs.ImagesFacts.{image_sorted}
 use Rattle.clause_form.specs.Paths.{plain}
-use Rattle.clause_form.specs.SizeLaws.{sum_cons}
-use Rattle.clause_form.specs.Sizes.{norm_size_of, norm_size_of-And, norm_size_of-Or, norm_size_of-All}
+use Rattle.clause_form.proofs.SizeLaws.{sum_cons}
+use Rattle.clause_form.specs.Sizes.{norm_size_of}
+use Rattle.clause_form.proofs.SizesFacts.{norm_size_of-And, norm_size_of-Or, norm_size_of-All}
 use Rattle.unify_terms.specs.declared.goal.Goal.{Same}
-use Rattle.unify_terms.specs.Goals.{goal_sorted, goal_sorted-All, goal_sorted-Any}
-use Rattle.clause_rules.specs.CoverSearch.{Opening, sorts_of_all, goals_from, over, named, goal_of_lit, opening, opening-And, opening-Or, opening-All}
-use Rattle.clause_rules.specs.Ways.{cover_ways}
+use Rattle.unify_terms.specs.Goals.{goal_sorted}
+use Rattle.unify_terms.proofs.GoalsFacts.{goal_sorted-All, goal_sorted-Any}
+use Rattle.clause_rules.specs.code.CoverSearch.{Opening, sorts_of_all, goals_from, over, named, goal_of_lit, opening}
+use Rattle.clause_rules.proofs.CoverSearchFacts.{opening-And, opening-Or, opening-All}
+use Rattle.clause_rules.specs.code.Ways.{cover_ways}
 use Rattle.clause_rules.proofs.ClauseSorts.{view_fits}
 use Rattle.clause_rules.proofs.NeedSorts.{AllFit, cover_fits, sorted_fits, ways_sorted}
 use Rattle.clause_rules.proofs.Openings.{IsLeaf, atom_leaf, eq_leaf, not_leaf, imp_leaf, iff_leaf, ex_leaf}

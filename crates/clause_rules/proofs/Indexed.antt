@@ -2,7 +2,7 @@
 use Rattle.std.specs.Prelude.{ℕ, ◌≡◌, ◌+◌, ◌<◌, ◌≤◌, List, [], ◌∷◌, ◌++◌, length, take, get_or, refl}
 use Rattle.std.proofs.Common.{ap, sym, ◌∙◌, arith, zero, suc, append_assoc, append-nil, add-one}
 use Rattle.clause_rules.specs.declared.sites.Site.{Site}
-use Rattle.clause_rules.specs.ParamodulationSearch.{indexed, sites_of_places}
+use Rattle.clause_rules.specs.code.ParamodulationSearch.{indexed, sites_of_places}
 use Rattle.clause_rules.proofs.Opened.{taken_snoc, take_all}
 
 indexed_snoc : {X Y : Type 0} (f : ℕ → X → List Y) (n : ℕ) (xs : List X) (x : X) → indexed f n (xs ++ x ∷ []) ≡ indexed f n xs ++ f (n + length xs) x

@@ -5,16 +5,18 @@ use Rattle.std.proofs.lemmas.Bool.{lt-ltb, le-ltb}
 use Rattle.std.proofs.lemmas.List.{length-reverse}
 use Rattle.std.proofs.lemmas.Option.{slice_get_within, slice_get-get_or}
 use Rattle.fof_terms.specs.declared.term.Term.{Term, Var}
-use Rattle.fof_terms.specs.Laws.{below_or_above}
+use Rattle.fof_terms.proofs.LiftingLaws.{below_or_above}
 use Rattle.fof_terms.specs.Lift.{lifted_term}
-use Rattle.fof_terms.specs.Sorts.{sort_of_term, sort_of_term-Var}
+use Rattle.fof_terms.specs.Sorts.{sort_of_term}
+use Rattle.fof_terms.proofs.SortsFacts.{sort_of_term-Var}
 use Rattle.fof_terms.specs.Vocabulary.{Vocabulary}
-use Rattle.fof_terms.specs.Walks.{lifted_sort}
+use Rattle.fof_terms.proofs.Walks.{lifted_sort}
 use Rattle.clause_form.specs.declared.clause.Lit.{Lit}
 use Rattle.clause_form.specs.declared.clause.Clause.{Clause}
 use Rattle.clause_form.specs.Covers.{lit_image, lit_apart, scope_of, AreSorted}
-use Rattle.clause_form.specs.ClauseLaws.{lits_agree, lits_sorted, lits_themselves, sorted_more}
-use Rattle.clause_form.specs.Images.{image, IsImages, AgreeOn}
+use Rattle.clause_form.proofs.ClauseLaws.{lits_agree, lits_sorted, lits_themselves, sorted_more}
+use Rattle.clause_form.specs.Images.{image, IsImages}
+use Rattle.clause_form.proofs.ImagesFacts.{AgreeOn}
 use Rattle.unify_terms.specs.Substitution.{image_at, IsSubstitution}
 use Rattle.clause_rules.specs.Steps.{IsJoint, images_of_parents}
 use Rattle.clause_rules.proofs.LitImages.{image_itself, images_apart}

@@ -8,7 +8,7 @@ use Rattle.fof_terms.specs.declared.term.Term.{Term}
 use Rattle.clause_form.specs.declared.clause.Clause.{Clause}
 use Rattle.clause_form.specs.declared.clause.Lit.{Lit}
 use Rattle.clause_form.specs.Covers.{lit_image, scope_of, is_sorted_atom, IsCovered, CoversBy}
-use Rattle.clause_rules.specs.Screens.{NeverBeside, NeverOthers}
+use Rattle.clause_rules.specs.code.Screens.{NeverBeside, NeverOthers}
 use Rattle.clause_rules.specs.Settled.{IsFit, Settles}
 use Rattle.clause_rules.proofs.Changing.{kept}
 use Rattle.clause_rules.proofs.Factoring.{get_of_map}

@@ -52,3 +52,8 @@ pub mod LeftOver
 pub mod ParamodulationPlaces
 pub mod Unreached
 pub mod Narrowing
+pub mod CoverSearchFacts
+pub mod EqFactorSearchFacts
+pub mod ParamodulationSearchFacts
+pub mod PlaceSearchFacts
+pub mod WaysFacts

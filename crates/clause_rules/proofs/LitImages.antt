@@ -4,13 +4,15 @@ use Rattle.std.proofs.Common.{ap, sym, ◌∙◌}
 use Rattle.std.proofs.lemmas.Simd.{map-map}
 use Rattle.fof_terms.specs.declared.term.Term.{Term, Var}
 use Rattle.fof_terms.specs.Lift.{lifted_term}
-use Rattle.fof_terms.specs.Walks.{TermWalk, same_terms, staying_term}
+use Rattle.fof_terms.proofs.Walks.{TermWalk, same_terms, staying_term}
 use Rattle.clause_form.specs.declared.clause.AtomOf.{AtomOf}
 use Rattle.clause_form.specs.declared.clause.AtomOf.TheVariants.{Pred, Eq, True, False}
 use Rattle.clause_form.specs.declared.clause.Lit.{Lit}
 use Rattle.clause_form.specs.Covers.{at_terms, in_lit, lit_image, lit_apart}
-use Rattle.clause_form.specs.Images.{image, image-Var, image-App, image_of_lifted}
-use Rattle.unify_terms.specs.Substitution.{applied, image_at, instance, applied-Var, applied-App}
+use Rattle.clause_form.specs.Images.{image}
+use Rattle.clause_form.proofs.ImagesFacts.{image-Var, image-App, image_of_lifted}
+use Rattle.unify_terms.specs.Substitution.{applied, image_at, instance}
+use Rattle.unify_terms.proofs.SubstitutionFacts.{applied-Var, applied-App}
 
 pub imaging : (s : ℕ → Term) → TermWalk (image s)
 imaging s = record { app = λ f ts. image-App s f ts }

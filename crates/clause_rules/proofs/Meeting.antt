@@ -9,9 +9,11 @@ use Rattle.unify_terms.specs.declared.goal.Goal.{Goal, Same}
 use Rattle.unify_terms.specs.declared.scope.Scope.{Scope}
 use Rattle.unify_terms.specs.declared.solving.Solution.{Solution}
 use Rattle.unify_terms.specs.Unifiers.{Unifies}
-use Rattle.unify_terms.specs.Goals.{Ways, with_pairs, and_then, each_of, chosen_way, one_of, asked, asked-All, asked-Any, asked-Same, SolvesGoal}
+use Rattle.unify_terms.specs.Goals.{Ways, with_pairs, and_then, each_of, chosen_way, one_of, asked, SolvesGoal}
+use Rattle.unify_terms.proofs.GoalsFacts.{asked-All, asked-Any, asked-Same}
 use Rattle.unify_terms.specs.Substitution.{IsSubstitution}
-use Rattle.clause_rules.specs.Ways.{HasWay, MeetsNeeds, goal_of_need, goal_of_needs}
+use Rattle.clause_rules.specs.code.Ways.{HasWay, goal_of_need, goal_of_needs}
+use Rattle.clause_rules.proofs.WaysFacts.{MeetsNeeds}
 
 pub unifies_both : (images : List Term) (ps qs : List Pair) → Unifies images ps → Unifies images qs → Unifies images (ps ++ qs)
 unifies_both images [] qs h g = g

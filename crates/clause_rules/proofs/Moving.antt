@@ -6,18 +6,18 @@ use Rattle.std.proofs.lemmas.List.{length-reverse}
 use Rattle.std.proofs.lemmas.List.Elements.{All-weaker}
 use Rattle.fof_terms.specs.Vocabulary.{Vocabulary}
 use Rattle.fof_terms.specs.declared.term.Term.{Term}
-use Rattle.fof_terms.specs.Laws.{holds_found, one_found, lift_twice}
+use Rattle.fof_terms.proofs.LiftingLaws.{holds_found, one_found, lift_twice}
 use Rattle.fof_terms.specs.Lift.{greatest, lifted_term, lift_term_reach}
-use Rattle.fof_terms.specs.MoreReaches.{own_reach}
+use Rattle.fof_terms.proofs.MoreReaches.{own_reach}
 use Rattle.fof_terms.specs.Sorts.{sort_of_term}
 use Rattle.clause_form.specs.declared.clause.AtomOf.{AtomOf}
 use Rattle.clause_form.specs.declared.clause.AtomOf.TheVariants.{Pred, Eq, True, False}
 use Rattle.clause_form.specs.declared.clause.Lit.{Lit}
 use Rattle.clause_form.specs.declared.clause.Clause.{Clause}
 use Rattle.clause_form.specs.Covers.{lit_apart, scope_of, is_sorted_atom}
-use Rattle.clause_rules.specs.Reach.{atom_reach}
+use Rattle.clause_rules.specs.code.Reach.{atom_reach}
 use Rattle.clause_rules.specs.declared.joint.Joint.{Joint}
-use Rattle.clause_rules.specs.JointClauses.{IsJoined}
+use Rattle.clause_rules.specs.code.JointClauses.{IsJoined}
 use Rattle.clause_rules.specs.Settled.{IsFit}
 use Rattle.clause_rules.specs.Steps.{scope_of_both}
 use Rattle.clause_rules.proofs.LitImages.{lits_twice}

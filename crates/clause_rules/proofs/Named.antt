@@ -3,15 +3,16 @@
 use Rattle.std.specs.Prelude.{ℕ, ◌≡◌, ◌+◌, ◌-◌, ◌<◌, List, [], ◌∷◌, ◌++◌, length, map, refl}
 use Rattle.std.proofs.Common.{ap, sym, ◌∙◌, arith, zero, suc, inl, inr}
 use Rattle.fof_terms.specs.declared.term.Term.{Term, Var}
-use Rattle.fof_terms.specs.Laws.{below_or_above, stays, moves}
+use Rattle.fof_terms.proofs.LiftingLaws.{below_or_above, stays, moves}
 use Rattle.fof_terms.specs.Lift.{lifted_term}
-use Rattle.fof_terms.specs.Walks.{same_terms, both_terms, lifting_term}
+use Rattle.fof_terms.proofs.Walks.{same_terms, both_terms, lifting_term}
 use Rattle.clause_form.specs.declared.clause.Lit.{Lit}
 use Rattle.clause_form.specs.declared.clause.Clause.{Clause}
 use Rattle.clause_form.specs.Covers.{in_lit, lit_image}
-use Rattle.clause_form.specs.Images.{image, image-Var, image_image, image_of_lifted}
+use Rattle.clause_form.specs.Images.{image}
+use Rattle.clause_form.proofs.ImagesFacts.{image-Var, image_image, image_of_lifted}
 use Rattle.clause_form.specs.Paths.{beside}
-use Rattle.clause_rules.specs.CoverSearch.{over, down}
+use Rattle.clause_rules.specs.code.CoverSearch.{over, down}
 use Rattle.clause_rules.proofs.LitImages.{imaging, lits_twice, lit_twice}
 
 -- functions that agree everywhere are the same

@@ -3,8 +3,8 @@ use Rattle.std.specs.Prelude.{ℕ, ◌≡◌, ◌+◌, ◌-◌, ◌<◌, ◌≤�
 use Rattle.std.proofs.Common.{ap, sym, ◌∙◌, arith, zero, suc}
 use Rattle.std.proofs.lemmas.List.{get_or-reverse, length-reverse, reverse-reverse}
 use Rattle.fof_terms.specs.declared.term.Term.{Var}
-use Rattle.clause_form.specs.Images.{image-Var, image-App}
-use Rattle.clause_rules.specs.CoverSearch.{near, over, down}
+use Rattle.clause_form.proofs.ImagesFacts.{image-Var, image-App}
+use Rattle.clause_rules.specs.code.CoverSearch.{near, over, down}
 use Rattle.clause_rules.proofs.Placed.{reverse_snoc}
 
 pub ruleset image_equations = (image-Var, image-App)

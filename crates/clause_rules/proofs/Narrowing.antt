@@ -5,19 +5,21 @@ use Rattle.std.proofs.Common.{ap, sym, subst, ◌∙◌, zero, suc}
 use Rattle.std.proofs.lemmas.List.{map-append}
 use Rattle.std.proofs.lemmas.List.Concat.{flat_map-cons}
 use Rattle.std.proofs.lemmas.List.Folds.{list_all-append}
-use Rattle.fof_terms.specs.Laws.{both}
+use Rattle.fof_terms.proofs.LiftingLaws.{both}
 use Rattle.fof_terms.specs.Vocabulary.{Vocabulary}
 use Rattle.fof_terms.specs.declared.term.Term.{Term}
 use Rattle.clause_form.specs.declared.clause.Lit.{Lit}
 use Rattle.unify_terms.specs.declared.goal.Goal.{Goal, All}
 use Rattle.unify_terms.specs.declared.pair.Pair.{Pair}
 use Rattle.unify_terms.specs.declared.scope.Scope.{Scope}
-use Rattle.unify_terms.specs.Goals.{pair_sorted, goal_sorted, goal_sorted-All, asked-All, MeetsGoal, SolvesGoal}
+use Rattle.unify_terms.specs.Goals.{pair_sorted, goal_sorted, MeetsGoal, SolvesGoal}
+use Rattle.unify_terms.proofs.GoalsFacts.{goal_sorted-All, asked-All}
 use Rattle.unify_terms.specs.Substitution.{image_at}
-use Rattle.clause_rules.specs.Narrow.{Narrows, NarrowEach, IsNarrow, AreNarrow}
-use Rattle.clause_rules.specs.Screens.{NeverTogether}
-use Rattle.clause_rules.specs.Settled.{IsGuessed, IsSolution}
-use Rattle.clause_rules.specs.Ways.{MeetsNeeds, goal_of_need, goal_of_needs, lit_ways, absurd_ways, cover_ways, cover_needs}
+use Rattle.clause_rules.specs.code.Narrow.{Narrows, NarrowEach, IsNarrow, AreNarrow}
+use Rattle.clause_rules.specs.code.Screens.{NeverTogether}
+use Rattle.clause_rules.specs.code.Settled.{IsGuessed, IsSolution}
+use Rattle.clause_rules.proofs.WaysFacts.{MeetsNeeds}
+use Rattle.clause_rules.specs.code.Ways.{goal_of_need, goal_of_needs, lit_ways, absurd_ways, cover_ways, cover_needs}
 use Rattle.clause_rules.proofs.Covering.{covers_forth, has_first, targets_back}
 use Rattle.clause_rules.proofs.Meeting.{meets_each, met_each, solved_needs}
 use Rattle.clause_rules.proofs.NeedSorts.{NeedFits, NeedsFit, goal_fits, needs_sorted}

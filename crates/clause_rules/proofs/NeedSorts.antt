@@ -7,7 +7,7 @@ use Rattle.std.proofs.lemmas.List.Elements.{recursion_from_All}
 use Rattle.std.proofs.lemmas.List.Concat.{flat_map-cons}
 use Rattle.fof_terms.specs.Vocabulary.{Vocabulary}
 use Rattle.fof_terms.specs.declared.term.Term.{Term}
-use Rattle.fof_terms.specs.Laws.{holds_found, one_found}
+use Rattle.fof_terms.proofs.LiftingLaws.{holds_found, one_found}
 use Rattle.fof_terms.specs.Sorts.{sort_of_term}
 use Rattle.clause_form.specs.declared.clause.AtomOf.{AtomOf}
 use Rattle.clause_form.specs.declared.clause.AtomOf.TheVariants.{Pred, Eq, True, False}
@@ -15,8 +15,9 @@ use Rattle.clause_form.specs.declared.clause.Lit.{Lit}
 use Rattle.clause_form.specs.Covers.{is_sorted_atom, AreSorted}
 use Rattle.unify_terms.specs.declared.pair.Pair.{Pair}
 use Rattle.unify_terms.specs.declared.goal.Goal.{Same}
-use Rattle.unify_terms.specs.Goals.{pair_sorted, goal_sorted, goal_sorted-All, goal_sorted-Any, goal_sorted-Same}
-use Rattle.clause_rules.specs.Ways.{pair_of, zip_pairs, atom_ways, signed_ways, lit_ways, absurd_ways, cover_ways, cover_needs, goal_of_need, goal_of_needs}
+use Rattle.unify_terms.specs.Goals.{pair_sorted, goal_sorted}
+use Rattle.unify_terms.proofs.GoalsFacts.{goal_sorted-All, goal_sorted-Any, goal_sorted-Same}
+use Rattle.clause_rules.specs.code.Ways.{pair_of, zip_pairs, atom_ways, signed_ways, lit_ways, absurd_ways, cover_ways, cover_needs, goal_of_need, goal_of_needs}
 
 module _ (v : Vocabulary) (scope : List ℕ) where
   abbrev pub Found : Term → Type 0

@@ -4,17 +4,19 @@ use Rattle.std.specs.List.{AllByRecursion, list_all}
 use Rattle.std.proofs.Common.{ap, sym, ◌∙◌, inl, inr, ◌⊎◌}
 use Rattle.fof_terms.specs.declared.term.Term.{Var}
 use Rattle.fof_terms.specs.declared.form.Form.{Form}
-use Rattle.fof_terms.specs.Induction.{form_induction}
+use Rattle.fof_terms.proofs.Induction.{form_induction}
 use Rattle.fof_terms.specs.Instance.{instance_at}
-use Rattle.fof_terms.specs.Laws.{both, each_true}
+use Rattle.fof_terms.proofs.LiftingLaws.{both, each_true}
 use Rattle.fof_terms.specs.Lift.{lifted}
-use Rattle.fof_terms.specs.Sorts.{is_sorted, is_sorted-Not, is_sorted-And, is_sorted-Or, is_sorted-Imp, is_sorted-Iff, is_sorted-All, is_sorted-Ex}
-use Rattle.fof_terms.specs.Unused.{unused_back}
+use Rattle.fof_terms.specs.Sorts.{is_sorted}
+use Rattle.fof_terms.proofs.SortsFacts.{is_sorted-Not, is_sorted-And, is_sorted-Or, is_sorted-Imp, is_sorted-Iff, is_sorted-All, is_sorted-Ex}
+use Rattle.fof_terms.proofs.Unused.{unused_back}
 use Rattle.fof_terms.specs.Variables.{has_variable}
 use Rattle.fof_terms.specs.Vocabulary.{Vocabulary}
-use Rattle.fof_terms.specs.Walks.{lifted_fits}
-use Rattle.clause_form.specs.Joined.{Memberwise, join_keeps}
-use Rattle.clause_form.specs.Norm.{signed, node, join, quantifier, quantified, quantified-kept, quantified-dropped, norm_of, norm_of-Atom, norm_of-Eq, norm_of-Not, norm_of-And, norm_of-Or, norm_of-Imp, norm_of-Iff, norm_of-All, norm_of-Ex}
+use Rattle.fof_terms.proofs.Walks.{lifted_fits}
+use Rattle.clause_form.proofs.Joined.{Memberwise, join_keeps}
+use Rattle.clause_form.specs.Norm.{signed, node, join, quantifier, quantified, norm_of}
+use Rattle.clause_form.proofs.NormFacts.{quantified-kept, quantified-dropped, norm_of-Atom, norm_of-Eq, norm_of-Not, norm_of-And, norm_of-Or, norm_of-Imp, norm_of-Iff, norm_of-All, norm_of-Ex}
 
 all_true : {X : Type 0} (f : X → Bool) (xs : List X) → AllByRecursion (λ x. f x ≡ true) xs → list_all f xs ≡ true
 all_true f [] h = refl

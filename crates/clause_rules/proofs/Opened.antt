@@ -5,7 +5,8 @@ use Rattle.fof_terms.specs.declared.term.Term.{Term, Var}
 use Rattle.fof_terms.specs.declared.form.Form.{Form, All}
 use Rattle.clause_form.specs.declared.clause.Lit.{Lit}
 use Rattle.unify_terms.specs.declared.goal.Goal.{Goal}
-use Rattle.clause_rules.specs.CoverSearch.{Opening, near, opened_all, opening, opening-All, goals_from, goal_of_lit, sorts_of_all}
+use Rattle.clause_rules.specs.code.CoverSearch.{Opening, near, opened_all, opening, goals_from, goal_of_lit, sorts_of_all}
+use Rattle.clause_rules.proofs.CoverSearchFacts.{opening-All}
 use Rattle.clause_form.specs.ClauseView.{view_of}
 use Rattle.clause_form.specs.Paths.{plain}
 use Rattle.clause_rules.proofs.Firsts.{ok_map}

@@ -3,15 +3,17 @@ use Rattle.std.specs.Prelude.{ℕ, ◌≡◌, List, [], ◌∷◌, map, Option, 
 use Rattle.std.specs.List.{AllByRecursion}
 use Rattle.std.proofs.Common.{ap, sym, subst, ◌∙◌, inl, inr, ◌⊎◌}
 use Rattle.fof_terms.specs.declared.term.Term.{Term}
-use Rattle.fof_terms.specs.Induction.{form_induction}
+use Rattle.fof_terms.proofs.Induction.{form_induction}
 use Rattle.fof_terms.specs.declared.form.Form.{Form, Atom, Eq, Not, And, Or, Imp, Iff, All, Ex}
 use Rattle.fof_terms.specs.declared.form.Form.TheOpen as form
 use Rattle.fof_terms.specs.declared.form.Form.TheViews.{out-Form, outs-Atom, outs-Eq, outs-Not, outs-Imp, outs-Iff, outs-Ex}
 use Rattle.clause_form.specs.declared.clause.Lit.{Lit}
 use Rattle.clause_form.specs.declared.clause.Clause.{Clause}
-use Rattle.clause_form.specs.ClauseView.{View, view_of, view_step, view_of-Atom, view_of-Eq, view_of-Not, view_of-And, view_of-Or, view_of-Imp, view_of-Iff, view_of-All, view_of-Ex}
+use Rattle.clause_form.specs.ClauseView.{View, view_of, view_step}
+use Rattle.clause_form.proofs.ClauseViewFacts.{view_of-Atom, view_of-Eq, view_of-Not, view_of-And, view_of-Or, view_of-Imp, view_of-Iff, view_of-All, view_of-Ex}
 use Rattle.clause_form.specs.Paths.{plain, pick_in, each_in, under_in}
-use Rattle.clause_rules.specs.CoverSearch.{views, opened_leaf, opening, opening-Atom, opening-Eq, opening-Not, opening-And, opening-Or, opening-Imp, opening-Iff, opening-All, opening-Ex}
+use Rattle.clause_rules.specs.code.CoverSearch.{views, opened_leaf, opening}
+use Rattle.clause_rules.proofs.CoverSearchFacts.{opening-Atom, opening-Eq, opening-Not, opening-And, opening-Or, opening-Imp, opening-Iff, opening-All, opening-Ex}
 
 module _ (line : List Lit) where
   same_views : (as_ : List Form) → AllByRecursion (λ a. (opening line a).view ≡ view_of a) as_ → views (map (opening line) as_) ≡ map view_of as_

@@ -6,25 +6,28 @@ use Rattle.std.proofs.lemmas.Option.{slice_get_within}
 use Rattle.std.proofs.lemmas.List.Elements.{recursion_from_All}
 use Rattle.fof_terms.specs.Vocabulary.{Vocabulary}
 use Rattle.fof_terms.specs.declared.term.Term.{Term}
-use Rattle.fof_terms.specs.Scoped.{member_of}
+use Rattle.fof_terms.proofs.Scoped.{member_of}
 use Rattle.fof_terms.specs.Sorts.{sort_of_term, one_sort}
 use Rattle.clause_form.specs.declared.clause.Lit.{Lit}
 use Rattle.clause_form.specs.declared.clause.Clause.{Clause}
-use Rattle.clause_form.specs.ClauseLaws.{get_image}
+use Rattle.clause_form.proofs.ClauseLaws.{get_image}
 use Rattle.clause_form.specs.Covers.{lit_apart, lit_image, scope_of, is_sorted_atom, AreSorted}
-use Rattle.clause_form.specs.Images.{image, image_sorted, IsImages}
+use Rattle.clause_form.specs.Images.{image, IsImages}
+use Rattle.clause_form.proofs.ImagesFacts.{image_sorted}
 use Rattle.unify_terms.specs.declared.goal.Goal.{Goal}
 use Rattle.unify_terms.specs.declared.pair.Pair.{Pair}
 use Rattle.unify_terms.specs.Goals.{goal_sorted}
 use Rattle.unify_terms.specs.Substitution.{image_at}
 use Rattle.clause_rules.specs.declared.joint.Joint.{Joint}
-use Rattle.clause_rules.specs.JointClauses.{IsJoined}
+use Rattle.clause_rules.specs.code.JointClauses.{IsJoined}
 use Rattle.clause_rules.specs.ParamodulationRule.{IsParamodulant, HasPlace, Paramodulates}
-use Rattle.clause_rules.specs.ParamodulationSearch.{paramodulation_needs}
+use Rattle.clause_rules.proofs.ParamodulationSearchFacts.{paramodulation_needs}
 use Rattle.clause_rules.specs.Places.{lit_term_at, lit_put_at}
-use Rattle.clause_rules.specs.Settled.{IsFit, Settles, IsSolution}
+use Rattle.clause_rules.specs.Settled.{IsFit, Settles}
+use Rattle.clause_rules.specs.code.Settled.{IsSolution}
 use Rattle.clause_rules.specs.Steps.{AreCovered, equation, instances, scope_of_both, apart_from}
-use Rattle.clause_rules.specs.Ways.{MeetsNeeds, goal_of_needs}
+use Rattle.clause_rules.proofs.WaysFacts.{MeetsNeeds}
+use Rattle.clause_rules.specs.code.Ways.{goal_of_needs}
 use Rattle.clause_rules.proofs.Covering.{pair_forth, pair_back, covers_forth, covers_back}
 use Rattle.clause_rules.proofs.Equations.{equation_image, same_sides, map_set}
 use Rattle.clause_rules.proofs.Factoring.{set_fits, equation_fits}

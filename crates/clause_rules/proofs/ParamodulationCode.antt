@@ -16,7 +16,7 @@ use Rattle.clause_rules.specs.declared.sites.Reading.{Reading}
 use Rattle.clause_rules.specs.declared.sites.Site.{Site}
 use Rattle.clause_rules.specs.declared.sites.Spot.{Spot}
 use Rattle.clause_rules.specs.ParamodulationRule.{Paramodulates}
-use Rattle.clause_rules.specs.ParamodulationSearch.{HasSpot, HasEquation, HasClause, ShowsAtSite, NoneAtSite, TriedAtSite, ShowsParamodulation, FoundAtSite, FoundAtSites}
+use Rattle.clause_rules.specs.code.ParamodulationSearch.{HasSpot, HasEquation, HasClause, ShowsAtSite, NoneAtSite, TriedAtSite, ShowsParamodulation, FoundAtSite, FoundAtSites}
 use Rattle.clause_rules.specs.Settled.{Settles}
 use Rattle.clause_rules.specs.Steps.{scope_of_both}
 use Rattle.clause_rules.proofs.Firsts.{one_at, ok_map}

@@ -4,27 +4,28 @@ use Rattle.std.proofs.Common.{ap, sym, subst, ◌∙◌, arith, zero, suc}
 use Rattle.fof_terms.specs.Vocabulary.{Vocabulary}
 use Rattle.fof_terms.specs.declared.term.Term.{Term}
 use Rattle.fof_terms.specs.Lift.{lifted_term}
-use Rattle.fof_terms.specs.Walks.{lifting_term}
+use Rattle.fof_terms.proofs.Walks.{lifting_term}
 use Rattle.clause_form.specs.declared.clause.Lit.{Lit}
 use Rattle.clause_form.specs.declared.clause.Clause.{Clause}
 use Rattle.clause_form.specs.declared.path.Parent.{Parent}
-use Rattle.clause_form.specs.ClauseLaws.{get_image}
+use Rattle.clause_form.proofs.ClauseLaws.{get_image}
 use Rattle.clause_form.specs.ClauseView.{clause_of}
 use Rattle.clause_form.specs.Covers.{lit_apart, lit_image}
-use Rattle.clause_form.specs.Images.{image, image_of_lifted}
+use Rattle.clause_form.specs.Images.{image}
+use Rattle.clause_form.proofs.ImagesFacts.{image_of_lifted}
 use Rattle.fof_terms.specs.declared.form.Form.{Form}
 use Rattle.clause_rules.specs.declared.joint.Joint.{Joint}
 use Rattle.clause_rules.specs.declared.just.Just.{Just}
 use Rattle.clause_rules.specs.declared.just.Just.TheVariants.{Paramodulation}
 use Rattle.clause_rules.specs.declared.sites.Reading.{Reading}
 use Rattle.clause_rules.specs.Answers.{IsAnswer, paramodulation, rule_of}
-use Rattle.clause_rules.specs.JointClauses.{IsJoined}
+use Rattle.clause_rules.specs.code.JointClauses.{IsJoined}
 use Rattle.clause_rules.specs.Justified.{Shows}
 use Rattle.clause_rules.specs.ParamodulationRule.{HasPlace, Paramodulates}
-use Rattle.clause_rules.specs.ParamodulationSearch.{sites_of_places, sites_of_lits, sites_of_slot, sites_from, readings_of_atom, readings_of_lits, readings_of_slot, readings_from, HasSpot, HasEquation, FoundInClauses}
+use Rattle.clause_rules.specs.code.ParamodulationSearch.{sites_of_places, sites_of_lits, sites_of_slot, sites_from, readings_of_atom, readings_of_lits, readings_of_slot, readings_from, HasSpot, HasEquation, FoundInClauses}
 use Rattle.clause_rules.specs.Places.{lit_term_at}
-use Rattle.clause_rules.specs.PlaceSearch.{places_of}
-use Rattle.clause_rules.specs.Screens.{NeverEqual}
+use Rattle.clause_rules.specs.code.PlaceSearch.{places_of}
+use Rattle.clause_rules.specs.code.Screens.{NeverEqual}
 use Rattle.clause_rules.specs.Steps.{equation, instances, apart_from, clauses_of}
 use Rattle.clause_rules.proofs.Equations.{equation_image, equation_parts, same_sides}
 use Rattle.clause_rules.proofs.Factoring.{get_of_map, get_lifted}

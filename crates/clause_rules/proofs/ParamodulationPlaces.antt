@@ -4,7 +4,7 @@ use Rattle.std.proofs.Common.{ap, sym, subst, ◌∙◌, arith}
 use Rattle.std.proofs.lemmas.Option.{slice_get_within}
 use Rattle.fof_terms.specs.Vocabulary.{Vocabulary}
 use Rattle.fof_terms.specs.declared.term.Term.{Term}
-use Rattle.clause_form.specs.ClauseLaws.{get_image}
+use Rattle.clause_form.proofs.ClauseLaws.{get_image}
 use Rattle.clause_form.specs.declared.clause.Clause.{Clause}
 use Rattle.clause_form.specs.declared.clause.Lit.{Lit}
 use Rattle.clause_form.specs.Covers.{lit_image, scope_of}
@@ -12,10 +12,10 @@ use Rattle.clause_rules.specs.declared.just.Just.{Just}
 use Rattle.clause_rules.specs.declared.sites.Reading.{Reading}
 use Rattle.clause_rules.specs.declared.sites.Site.{Site}
 use Rattle.clause_rules.specs.ParamodulationRule.{HasPlace, Paramodulates}
-use Rattle.clause_rules.specs.ParamodulationSearch.{sites_of_places, FoundAtSites, FoundAtLit, FoundInClause, FoundInClauses}
+use Rattle.clause_rules.specs.code.ParamodulationSearch.{sites_of_places, FoundAtSites, FoundAtLit, FoundInClause, FoundInClauses}
 use Rattle.clause_rules.specs.Places.{lit_put_at, lit_term_at}
-use Rattle.clause_rules.specs.PlaceSearch.{places_of}
-use Rattle.clause_rules.specs.Screens.{NeverBeside}
+use Rattle.clause_rules.specs.code.PlaceSearch.{places_of}
+use Rattle.clause_rules.specs.code.Screens.{NeverBeside}
 use Rattle.clause_rules.specs.Steps.{apart_from, instances}
 use Rattle.clause_rules.proofs.LeftOver.{left_over}
 use Rattle.clause_rules.proofs.Changing.{before, set_other}

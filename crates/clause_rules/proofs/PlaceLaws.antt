@@ -2,8 +2,8 @@
 use Rattle.std.specs.Prelude.{ℕ, ◌≡◌, ◌+◌, List, [], ◌∷◌, ◌++◌, map, slice_get, slice_set, Option, Some, None, refl}
 use Rattle.std.specs.List.{AllByRecursion}
 use Rattle.std.proofs.Common.{ap, sym, subst, ◌∙◌, arith, zero, suc, append_assoc, append-nil}
-use Rattle.fof_terms.specs.Induction.{term_induction}
-use Rattle.fof_terms.specs.Walks.{TermWalk}
+use Rattle.fof_terms.proofs.Induction.{term_induction}
+use Rattle.fof_terms.proofs.Walks.{TermWalk}
 use Rattle.fof_terms.specs.declared.term.Term.{Term, Var, App}
 use Rattle.fof_terms.specs.declared.term.Term.TheViews.{outs-Var, outs-App}
 use Rattle.clause_form.specs.declared.clause.AtomOf.{AtomOf}
@@ -11,7 +11,8 @@ use Rattle.clause_form.specs.declared.clause.AtomOf.TheVariants.{Pred, Eq, True,
 use Rattle.clause_form.specs.declared.clause.Lit.{Lit}
 use Rattle.clause_form.specs.Covers.{at_terms, in_lit}
 use Rattle.clause_rules.specs.Places.{args_of, args_of_layer, with_args, with_args_layer, down_into, term_at, down_with, put_at, args_of_atom, sides_of, atom_with_args, lit_term_at, lit_put_at}
-use Rattle.clause_rules.specs.PlaceSearch.{numbered, places_within, places_within-Var, places_within-App, places_of, go_on, below, set_on, put_below}
+use Rattle.clause_rules.specs.code.PlaceSearch.{numbered, places_within, places_of, go_on, below, set_on, put_below}
+use Rattle.clause_rules.proofs.PlaceSearchFacts.{places_within-Var, places_within-App}
 use Rattle.clause_rules.proofs.Equations.{map_set}
 
 pub args_of-Var : (k : ℕ) → args_of (Var k) ≡ []

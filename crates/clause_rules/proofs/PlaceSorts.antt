@@ -2,18 +2,19 @@
 use Rattle.std.specs.Prelude.{ℕ, ◌≡◌, true, List, [], ◌∷◌, map, slice_get, slice_set, Option, Some, refl}
 use Rattle.std.specs.List.{AllByRecursion}
 use Rattle.std.proofs.Common.{ap, sym, subst, ◌∙◌, zero, suc}
-use Rattle.fof_terms.specs.Laws.{applied_found}
-use Rattle.fof_terms.specs.Scoped.{member_of}
+use Rattle.fof_terms.proofs.LiftingLaws.{applied_found}
+use Rattle.fof_terms.proofs.Scoped.{member_of}
 use Rattle.clause_rules.proofs.NeedSorts.{Fits, Found, sorted_fits}
 use Rattle.fof_terms.specs.Vocabulary.{Vocabulary}
 use Rattle.fof_terms.specs.declared.term.Term.{Term, App}
-use Rattle.fof_terms.specs.Sorts.{applied, sort_of_term, sort_of_term-App, one_sort, holds_of}
+use Rattle.fof_terms.specs.Sorts.{applied, sort_of_term, one_sort, holds_of}
+use Rattle.fof_terms.proofs.SortsFacts.{sort_of_term-App}
 use Rattle.clause_form.specs.declared.clause.AtomOf.{AtomOf}
 use Rattle.clause_form.specs.declared.clause.AtomOf.TheVariants.{Pred, Eq, True, False}
 use Rattle.clause_form.specs.declared.clause.Lit.{Lit}
 use Rattle.clause_form.specs.Covers.{is_sorted_atom}
 use Rattle.clause_rules.specs.Places.{args_of, with_args, term_at, put_at, args_of_atom, sides_of, atom_with_args, lit_term_at, lit_put_at}
-use Rattle.clause_rules.specs.PlaceSearch.{go_on, below, set_on, put_below}
+use Rattle.clause_rules.specs.code.PlaceSearch.{go_on, below, set_on, put_below}
 use Rattle.clause_rules.proofs.PlaceLaws.{args_of-App, with_args-App, term_below, put_is_below, shape_of, found_on}
 
 -- one element changed to one with the same value

@@ -7,23 +7,25 @@ use Rattle.std.proofs.Common.{ap, sym, subst, ◌∙◌, arith, zero, suc, appen
 use Rattle.std.proofs.lemmas.List.{reverse-append, length-reverse}
 use Rattle.std.proofs.lemmas.List.Elements.{All-append, All-cons, All-nil}
 use Rattle.fof_terms.specs.Vocabulary.{Vocabulary}
-use Rattle.fof_terms.specs.Induction.{form_induction}
-use Rattle.fof_terms.specs.Laws.{both, each_true}
+use Rattle.fof_terms.proofs.Induction.{form_induction}
+use Rattle.fof_terms.proofs.LiftingLaws.{both, each_true}
 use Rattle.fof_terms.specs.Lift.{lifted_term}
-use Rattle.fof_terms.specs.Scoped.{member_of}
-use Rattle.fof_terms.specs.Sorts.{sort_of_term, is_sorted, is_sorted-And, is_sorted-Or, is_sorted-All}
-use Rattle.fof_terms.specs.Walks.{lifted_sort}
+use Rattle.fof_terms.proofs.Scoped.{member_of}
+use Rattle.fof_terms.specs.Sorts.{sort_of_term, is_sorted}
+use Rattle.fof_terms.proofs.SortsFacts.{is_sorted-And, is_sorted-Or, is_sorted-All}
+use Rattle.fof_terms.proofs.Walks.{lifted_sort}
 use Rattle.fof_terms.specs.declared.form.Form.{Form, Atom, Eq, Not, And, Or, Imp, Iff, All, Ex}
 use Rattle.fof_terms.specs.declared.form.Form.TheViews.{out-Form, outs-And, outs-Or, outs-All}
 use Rattle.clause_form.specs.declared.path.Path.{Path, Leaf}
 use Rattle.clause_form.specs.declared.clause.Lit.{Lit}
 use Rattle.clause_form.specs.declared.clause.Clause.{Clause}
-use Rattle.clause_form.specs.ClauseLaws.{lits_sorted}
+use Rattle.clause_form.proofs.ClauseLaws.{lits_sorted}
 use Rattle.clause_form.specs.ClauseView.{view_of, alone_lit, open_clause, within}
 use Rattle.clause_form.specs.Covers.{in_lit, is_sorted_atom, AreSorted}
 use Rattle.clause_form.specs.Paths.{plain, is_plain, reached, all_beside, each_reaches, at_member, pick_in, each_in, under_in}
-use Rattle.clause_form.specs.SizeLaws.{sum_cons}
-use Rattle.clause_form.specs.Sizes.{norm_size_of, norm_size_of-And, norm_size_of-Or, norm_size_of-All}
+use Rattle.clause_form.proofs.SizeLaws.{sum_cons}
+use Rattle.clause_form.specs.Sizes.{norm_size_of}
+use Rattle.clause_form.proofs.SizesFacts.{norm_size_of-And, norm_size_of-Or, norm_size_of-All}
 use Rattle.clause_rules.proofs.ClauseSorts.{view_fits}
 use Rattle.clause_rules.proofs.CoverGiven.{nothing_there, mapped, more_parts}
 use Rattle.clause_rules.proofs.Openings.{no_pick, no_each, no_under, IsLeafLayer, and_no_lit, or_no_lit, all_no_lit, atom_leaf, eq_leaf, not_leaf, imp_leaf, iff_leaf, ex_leaf}

@@ -5,8 +5,8 @@ use Rattle.std.proofs.lemmas.List.{map-append}
 use Rattle.std.proofs.lemmas.Simd.{map-map}
 use Rattle.clause_form.specs.declared.clause.Lit.{Lit}
 use Rattle.unify_terms.specs.declared.goal.Goal.{Goal, All, Any, Same}
-use Rattle.clause_rules.specs.ResolutionSearch.{resolution_needs}
-use Rattle.clause_rules.specs.Ways.{lit_ways, cover_ways, cover_needs, goal_of_need, goal_of_needs}
+use Rattle.clause_rules.specs.code.ResolutionSearch.{resolution_needs}
+use Rattle.clause_rules.specs.code.Ways.{lit_ways, cover_ways, cover_needs, goal_of_need, goal_of_needs}
 
 -- the goals of literals that are to be covered
 pub covered_goals : (targets lits : List Lit) → map (λ k. goal_of_need (cover_ways targets k)) lits ≡ map goal_of_need (cover_needs targets lits)

@@ -6,7 +6,7 @@ use Rattle.std.proofs.lemmas.List.Elements.{recursion_from_All}
 use Rattle.fof_terms.specs.Vocabulary.{Vocabulary}
 use Rattle.fof_terms.specs.declared.form.Form.{Form}
 use Rattle.fof_terms.specs.declared.term.Term.{Term}
-use Rattle.fof_terms.specs.Scoped.{member_of}
+use Rattle.fof_terms.proofs.Scoped.{member_of}
 use Rattle.clause_form.specs.declared.clause.Clause.{Clause}
 use Rattle.clause_form.specs.declared.path.Parent.{Parent}
 use Rattle.clause_form.specs.ClauseView.{clause_of}
@@ -16,9 +16,9 @@ use Rattle.clause_rules.specs.declared.resolution_rule.Found.{Found}
 use Rattle.clause_rules.specs.Answers.{IsAnswer, resolution, rule_of}
 use Rattle.clause_rules.specs.Justified.{Shows}
 use Rattle.clause_rules.specs.ResolutionRule.{Resolves}
-use Rattle.clause_rules.specs.ResolutionSearch.{ResolvesWith, ResolvesFrom, ShowsWith, ShowsFrom, FoundAt, FoundInSlot, FoundPivot, FoundWith, FoundFrom, FoundAmong}
-use Rattle.clause_rules.specs.Screens.{NeverPivot}
-use Rattle.clause_rules.specs.Settled.{IsSlotFit, AllFit}
+use Rattle.clause_rules.specs.code.ResolutionSearch.{ResolvesWith, ResolvesFrom, ShowsWith, ShowsFrom, FoundAt, FoundInSlot, FoundPivot, FoundWith, FoundFrom, FoundAmong}
+use Rattle.clause_rules.specs.code.Screens.{NeverPivot}
+use Rattle.clause_rules.specs.code.Settled.{IsSlotFit, AllFit}
 use Rattle.clause_rules.specs.Steps.{IsReady, AreReady, clauses_of}
 use Rattle.clause_rules.proofs.ClauseSorts.{clause_sorted}
 use Rattle.clause_rules.proofs.Firsts.{one_at}

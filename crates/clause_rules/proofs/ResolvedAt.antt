@@ -8,20 +8,22 @@ use Rattle.fof_terms.specs.Vocabulary.{Vocabulary}
 use Rattle.fof_terms.specs.declared.term.Term.{Term}
 use Rattle.clause_form.specs.declared.clause.Lit.{Lit}
 use Rattle.clause_form.specs.declared.clause.Clause.{Clause}
-use Rattle.clause_form.specs.ClauseLaws.{get_image}
+use Rattle.clause_form.proofs.ClauseLaws.{get_image}
 use Rattle.clause_form.specs.Covers.{lit_apart, lit_image, scope_of, is_sorted_atom, AreSorted, AreComplementary}
 use Rattle.unify_terms.specs.declared.goal.Goal.{Goal}
 use Rattle.unify_terms.specs.Goals.{goal_sorted}
 use Rattle.unify_terms.specs.Substitution.{image_at}
 use Rattle.clause_rules.specs.declared.joint.Joint.{Joint}
 use Rattle.clause_rules.specs.declared.resolution_rule.Found.{Found}
-use Rattle.clause_rules.specs.JointClauses.{IsJoined}
+use Rattle.clause_rules.specs.code.JointClauses.{IsJoined}
 use Rattle.clause_rules.specs.ResolutionRule.{IsResolvent, Resolves}
-use Rattle.clause_rules.specs.ResolutionSearch.{resolution_needs, NeverResolves, AsksAt, FoundAt}
-use Rattle.clause_rules.specs.Screens.{NeverClash, NeverPivot}
-use Rattle.clause_rules.specs.Settled.{IsFit, Settles, IsSolution}
+use Rattle.clause_rules.specs.code.ResolutionSearch.{resolution_needs, NeverResolves, AsksAt, FoundAt}
+use Rattle.clause_rules.specs.code.Screens.{NeverClash, NeverPivot}
+use Rattle.clause_rules.specs.Settled.{IsFit, Settles}
+use Rattle.clause_rules.specs.code.Settled.{IsSolution}
 use Rattle.clause_rules.specs.Steps.{scope_of_both, apart_from, instances, IsJoint}
-use Rattle.clause_rules.specs.Ways.{MeetsNeeds, cover_needs}
+use Rattle.clause_rules.proofs.WaysFacts.{MeetsNeeds}
+use Rattle.clause_rules.specs.code.Ways.{cover_needs}
 use Rattle.clause_rules.proofs.Firsts.{one_at}
 use Rattle.clause_rules.proofs.JointImages.{sorted_further, sorted_apart, made, made_joint, parents_images}
 use Rattle.clause_rules.proofs.LitImages.{images_apart}

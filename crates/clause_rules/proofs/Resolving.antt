@@ -4,13 +4,14 @@ use Rattle.std.proofs.Common.{sym, subst}
 use Rattle.std.proofs.lemmas.List.{map-append}
 use Rattle.fof_terms.specs.declared.term.Term.{Term}
 use Rattle.clause_form.specs.declared.clause.Lit.{Lit}
-use Rattle.clause_form.specs.ClauseLaws.{get_image}
+use Rattle.clause_form.proofs.ClauseLaws.{get_image}
 use Rattle.clause_form.specs.Covers.{lit_image, AreComplementary}
 use Rattle.unify_terms.specs.Substitution.{image_at}
 use Rattle.clause_rules.specs.ResolutionRule.{IsResolvent}
-use Rattle.clause_rules.specs.ResolutionSearch.{resolution_needs}
+use Rattle.clause_rules.specs.code.ResolutionSearch.{resolution_needs}
 use Rattle.clause_rules.specs.Steps.{AreCovered}
-use Rattle.clause_rules.specs.Ways.{MeetsNeeds, cover_needs}
+use Rattle.clause_rules.proofs.WaysFacts.{MeetsNeeds}
+use Rattle.clause_rules.specs.code.Ways.{cover_needs}
 use Rattle.clause_rules.proofs.Covering.{lit_forth, lit_back, covers_forth, covers_back, needs_parts, needs_both}
 use Rattle.clause_rules.proofs.Firsts.{one_at}
 

@@ -12,7 +12,7 @@ use Rattle.fof_terms.specs.Lift.{lifted_term}
 use Rattle.clause_form.specs.declared.clause.Lit.{Lit}
 use Rattle.clause_form.specs.declared.clause.Clause.{Clause}
 use Rattle.clause_form.specs.declared.path.Parent.{Parent}
-use Rattle.clause_form.specs.ClauseLaws.{get_image}
+use Rattle.clause_form.proofs.ClauseLaws.{get_image}
 use Rattle.clause_form.specs.ClauseView.{clause_of}
 use Rattle.clause_form.specs.Covers.{lit_apart, lit_image, scope_of, is_sorted_atom, AreSorted, CoversBy, IsCovered}
 use Rattle.clause_form.specs.Images.{image, IsImages}
@@ -29,17 +29,18 @@ use Rattle.clause_rules.specs.declared.rewrite_rule.Rewriting.{Rewriting}
 use Rattle.clause_rules.specs.declared.sites.Reading.{Reading}
 use Rattle.clause_rules.specs.declared.sites.Site.{Site}
 use Rattle.clause_rules.specs.Answers.{IsAnswer, rewrite, rule_of}
-use Rattle.clause_rules.specs.JointClauses.{IsJoinedOne}
+use Rattle.clause_rules.specs.code.JointClauses.{IsJoinedOne}
 use Rattle.clause_rules.specs.Justified.{Shows}
-use Rattle.clause_rules.specs.ParamodulationSearch.{HasEquation, sites_from, readings_from}
+use Rattle.clause_rules.specs.code.ParamodulationSearch.{HasEquation, sites_from, readings_from}
 use Rattle.clause_rules.specs.Places.{lit_term_at}
-use Rattle.clause_rules.specs.Reach.{atom_reach}
+use Rattle.clause_rules.specs.code.Reach.{atom_reach}
 use Rattle.clause_rules.specs.RewriteRule.{AreLitsRewritten, Rewrites}
-use Rattle.clause_rules.specs.RewriteSearch.{NoRewriting, IsRewriting, SettlesRewriting, NoRewritingAt, ShowsRewritingAt, TriedRewriting, ShowsRewriting, RewritesAtSite, RewritesAtSites}
-use Rattle.clause_rules.specs.Screens.{NeverEqual}
-use Rattle.clause_rules.specs.Settled.{IsFit, Settles, IsSolution}
+use Rattle.clause_rules.specs.code.RewriteSearch.{NoRewriting, IsRewriting, SettlesRewriting, NoRewritingAt, ShowsRewritingAt, TriedRewriting, ShowsRewriting, RewritesAtSite, RewritesAtSites}
+use Rattle.clause_rules.specs.code.Screens.{NeverEqual}
+use Rattle.clause_rules.specs.Settled.{IsFit, Settles}
+use Rattle.clause_rules.specs.code.Settled.{IsSolution}
 use Rattle.clause_rules.specs.Steps.{AreCovered, equation, instances, clauses_of, scope_of_both}
-use Rattle.clause_rules.specs.Ways.{cover_needs, goal_of_needs}
+use Rattle.clause_rules.specs.code.Ways.{cover_needs, goal_of_needs}
 use Rattle.clause_rules.proofs.Covering.{covers_forth, covers_back}
 use Rattle.clause_rules.proofs.Equations.{equation_image, same_sides}
 use Rattle.clause_rules.proofs.Factoring.{get_of_map, no_lits}

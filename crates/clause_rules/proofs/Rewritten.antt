@@ -3,10 +3,11 @@ use Rattle.std.specs.Prelude.{ℕ, true, ◌≡◌, ◌≢◌, ◌+◌, ◌<◌,
 use Rattle.std.specs.List.{AllByRecursion}
 use Rattle.std.proofs.Common.{ap, sym, subst, ◌∙◌, inl, inr, ◌⊎◌, add-one}
 use Rattle.fof_terms.specs.Vocabulary.{Vocabulary}
-use Rattle.fof_terms.specs.Induction.{term_induction}
-use Rattle.fof_terms.specs.Laws.{applied_found}
-use Rattle.fof_terms.specs.Walks.{TermWalk}
-use Rattle.fof_terms.specs.Sorts.{applied, holds_of, one_sort, sort_of_term, sort_of_term-Var, sort_of_term-App}
+use Rattle.fof_terms.proofs.Induction.{term_induction}
+use Rattle.fof_terms.proofs.LiftingLaws.{applied_found}
+use Rattle.fof_terms.proofs.Walks.{TermWalk}
+use Rattle.fof_terms.specs.Sorts.{applied, holds_of, one_sort, sort_of_term}
+use Rattle.fof_terms.proofs.SortsFacts.{sort_of_term-Var, sort_of_term-App}
 use Rattle.fof_terms.specs.declared.term.Term.{Term, Var, App}
 use Rattle.fof_terms.specs.declared.term.Term.TheOpen as term
 use Rattle.fof_terms.specs.declared.term.Term.TheViews.{out-Term, outs-Var, outs-App}

@@ -9,22 +9,23 @@ use Rattle.fof_terms.specs.Vocabulary.{Vocabulary}
 use Rattle.fof_terms.specs.declared.term.Term.{Term, Var}
 use Rattle.fof_terms.specs.Lift.{lifted_term}
 use Rattle.fof_terms.specs.Sorts.{sort_of_term}
-use Rattle.fof_terms.specs.Walks.{lifted_sort}
+use Rattle.fof_terms.proofs.Walks.{lifted_sort}
 use Rattle.clause_form.specs.declared.clause.Lit.{Lit}
 use Rattle.clause_form.specs.declared.clause.Clause.{Clause}
-use Rattle.clause_form.specs.ClauseLaws.{get_image, images_then, sorted_more}
+use Rattle.clause_form.proofs.ClauseLaws.{get_image, images_then, sorted_more}
 use Rattle.clause_form.specs.Covers.{lit_apart, lit_image, scope_of, is_sorted_atom, AreSorted, CoversBy, IsCovered}
-use Rattle.clause_form.specs.Images.{image, image-Var, image_image, image_of_lifted, image_agrees, image_sorted, IsImages, AgreeOn}
+use Rattle.clause_form.specs.Images.{image, IsImages}
+use Rattle.clause_form.proofs.ImagesFacts.{image-Var, image_image, image_of_lifted, image_agrees, image_sorted, AgreeOn}
 use Rattle.unify_terms.specs.declared.pair.Pair.{Pair}
 use Rattle.unify_terms.specs.Substitution.{image_at, instance, IsSubstitution}
 use Rattle.unify_terms.specs.Unifiers.{Unified, Unifies, IsMostGeneral, AreSorted as ArePairsSorted}
 use Rattle.clause_rules.specs.declared.joint.Joint.{Joint}
-use Rattle.clause_rules.specs.JointClauses.{IsJoinedOne}
+use Rattle.clause_rules.specs.code.JointClauses.{IsJoinedOne}
 use Rattle.clause_rules.specs.RewriteRule.{AreLitsRewritten, Rewrites, StandsIn}
-use Rattle.clause_rules.specs.RewriteSearch.{IsRewriting, SettlesRewriting}
+use Rattle.clause_rules.specs.code.RewriteSearch.{IsRewriting, SettlesRewriting}
 use Rattle.clause_rules.specs.Settled.{IsFit, Settles}
 use Rattle.clause_rules.specs.Steps.{equation, images_of_parents, IsJoint}
-use Rattle.clause_rules.specs.Ways.{pair_of}
+use Rattle.clause_rules.specs.code.Ways.{pair_of}
 use Rattle.clause_rules.proofs.Equations.{equation_parts, same_sides}
 use Rattle.clause_rules.proofs.Factoring.{equation_fits}
 use Rattle.clause_rules.proofs.JointImages.{made, made_joint, made_agrees, parents_images, sorted_further}

@@ -2,11 +2,12 @@
 use Rattle.std.specs.Prelude.{ℕ, ◌≡◌, List, [], ◌∷◌, length, map, slice_get, refl}
 use Rattle.std.specs.List.{AllByRecursion}
 use Rattle.std.proofs.Common.{ap, sym, ◌∙◌, zero, suc}
-use Rattle.fof_terms.specs.Induction.{form_induction}
+use Rattle.fof_terms.proofs.Induction.{form_induction}
 use Rattle.fof_terms.specs.declared.term.Term.{Term, Var}
 use Rattle.fof_terms.specs.declared.form.Form.{Form, Atom, Eq, Not, Imp, Iff, Ex}
 use Rattle.clause_form.specs.declared.clause.Lit.{Lit}
-use Rattle.clause_rules.specs.CoverSearch.{Taking, Taken, Opening, picked, take_at, with_choices, take_pick, first_taken, take_each, all_taken, within_taken, with_sort, opening, opening-And, opening-Or, opening-All}
+use Rattle.clause_rules.specs.code.CoverSearch.{Taking, Taken, Opening, picked, take_at, with_choices, take_pick, first_taken, take_each, all_taken, within_taken, with_sort, opening}
+use Rattle.clause_rules.proofs.CoverSearchFacts.{opening-And, opening-Or, opening-All}
 use Rattle.clause_rules.proofs.Named.{alike}
 use Rattle.clause_rules.proofs.Openings.{IsLeaf, atom_leaf, eq_leaf, not_leaf, imp_leaf, iff_leaf, ex_leaf}
 

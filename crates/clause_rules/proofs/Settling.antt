@@ -6,16 +6,18 @@ use Rattle.fof_terms.specs.Vocabulary.{Vocabulary}
 use Rattle.fof_terms.specs.declared.term.Term.{Term}
 use Rattle.clause_form.specs.declared.clause.Lit.{Lit}
 use Rattle.clause_form.specs.declared.clause.Clause.{Clause}
-use Rattle.clause_form.specs.ClauseLaws.{lits_agree}
+use Rattle.clause_form.proofs.ClauseLaws.{lits_agree}
 use Rattle.clause_form.specs.Covers.{lit_image, lit_apart, scope_of, AreSorted}
 use Rattle.clause_form.specs.Images.{IsImages}
 use Rattle.unify_terms.specs.Substitution.{image_at, IsSubstitution}
 use Rattle.unify_terms.specs.declared.goal.Goal.{Goal}
 use Rattle.unify_terms.specs.declared.pair.Pair.{Pair}
 use Rattle.unify_terms.specs.declared.scope.Scope.{Scope}
-use Rattle.clause_rules.specs.Settled.{Settles, IsSolution}
+use Rattle.clause_rules.specs.Settled.{Settles}
+use Rattle.clause_rules.specs.code.Settled.{IsSolution}
 use Rattle.clause_rules.specs.Steps.{images_of_parents, instances, IsJoint}
-use Rattle.clause_rules.specs.Ways.{MeetsNeeds, goal_of_needs}
+use Rattle.clause_rules.proofs.WaysFacts.{MeetsNeeds}
+use Rattle.clause_rules.specs.code.Ways.{goal_of_needs}
 use Rattle.clause_rules.proofs.JointImages.{made, made_joint, made_agrees, line_stays, parents_stay, parents_images}
 use Rattle.clause_rules.proofs.Meeting.{solved_needs, unsolved_needs}
 

@@ -10,8 +10,9 @@ use Rattle.clause_form.specs.Paths.{plain}
 use Rattle.clause_form.specs.declared.clause.Lit.{Lit}
 use Rattle.clause_form.specs.declared.path.Path.{Path, Leaf, Pick, Under}
 use Rattle.clause_rules.specs.declared.taking.Taking.{Taking as State}
-use Rattle.clause_rules.specs.CoverFound.{state_of, begun, IsTaken}
-use Rattle.clause_rules.specs.CoverSearch.{Taking, Taken, TakenAll, Opening, near, down, named, take_leaf, take_at, take_pick, take_each, first_taken, picked, with_choices, with_sort, opening, opening-All, opened_all}
+use Rattle.clause_rules.specs.code.CoverFound.{state_of, begun, IsTaken}
+use Rattle.clause_rules.specs.code.CoverSearch.{Taking, Taken, TakenAll, Opening, near, down, named, take_leaf, take_at, take_pick, take_each, first_taken, picked, with_choices, with_sort, opening, opened_all}
+use Rattle.clause_rules.proofs.CoverSearchFacts.{opening-All}
 use Rattle.clause_rules.proofs.Firsts.{ok_map}
 use Rattle.clause_rules.proofs.Names.{near_more}
 use Rattle.clause_rules.proofs.Opened.{mapped_more, take_all, popped}

@@ -6,10 +6,10 @@ use Rattle.fof_terms.specs.declared.term.Term.{Term, Var}
 use Rattle.clause_form.specs.declared.clause.AtomOf.{AtomOf}
 use Rattle.clause_form.specs.declared.clause.AtomOf.TheVariants.{Pred, Eq, True, False}
 use Rattle.clause_form.specs.declared.clause.Lit.{Lit}
-use Rattle.clause_form.specs.ClauseLaws.{get_image}
+use Rattle.clause_form.proofs.ClauseLaws.{get_image}
 use Rattle.clause_form.specs.Covers.{at_terms, lit_image, IsSame, Denies, IsCovered}
 use Rattle.clause_form.specs.Images.{image}
-use Rattle.clause_rules.specs.Screens.{Stays, NeverEqual, NeverSame, NeverBecomes, NeverClash, NeverAbsurd, NeverAll, NeverCovered, NeverStays, NeverPivot, NeverOthers, NeverAmong, NeverTogether}
+use Rattle.clause_rules.specs.code.Screens.{Stays, NeverEqual, NeverSame, NeverBecomes, NeverClash, NeverAbsurd, NeverAll, NeverCovered, NeverStays, NeverPivot, NeverOthers, NeverAmong, NeverTogether}
 use Rattle.clause_rules.proofs.Firsts.{one_at}
 use Rattle.clause_rules.proofs.LitImages.{image_itself, same_maps}
 

@@ -9,9 +9,10 @@ use Rattle.fof_terms.specs.declared.term.Term.TheViews.{out-Term, outs-Var, outs
 use Rattle.clause_form.specs.declared.clause.AtomOf.{AtomOf}
 use Rattle.clause_form.specs.declared.clause.AtomOf.TheVariants.{Pred, Eq, True, False}
 use Rattle.clause_form.specs.Covers.{at_terms, IsSameAtom}
-use Rattle.clause_form.specs.Images.{image, image-App}
-use Rattle.clause_rules.specs.Heads.{is_same_head}
-use Rattle.clause_rules.specs.Screens.{Stays, NeverEqual, NeverEquals, NeverSame}
+use Rattle.clause_form.specs.Images.{image}
+use Rattle.clause_form.proofs.ImagesFacts.{image-App}
+use Rattle.clause_rules.specs.code.Heads.{is_same_head}
+use Rattle.clause_rules.specs.code.Screens.{Stays, NeverEqual, NeverEquals, NeverSame}
 
 apps : (f g : ℕ) (ts us : List Term) → App f ts ≡ App g us → (f ≡ g) × (ts ≡ us)
 apps f g ts us e = let layers : term.App f ts ≡ term.App g us = sym (outs-App f ts) ∙ ap out-Term e ∙ outs-App g us in (cc, cc)

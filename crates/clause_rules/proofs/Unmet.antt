@@ -3,7 +3,7 @@ use Rattle.std.specs.Prelude.{ℕ, ◌≡◌, ◌≢◌, ◌+◌, ◌<◌, ◌�
 use Rattle.std.proofs.Common.{ap, sym, subst, ◌∙◌, arith, zero, suc, inl, inr, below_more}
 use Rattle.std.proofs.lemmas.List.{get_or_past, length-map}
 use Rattle.std.proofs.lemmas.Option.{slice_get_within, some_pair_parts}
-use Rattle.fof_terms.specs.Laws.{below_or_above}
+use Rattle.fof_terms.proofs.LiftingLaws.{below_or_above}
 use Rattle.fof_terms.specs.Vocabulary.{Vocabulary}
 use Rattle.fof_terms.specs.declared.term.Term.{Term, Var, App}
 use Rattle.fof_terms.specs.declared.term.Term.TheOpen as term
@@ -11,10 +11,12 @@ use Rattle.fof_terms.specs.declared.term.Term.TheViews.{out-Term, outs-Var, outs
 use Rattle.unify_terms.specs.declared.goal.Goal.{Goal, All, Any, Same}
 use Rattle.unify_terms.specs.declared.pair.Pair.{Pair}
 use Rattle.unify_terms.specs.declared.scope.Scope.{Scope}
-use Rattle.unify_terms.specs.Goals.{each_of, chosen_way, one_of, asked, asked-All, asked-Any, asked-Same, SolvesGoal}
-use Rattle.unify_terms.specs.Substitution.{image_at, instance, applied-Var, applied-App, IsSubstitution}
+use Rattle.unify_terms.specs.Goals.{each_of, chosen_way, one_of, asked, SolvesGoal}
+use Rattle.unify_terms.proofs.GoalsFacts.{asked-All, asked-Any, asked-Same}
+use Rattle.unify_terms.specs.Substitution.{image_at, instance, IsSubstitution}
+use Rattle.unify_terms.proofs.SubstitutionFacts.{applied-Var, applied-App}
 use Rattle.unify_terms.specs.Unifiers.{Unifies}
-use Rattle.clause_rules.specs.Chances.{Leaves, NeverInstance, NeverInstances, NeverUnified, NeverBy, NeverMet, NeverEach, NeverOne}
+use Rattle.clause_rules.specs.code.Chances.{Leaves, NeverInstance, NeverInstances, NeverUnified, NeverBy, NeverMet, NeverEach, NeverOne}
 use Rattle.clause_rules.proofs.Firsts.{one_at}
 use Rattle.clause_rules.proofs.Meeting.{then_is, unifies_parts}
 

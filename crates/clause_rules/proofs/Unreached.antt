@@ -4,7 +4,7 @@ use Rattle.std.specs.Option.{option_map}
 use Rattle.std.proofs.Common.{ap, sym, subst, ◌∙◌, zero, suc}
 use Rattle.fof_terms.specs.Vocabulary.{Vocabulary}
 use Rattle.fof_terms.specs.Lift.{lifted_term}
-use Rattle.fof_terms.specs.Walks.{TermWalk, both_terms, lifting_term, same_terms}
+use Rattle.fof_terms.proofs.Walks.{TermWalk, both_terms, lifting_term, same_terms}
 use Rattle.fof_terms.specs.declared.term.Term.{Term, Var}
 use Rattle.fof_terms.specs.declared.form.Form.{Form, And, Or, All}
 use Rattle.fof_terms.specs.declared.form.Form.TheViews.{out-Form, outs-And, outs-Or, outs-All}
@@ -13,10 +13,11 @@ use Rattle.clause_form.specs.declared.clause.Clause.{Clause}
 use Rattle.clause_form.specs.declared.clause.Lit.{Lit}
 use Rattle.clause_form.specs.ClauseView.{view_of, alone_lit, open_clause, within}
 use Rattle.clause_form.specs.Covers.{in_lit, HasOne, IsCovered}
-use Rattle.clause_form.specs.Images.{image, image-Var}
+use Rattle.clause_form.specs.Images.{image}
+use Rattle.clause_form.proofs.ImagesFacts.{image-Var}
 use Rattle.clause_form.specs.Paths.{plain, reached, beside, all_beside, each_reaches, at_member, pick_in, each_in, under_in}
-use Rattle.clause_rules.specs.CoverFound.{NoCover}
-use Rattle.clause_rules.specs.Screens.{NeverCovered, NeverReached, NoneReached, OneUnreached}
+use Rattle.clause_rules.specs.code.CoverFound.{NoCover}
+use Rattle.clause_rules.specs.code.Screens.{NeverCovered, NeverReached, NoneReached, OneUnreached}
 use Rattle.clause_rules.proofs.Changing.{before, behind}
 use Rattle.clause_rules.proofs.CoverGiven.{mapped, more_parts, nothing_there}
 use Rattle.clause_rules.proofs.Factoring.{get_lifted}

@@ -26,9 +26,5 @@ pub record HasLinesNorm (parents : List Parent) (line : Form) (a : ℕ) : Type 0
 abbrev pub IsFirstNorm : List Parent → Form → ℕ → Type 0
 IsFirstNorm parents line a = HasLinesNorm parents line a × ((b : ℕ) → b < a → HasLinesNorm parents line b → ⊥)
 
--- the first parent with this normal form
-abbrev pub IsFirstAlike : List Parent → Form → ℕ → Type 0
-IsFirstAlike parents made a = NormsAlike parents made a × ((b : ℕ) → b < a → NormsAlike parents made b → ⊥)
-
 abbrev pub IsNormStep : List Parent → Form → Type 0
 IsNormStep parents line = (a : ℕ) × HasLinesNorm parents line a

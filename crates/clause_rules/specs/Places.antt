@@ -2,11 +2,11 @@
 -- 0 and 1.
 use Rattle.std.specs.Prelude.{ℕ, List, [], ◌∷◌, slice_get, slice_set, Option, Some, None}
 use Rattle.fof_terms.specs.declared.term.Term.{Term, Var, App}
-use Rattle.fof_terms.specs.declared.term.Term.TheOpen as term
 use Rattle.fof_terms.specs.declared.term.Term.TheViews.{out-Term}
 use Rattle.clause_form.specs.declared.clause.AtomOf.{AtomOf}
 use Rattle.clause_form.specs.declared.clause.AtomOf.TheVariants.{Pred, Eq, True, False}
 use Rattle.clause_form.specs.declared.clause.Lit.{Lit}
+use Rattle.fof_terms.specs.declared.term.Term.TheOpen as term
 
 -- The term at a place in one of the terms: the first number says in which.
 -- `StandsAt place ts u`: the terms ts have u at the place.

@@ -4,7 +4,7 @@ ghost use Rattle.std.specs.List.{All as Each};
 ghost use Rattle.fof_terms.specs.Lift.{greatest, lifted_term, lift_term_reach};
 ghost use Rattle.clause_form.specs.declared.clause.Lit.{Lit as Literal};
 ghost use Rattle.clause_form.specs.Covers.{at_terms, lit_apart};
-ghost use Rattle.clause_rules.specs.Reach.{atom_reach};
+ghost use Rattle.clause_rules.specs.code.Reach.{atom_reach};
 
 use clause_form::{AtomOf, Lit};
 use fof_terms::{lift_term, lift_terms};

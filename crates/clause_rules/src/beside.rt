@@ -1,6 +1,6 @@
 //! Whether all literals of a clause but one can be covered by the line.
 ghost use Rattle.std.specs.Prelude.{◌≡◌, ◌<◌, false, length, remove, IfOk};
-ghost use Rattle.clause_rules.specs.Screens.{NeverBeside};
+ghost use Rattle.clause_rules.specs.code.Screens.{NeverBeside};
 ghost use Rattle.clause_rules.specs.Settled.{IsFit};
 
 use crate::cover_rule::cover_clause;

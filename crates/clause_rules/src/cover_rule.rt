@@ -5,7 +5,7 @@ ghost use Rattle.clause_form.specs.Norm.{norm_of};
 ghost use Rattle.clause_form.specs.Sizes.{norm_size_of};
 ghost use Rattle.clause_rules.specs.declared.just.Just.TheVariants.{Cover};
 ghost use Rattle.clause_rules.specs.Answers.{IsAnswer, cover};
-ghost use Rattle.clause_rules.specs.CoverFound.{FoundCover, FoundInForm, FoundCoverAmong, SettlesReached, ShowsCover};
+ghost use Rattle.clause_rules.specs.code.CoverFound.{FoundCover, FoundInForm, FoundCoverAmong, SettlesReached, ShowsCover};
 ghost use Rattle.clause_rules.specs.NormRule.{HasNorm};
 ghost use Rattle.clause_rules.specs.Settled.{IsFit, Settles};
 ghost use Rattle.clause_rules.specs.Steps.{AreReady, IsReady};

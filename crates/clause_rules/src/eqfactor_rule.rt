@@ -3,9 +3,10 @@ ghost use Rattle.clause_form.specs.Covers.{scope_of};
 ghost use Rattle.clause_rules.specs.declared.just.Just.TheVariants.{EqFactor};
 ghost use Rattle.clause_rules.specs.Answers.{IsAnswer, eqfactor};
 ghost use Rattle.clause_rules.specs.EqFactorRule.{Factors};
-ghost use Rattle.clause_rules.specs.EqFactorSearch.{FoundFactor, FoundInParent, FoundInParents, NoneRead, NoneWith, NoneFrom, NoneIn};
-ghost use Rattle.clause_rules.specs.JointClauses.{IsJoinedOne};
-ghost use Rattle.clause_rules.specs.Settled.{IsFit, IsSlotFit, AllFit, Settles};
+ghost use Rattle.clause_rules.specs.code.EqFactorSearch.{FoundFactor, FoundInParent, FoundInParents, NoneRead, NoneWith, NoneFrom, NoneIn};
+ghost use Rattle.clause_rules.specs.code.JointClauses.{IsJoinedOne};
+ghost use Rattle.clause_rules.specs.Settled.{IsFit, Settles};
+ghost use Rattle.clause_rules.specs.code.Settled.{IsSlotFit, AllFit};
 ghost use Rattle.clause_rules.specs.Steps.{unequal, AreReady, IsReady};
 
 use crate::joint::{Joint, join_one};

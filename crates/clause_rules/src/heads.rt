@@ -1,5 +1,5 @@
 ghost use Rattle.std.specs.Prelude.{◌≡◌};
-ghost use Rattle.clause_rules.specs.Heads.{is_same_head};
+ghost use Rattle.clause_rules.specs.code.Heads.{is_same_head};
 
 use clause_form::AtomOf;
 

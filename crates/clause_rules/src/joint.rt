@@ -1,7 +1,7 @@
 //! Two clauses and the line over one list of variables: those of the line come first and stand for themselves.
 ghost use Rattle.std.specs.Prelude.{◌≡◌, ◌≤◌, ◌++◌, length, map, IfOk};
 ghost use Rattle.clause_form.specs.Covers.{lit_apart, scope_of};
-ghost use Rattle.clause_rules.specs.JointClauses.{IsJoined, IsJoinedOne};
+ghost use Rattle.clause_rules.specs.code.JointClauses.{IsJoined, IsJoinedOne};
 ghost use Rattle.clause_rules.specs.Settled.{IsFit};
 ghost use Rattle.clause_rules.specs.Steps.{scope_of_both};
 

@@ -4,7 +4,7 @@ ghost use Rattle.std.specs.Prelude.{◌≡◌, false, ℕ};
 ghost use Rattle.fof_terms.specs.declared.term.Term.{Term as SomeTerm};
 ghost use Rattle.clause_form.specs.declared.clause.AtomOf.TheVariants.{Eq as Equation};
 ghost use Rattle.clause_form.specs.Images.{image};
-ghost use Rattle.clause_rules.specs.Screens.{NeverEqual, NeverEquals, NeverSame, Stays};
+ghost use Rattle.clause_rules.specs.code.Screens.{NeverEqual, NeverEquals, NeverSame, Stays};
 
 use crate::heads::same_head;
 use clause_form::AtomOf;

@@ -3,7 +3,7 @@ ghost use Rattle.std.specs.Prelude.{◌≡◌, map, IfOk};
 ghost use Rattle.fof_terms.specs.declared.term.Term.{Var};
 ghost use Rattle.clause_form.specs.Covers.{at_terms};
 ghost use Rattle.clause_form.specs.Images.{image};
-ghost use Rattle.clause_rules.specs.CoverSearch.{named, near, over};
+ghost use Rattle.clause_rules.specs.code.CoverSearch.{named, near, over};
 
 use clause_form::{AtomOf, Lit};
 use fof_terms::Term;

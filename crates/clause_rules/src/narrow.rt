@@ -1,8 +1,8 @@
 //! Goals with one target for each literal, as a guess has them. They are met sooner than those with all targets, and what
 //! meets them meets those.
 ghost use Rattle.std.specs.Prelude.{IfOk, IfSome};
-ghost use Rattle.clause_rules.specs.Narrow.{AreNarrow, IsNarrow};
-ghost use Rattle.clause_rules.specs.Ways.{cover_needs, cover_ways};
+ghost use Rattle.clause_rules.specs.code.Narrow.{AreNarrow, IsNarrow};
+ghost use Rattle.clause_rules.specs.code.Ways.{cover_needs, cover_ways};
 
 use crate::guess::{Guess, first_target, no_guess};
 use crate::ways::ways_to;

@@ -1,7 +1,8 @@
 ghost use Rattle.std.specs.Prelude.{IfOk, MatchOption, IsTrue, ◌↔◌, ◌<◌, ℕ};
 ghost use Rattle.clause_form.specs.Sizes.{norm_size_of};
 ghost use Rattle.clause_rules.specs.Answers.{IsAnswer, norm as by_norm};
-ghost use Rattle.clause_rules.specs.NormRule.{HasNorm, IsFirstAlike, IsFirstNorm, IsNormStep, NormsAlike};
+ghost use Rattle.clause_rules.specs.NormRule.{HasNorm, IsFirstNorm, IsNormStep, NormsAlike};
+ghost use Rattle.clause_rules.specs.code.NormRule.{IsFirstAlike};
 
 use crate::just::Just;
 use crate::numbers::number;

@@ -2,7 +2,7 @@
 ghost use Rattle.std.specs.Prelude.{◌≡◌, ◌++◌, ◌∷◌, [], length, map, IfOk};
 ghost use Rattle.clause_form.specs.ClauseView.{view_of};
 ghost use Rattle.clause_form.specs.Paths.{plain};
-ghost use Rattle.clause_rules.specs.CoverSearch.{near, opening, goals_from, goal_of_lit, sorts_of_all, opened_all};
+ghost use Rattle.clause_rules.specs.code.CoverSearch.{near, opening, goals_from, goal_of_lit, sorts_of_all, opened_all};
 
 use crate::naming::lit_named;
 use crate::numbers::number;
@@ -15,7 +15,7 @@ use unify_terms::Goal;
 
 /// The goal of the formula, whose free variables have these names. The universal quantifiers that a path may go through
 /// are numbered in order, and their sorts are added to the others.
-#[tactic(auto, using(crate::specs::CoverSearch::opening_equations))]
+#[tactic(auto, using(crate::proofs::CoverSearchFacts::opening_equations))]
 #[cycle(open)]
 pub fn open(
     form: &Form,

@@ -2,11 +2,12 @@ ghost use Rattle.std.specs.Prelude.{◌≡◌, ◌↔◌, ◌<◌, ◌≤◌, �
 ghost use Rattle.fof_terms.specs.Sorts.{sort_of_term};
 ghost use Rattle.clause_rules.specs.declared.just.Just.TheVariants.{Paramodulation};
 ghost use Rattle.clause_rules.specs.Answers.{IsAnswer, paramodulation};
-ghost use Rattle.clause_rules.specs.JointClauses.{IsJoined};
+ghost use Rattle.clause_rules.specs.code.JointClauses.{IsJoined};
 ghost use Rattle.clause_rules.specs.ParamodulationRule.{HasPlace, Paramodulates};
-ghost use Rattle.clause_rules.specs.ParamodulationSearch.{FoundAtLit, FoundAtSite, FoundAtSites, FoundInClause, FoundInClauses, HasClause, NeverAt, TriedAtSite};
+ghost use Rattle.clause_rules.specs.code.ParamodulationSearch.{FoundAtLit, FoundAtSite, FoundAtSites, FoundInClause, FoundInClauses, HasClause, NeverAt, TriedAtSite};
 ghost use Rattle.clause_rules.specs.Places.{lit_put_at};
-ghost use Rattle.clause_rules.specs.Settled.{AllFit, IsFit, Settles};
+ghost use Rattle.clause_rules.specs.code.Settled.{AllFit};
+ghost use Rattle.clause_rules.specs.Settled.{IsFit, Settles};
 ghost use Rattle.clause_rules.specs.Steps.{AreReady, IsReady, equation, scope_of_both};
 
 use crate::beside::may_rest_be_covered;

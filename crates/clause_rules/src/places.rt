@@ -1,7 +1,7 @@
 //! Places in literals: all of them, the term at one, and the literal with another term there.
 ghost use Rattle.std.specs.Prelude.{◌≡◌, ◌<◌, ◌++◌, ◌∷◌, [], drop, length, map, option_copied, IfOk, OnOk};
 ghost use Rattle.clause_rules.specs.Places.{args_of_atom, atom_with_args, lit_put_at, lit_term_at, put_at, sides_of};
-ghost use Rattle.clause_rules.specs.PlaceSearch.{numbered, places_within, places_of, below, put_below};
+ghost use Rattle.clause_rules.specs.code.PlaceSearch.{numbered, places_within, places_of, below, put_below};
 
 use crate::numbers::number;
 use crate::position::Position;
@@ -61,7 +61,7 @@ fn add_at(
 }
 
 // Adds the place of the term, which stands at these steps, and those within it.
-#[tactic(auto, using(crate::specs::PlaceSearch::place_equations))]
+#[tactic(auto, using(crate::proofs::PlaceSearchFacts::place_equations))]
 #[cycle(add_term)]
 fn add_term(
     term: &Term,

@@ -3,7 +3,7 @@ ghost use Rattle.std.specs.Prelude.{◌≡◌, false, Some, IfOk};
 ghost use Rattle.clause_form.specs.declared.clause.Lit.{Lit as Literal};
 ghost use Rattle.clause_form.specs.ClauseView.{view_of};
 ghost use Rattle.clause_form.specs.Paths.{plain};
-ghost use Rattle.clause_rules.specs.Screens.{NeverCovered, NeverReached, NoneReached, OneUnreached};
+ghost use Rattle.clause_rules.specs.code.Screens.{NeverCovered, NeverReached, NoneReached, OneUnreached};
 
 use crate::opening::plain_lit;
 use crate::screening::may_be_covered;

@@ -2,10 +2,11 @@ ghost use Rattle.std.specs.Prelude.{◌≡◌, ◌<◌, false, length, Some, IfO
 ghost use Rattle.clause_rules.specs.declared.just.Just.TheVariants.{Resolution};
 ghost use Rattle.clause_rules.specs.Answers.{IsAnswer, resolution};
 ghost use Rattle.clause_rules.specs.ResolutionRule.{Resolves};
-ghost use Rattle.clause_rules.specs.ResolutionSearch.{resolution_needs, AsksAt, NeverResolves, FoundAt, FoundInSlot, FoundPivot, FoundWith, FoundFrom, FoundAmong};
-ghost use Rattle.clause_rules.specs.Settled.{IsFit, IsSlotFit, AllFit, Settles};
+ghost use Rattle.clause_rules.specs.code.ResolutionSearch.{resolution_needs, AsksAt, NeverResolves, FoundAt, FoundInSlot, FoundPivot, FoundWith, FoundFrom, FoundAmong};
+ghost use Rattle.clause_rules.specs.Settled.{IsFit, Settles};
+ghost use Rattle.clause_rules.specs.code.Settled.{IsSlotFit, AllFit};
 ghost use Rattle.clause_rules.specs.Steps.{scope_of_both, AreReady, IsReady};
-ghost use Rattle.clause_rules.specs.Ways.{goal_of_needs};
+ghost use Rattle.clause_rules.specs.code.Ways.{goal_of_needs};
 
 use crate::joint::{Joint, join};
 use crate::just::Just;

@@ -4,8 +4,9 @@ ghost use Rattle.clause_form.specs.Covers.{AreSorted, CoversBy};
 ghost use Rattle.clause_rules.specs.declared.just.Just.TheVariants.{Rewrite};
 ghost use Rattle.clause_rules.specs.Answers.{IsAnswer, rewrite};
 ghost use Rattle.clause_rules.specs.RewriteRule.{StandsIn};
-ghost use Rattle.clause_rules.specs.RewriteSearch.{NeverRewritten, RewritesAtSite, RewritesAtSites, SettlesRewriting, TriedRewriting};
-ghost use Rattle.clause_rules.specs.Settled.{AllFit, IsFit, Settles};
+ghost use Rattle.clause_rules.specs.code.RewriteSearch.{NeverRewritten, RewritesAtSite, RewritesAtSites, SettlesRewriting, TriedRewriting};
+ghost use Rattle.clause_rules.specs.code.Settled.{AllFit};
+ghost use Rattle.clause_rules.specs.Settled.{IsFit, Settles};
 ghost use Rattle.clause_rules.specs.Steps.{AreReady, IsReady, scope_of_both};
 
 use crate::apart::apart;

@@ -1,6 +1,6 @@
 //! Cheap tests of literals: where one answers no, no substitution covers the literals that are to be covered.
 ghost use Rattle.std.specs.Prelude.{◌≡◌, ◌<◌, false, length};
-ghost use Rattle.clause_rules.specs.Screens.{NeverAbsurd, NeverAll, NeverAmong, NeverBecomes, NeverClash, NeverCovered, NeverOthers, NeverPivot, NeverStays, NeverTogether};
+ghost use Rattle.clause_rules.specs.code.Screens.{NeverAbsurd, NeverAll, NeverAmong, NeverBecomes, NeverClash, NeverCovered, NeverOthers, NeverPivot, NeverStays, NeverTogether};
 
 use crate::matching::{may_be_same, may_meet};
 use clause_form::{AtomOf, Lit};

@@ -1,4 +1,4 @@
-ghost use Rattle.clause_rules.specs.EqFactorSearch.{HasSides};
+ghost use Rattle.clause_rules.specs.code.EqFactorSearch.{HasSides};
 
 use clause_form::{AtomOf, Lit};
 use fof_terms::Term;

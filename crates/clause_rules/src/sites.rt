@@ -1,7 +1,7 @@
 //! All places of clauses at which a term may be replaced, and all equations of clauses, as they are read.
 ghost use Rattle.std.specs.Prelude.{◌≡◌, ◌++◌, IfOk, OnOk};
-ghost use Rattle.clause_rules.specs.ParamodulationSearch.{HasEquation, HasSpot, readings_from, readings_of_atom, readings_of_lits, readings_of_slot, sites_from, sites_of_lits, sites_of_places, sites_of_slot};
-ghost use Rattle.clause_rules.specs.PlaceSearch.{places_of};
+ghost use Rattle.clause_rules.specs.code.ParamodulationSearch.{HasEquation, HasSpot, readings_from, readings_of_atom, readings_of_lits, readings_of_slot, sites_from, sites_of_lits, sites_of_places, sites_of_slot};
+ghost use Rattle.clause_rules.specs.code.PlaceSearch.{places_of};
 
 use crate::numbers::number;
 use crate::places::{places_of_lit, term_in};

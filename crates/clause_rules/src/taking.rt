@@ -2,8 +2,8 @@
 ghost use Rattle.std.specs.Prelude.{◌≡◌, ◌++◌, ◌∷◌, [], length, map, IfOk};
 ghost use Rattle.clause_form.specs.ClauseView.{view_of};
 ghost use Rattle.clause_form.specs.Paths.{plain};
-ghost use Rattle.clause_rules.specs.CoverSearch.{near, down, opening, take_leaf as leaf_taken, take_pick as pick_taken, take_each as each_taken};
-ghost use Rattle.clause_rules.specs.CoverFound.{state_of, IsTaken};
+ghost use Rattle.clause_rules.specs.code.CoverSearch.{near, down, opening, take_leaf as leaf_taken, take_pick as pick_taken, take_each as each_taken};
+ghost use Rattle.clause_rules.specs.code.CoverFound.{state_of, IsTaken};
 
 use crate::naming::{lit_named, lits_named};
 use crate::numbers::number;
@@ -66,7 +66,7 @@ fn numbers_below(alloc: Global, count: usize) -> Result<List<u32>, Memory>
 }
 
 // The path that the choices take through a formula whose free variables have these names.
-#[tactic(auto, using(crate::specs::CoverSearch::opening_equations))]
+#[tactic(auto, using(crate::proofs::CoverSearchFacts::opening_equations))]
 #[cycle(take)]
 fn take(
     form: &Form,

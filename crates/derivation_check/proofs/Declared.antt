@@ -8,7 +8,7 @@ use Rattle.fof_terms.specs.declared.form.Form.{Form}
 use Rattle.fof_terms.specs.declared.signature.Symbol.{Symbol}
 use Rattle.kernel.specs.Statements.{Statements}
 use Rattle.kernel.specs.Entries.{Admits}
-use Rattle.kernel.specs.EntryLaws.{admits_append}
+use Rattle.kernel.proofs.EntryLaws.{admits_append}
 use Rattle.kernel.specs.declared.entry.Entry.{Entry}
 use Rattle.kernel.specs.declared.entry.Entry.TheVariants.{Declare}
 use Rattle.kernel.specs.declared.entry.Decl.TheVariants as decl

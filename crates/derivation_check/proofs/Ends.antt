@@ -5,7 +5,7 @@ use Rattle.fof_terms.specs.Vocabulary.{Vocabulary}
 use Rattle.fof_terms.specs.declared.form.Form.{Form}
 use Rattle.kernel.specs.Statements.{Statements}
 use Rattle.kernel.specs.Entries.{Refutes}
-use Rattle.kernel.specs.EntryLaws.{admits_append}
+use Rattle.kernel.proofs.EntryLaws.{admits_append}
 use Rattle.kernel.specs.declared.entry.Decl.TheVariants.{Sort, Symbol}
 use Rattle.kernel.specs.declared.entry.Entry.{Entry}
 use Rattle.kernel.specs.declared.entry.Entry.TheVariants.{Declare}
@@ -35,7 +35,8 @@ use Rattle.verifier.proofs.Marking.{good_unmarked}
 use Rattle.derivation_check.specs.Cases.{Asked, claim_by, claimed, lines_over, widened}
 use Rattle.derivation_check.specs.Checks.{Checks, is_verified}
 use Rattle.derivation_check.specs.GoodCases.{IsGoodCase}
-use Rattle.derivation_check.specs.Logs.{Closed, ChecksWithLog, LogsRuns, TakesSomeOfLog}
+use Rattle.derivation_check.specs.code.Logs.{Closed, LogsRuns}
+use Rattle.derivation_check.specs.Logs.{ChecksWithLog, TakesSomeOfLog}
 use Rattle.derivation_check.specs.declared.checking.Report.{Report}
 use Rattle.derivation_check.proofs.Logged.{check_logged}
 use Rattle.derivation_check.proofs.LogTexts.{log_all, log_cut, log_more}

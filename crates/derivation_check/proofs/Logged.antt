@@ -12,7 +12,8 @@ use Rattle.kernel.specs.Statements.{Statements}
 use Rattle.kernel.specs.declared.entry.Entry.{Entry}
 use Rattle.kernel.specs.declared.entry.Entry.TheVariants.{Declare}
 use Rattle.kernel.specs.declared.entry.Decl.TheVariants as decl
-use Rattle.proof_log.specs.Entries.{HasNoResult, AreWritable, HaveNumbersInRange, AreLogged}
+use Rattle.proof_log.specs.Entries.{HasNoResult, HaveNumbersInRange, AreLogged}
+use Rattle.proof_log.proofs.EntriesFacts.{AreWritable}
 use Rattle.sort_check.specs.Bringing.{IsNamed, Brings}
 use Rattle.derivation_text.specs.declared.derivation.Derivation.{Derivation}
 use Rattle.verifier.specs.Declarations.{declarations}

@@ -3,11 +3,11 @@ use Rattle.std.specs.List.{All}
 use Rattle.std.proofs.Common.{◌≡◌, ℕ, ◌++◌, List, [], Option, refl, sym, subst, arith}
 use Rattle.tptp_base.specs.Sink.{Takes}
 use Rattle.fof_terms.specs.Vocabulary.{Vocabulary}
-use Rattle.fof_terms.specs.Scoped.{raised}
-use Rattle.fof_terms.specs.SortLaws.{grown_sorted}
+use Rattle.fof_terms.proofs.Scoped.{raised}
+use Rattle.fof_terms.proofs.SortLawsFacts.{grown_sorted}
 use Rattle.kernel.specs.Statements.{Statements}
 use Rattle.kernel.specs.Entries.{Admits}
-use Rattle.kernel.specs.EntryLaws.{admits_append}
+use Rattle.kernel.proofs.EntryLaws.{admits_append}
 use Rattle.kernel.specs.declared.entry.Entry.{Entry}
 use Rattle.proof_log.specs.Entries.{HaveNumbersInRange, log_text}
 use Rattle.sort_check.specs.Sorting.{Extends, IsSentence}
@@ -20,7 +20,8 @@ use Rattle.verifier.proofs.Logs.{range_both}
 use Rattle.verifier.proofs.Refuting.{run_admits}
 use Rattle.derivation_check.specs.Cases.{lines_over, widened}
 use Rattle.derivation_check.specs.Checks.{Runs}
-use Rattle.derivation_check.specs.Logs.{LogsRuns, TakesSomeOfLog}
+use Rattle.derivation_check.specs.code.Logs.{LogsRuns}
+use Rattle.derivation_check.specs.Logs.{TakesSomeOfLog}
 use Rattle.derivation_check.proofs.LogTexts.{log_cut, log_more}
 
 -- what is given is ready for the rules, also in a longer vocabulary

@@ -2,3 +2,4 @@ pub mod Cases
 pub mod Checks
 pub mod GoodCases
 pub mod Logs
+pub mod code

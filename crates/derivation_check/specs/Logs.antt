@@ -1,45 +1,20 @@
 -- What a log has taken.
 use Rattle.std.specs.Prelude.{◌≡◌, ◌⊎◌, ℕ, List}
-use Rattle.szs_report.specs.declared.answer.Verdict.{Verdict}
 use Rattle.std.specs.declared.option.Option.{Option}
 use Rattle.tptp_base.specs.Sink.{Takes, TakesPrefix}
 use Rattle.fof_terms.specs.Vocabulary.{Vocabulary}
 use Rattle.kernel.specs.Statements.{Statements}
 use Rattle.kernel.specs.Entries.{Admits}
 use Rattle.kernel.specs.declared.entry.Entry.{Entry}
-use Rattle.proof_log.specs.Entries.{HaveNumbersInRange, log_text}
+use Rattle.proof_log.specs.Entries.{log_text}
 use Rattle.derivation_text.specs.declared.derivation.Derivation.{Derivation}
-use Rattle.verifier.specs.declared.answer.LineAnswer.{LineAnswer}
-use Rattle.verifier.specs.Closing.{Closes}
-use Rattle.verifier.specs.Logged.{entries_text}
-use Rattle.verifier.specs.Report.{IsVerdict, report_text}
-use Rattle.derivation_check.specs.Cases.{Asked, claim_by}
-use Rattle.derivation_check.specs.Checks.{Checks, Runs, is_verified}
+use Rattle.derivation_check.specs.Cases.{Asked}
+use Rattle.derivation_check.specs.Checks.{Checks}
 use Rattle.derivation_check.specs.declared.checking.Report.{Report}
 
 -- nothing was taken, or a prefix of a log whose entries are legal in turn from the theory
 abbrev pub TakesSomeOfLog : Statements → Option (List ℕ) → Option (List ℕ) → Type 0
 TakesSomeOfLog t old new = (new ≡ old) ⊎ ((entries : List Entry) × (u : Statements) × Admits t entries u × TakesPrefix old new (log_text entries))
-
--- The lines are run, with these numbers of the accepted ones, and the log has taken their entries, whose numbers fit
--- their types.
-pub record LogsRuns (t : Statements) (d : Derivation) (w : Vocabulary) (answers : List LineAnswer) (numbers : List (Option ℕ)) (end : Statements) (old new : Option (List ℕ)) : Type 0 where
-  pub entries : List Entry
-  pub runs : Runs t d w answers entries end
-  pub numbered : runs.run.numbers ≡ numbers
-  pub taken : Takes old new (log_text entries)
-  pub in_range : HaveNumbersInRange entries
-
--- The report on lines with these answers and numbers is made, and the log has taken the last entries.
-pub record Closed (asked : Asked) (d : Derivation) (answers : List LineAnswer) (numbers : List (Option ℕ)) (report : Report) (old new : Option (List ℕ)) : Type 0 where
-  pub verdict : Verdict
-  pub first_that_applies : IsVerdict (claim_by asked answers) asked.problem d.forms answers verdict
-  pub last : List Entry
-  pub closes : Closes verdict d.forms numbers last
-  pub verified : report.verified ≡ is_verified verdict
-  pub text : report.text ≡ report_text d.names answers verdict
-  pub taken : Takes old new (entries_text last)
-  pub in_range : HaveNumbersInRange last
 
 -- the report and what the log took are those of a check
 abbrev pub ChecksWithLog : Asked → Statements → Derivation → Vocabulary → Report → Option (List ℕ) → Option (List ℕ) → Type 0

@@ -11,7 +11,8 @@ ghost use Rattle.verifier.specs.Lines.{LinesStand};
 ghost use Rattle.verifier.specs.Logged.{LogsSome};
 ghost use Rattle.verifier.specs.Report.{AreAccepted, HasFalse, IsVerdict};
 ghost use Rattle.derivation_check.specs.Cases.{asked_of, claim_by};
-ghost use Rattle.derivation_check.specs.Logs.{ChecksWithLog, Closed, TakesSomeOfLog};
+ghost use Rattle.derivation_check.specs.Logs.{ChecksWithLog, TakesSomeOfLog};
+ghost use Rattle.derivation_check.specs.code.Logs.{Closed};
 
 use crate::claiming::claim_on;
 use crate::reporting::{is_verified, report_of};

@@ -10,7 +10,8 @@ ghost use Rattle.proof_log.specs.Entries.{HaveNumbersInRange, log_text};
 ghost use Rattle.verifier.specs.Declarations.{declarations};
 ghost use Rattle.verifier.specs.Faults.{HasCause};
 ghost use Rattle.derivation_check.specs.Cases.{widened};
-ghost use Rattle.derivation_check.specs.Logs.{LogsRuns, TakesSomeOfLog};
+ghost use Rattle.derivation_check.specs.code.Logs.{LogsRuns};
+ghost use Rattle.derivation_check.specs.Logs.{TakesSomeOfLog};
 
 use derivation_text::Derivation;
 use fof_terms::Signature;

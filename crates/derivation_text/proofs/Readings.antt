@@ -9,7 +9,7 @@ use Rattle.tptp_base.specs.declared.item.Role.TheVariants.{Conjecture}
 use Rattle.tptp_base.specs.declared.memory.Memory.{Memory}
 use Rattle.tptp_base.specs.declared.name.Name.{Name}
 use Rattle.fof_terms.specs.Vocabulary.{Vocabulary}
-use Rattle.fof_terms.specs.Scoped.{not_sorted}
+use Rattle.fof_terms.proofs.Scoped.{not_sorted}
 use Rattle.fof_terms.specs.declared.form.Form.{Form}
 use Rattle.sort_check.specs.declared.line.Line.{Line}
 use Rattle.sort_check.specs.declared.line.TextKind.TheVariants as kind

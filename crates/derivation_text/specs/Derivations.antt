@@ -7,14 +7,14 @@ use Rattle.tptp_base.specs.declared.name.Name.{Name}
 use Rattle.fof_terms.specs.Vocabulary.{Vocabulary}
 use Rattle.fof_terms.specs.declared.form.Form.{Form, Not}
 use Rattle.sort_check.specs.declared.line.Line.{Line}
-use Rattle.sort_check.specs.declared.line.TextKind.TheVariants as kind
 use Rattle.sort_check.specs.Texts.{denoted, Faults}
 use Rattle.tstp_graph.specs.declared.shape.Graph.{Graph}
 use Rattle.tstp_graph.specs.Graphs.{IsGraph, IsFault}
 use Rattle.derivation_text.specs.declared.derivation.Derivation.{Derivation}
 use Rattle.derivation_text.specs.declared.fault.DerivationFault.{DerivationFault}
-use Rattle.derivation_text.specs.declared.fault.DerivationFault.TheVariants as fault
 use Rattle.derivation_text.specs.Texts.{Spells, IsTextFault}
+use Rattle.sort_check.specs.declared.line.TextKind.TheVariants as kind
+use Rattle.derivation_text.specs.declared.fault.DerivationFault.TheVariants as fault
 
 -- what a formula of this role stands for: a conjecture is denied, since a derivation refutes it
 abbrev pub stands_for : Role → Form → Form

@@ -5,11 +5,11 @@ use Rattle.tptp_base.specs.declared.item.Item.{Item}
 use Rattle.tptp_lexer.specs.declared.fault.LexFault.{LexFault}
 use Rattle.tptp_lexer.specs.declared.style.Style.TheVariants.{Derivation}
 use Rattle.tptp_lexer.specs.declared.token.Tokens.{Tokens}
-use Rattle.tptp_lexer.specs.Answer as lexer
 use Rattle.tptp_grammar.specs.declared.fault.GrammarFault.{GrammarFault}
-use Rattle.tptp_grammar.specs.Answers as parser
 use Rattle.szs_report.specs.Region.{region_of}
 use Rattle.derivation_text.specs.declared.fault.DerivationFault.{DerivationFault}
+use Rattle.tptp_lexer.specs.Answer as lexer
+use Rattle.tptp_grammar.specs.Answers as parser
 use Rattle.derivation_text.specs.declared.fault.DerivationFault.TheVariants as fault
 
 -- the part has these tokens, or the lexer's first fault

@@ -1,8 +1,8 @@
 ghost use Rattle.std.specs.Prelude.{◌≡◌, ◌≤◌, IfOk, map, length, reverse};
 ghost use Rattle.clause_form.specs.Norm.{node as node_of, norm_of};
 ghost use Rattle.fof_terms.specs.Sorts.{binder_depth};
-ghost use Rattle.derive_kit.specs.Links.{Arms};
-ghost use Rattle.derive_kit.specs.Recursion.{MemberSteps};
+ghost use Rattle.derive_kit.specs.code.Links.{Arms};
+ghost use Rattle.derive_kit.specs.code.Recursion.{MemberSteps};
 
 use crate::links::{Way, arm};
 use fof_terms::Form;

@@ -4,9 +4,9 @@ ghost use Rattle.fof_terms.specs.declared.form.Form.{Or};
 ghost use Rattle.fof_terms.specs.Lift.{lift_reach};
 ghost use Rattle.fof_terms.specs.Sorts.{binder_depth};
 ghost use Rattle.kernel.specs.declared.proof.Proof.{ImpI, NotI, ExE, Hyp};
-ghost use Rattle.derive_kit.specs.Steps.{Between};
-ghost use Rattle.derive_kit.specs.Links.{kind_of};
-ghost use Rattle.derive_kit.specs.Bound.{at_variable, by_variable, bound_tree, dropped_tree};
+ghost use Rattle.derive_kit.specs.code.Steps.{Between};
+ghost use Rattle.derive_kit.specs.code.Links.{kind_of};
+ghost use Rattle.derive_kit.specs.code.Bound.{at_variable, by_variable, bound_tree, dropped_tree};
 
 use crate::links::Way;
 use crate::nodes::{Part, all_e, all_i, ex_e, ex_i, hyp, imp_e, inhabit, not_e, not_i, raa};

@@ -3,9 +3,9 @@ ghost use Rattle.clause_form.specs.Norm.{node as node_of, signed as signed_of, n
 ghost use Rattle.clause_form.specs.Sizes.{norm_size_of};
 ghost use Rattle.fof_terms.specs.declared.form.Form.{Form as Formula, Not, Imp, Iff, Or};
 ghost use Rattle.fof_terms.specs.Sorts.{binder_depth};
-ghost use Rattle.derive_kit.specs.Steps.{Between};
-ghost use Rattle.derive_kit.specs.Connectives.{sides as sides_of, sides_back as sides_back_of, both_sides as both_sides_of};
-ghost use Rattle.derive_kit.specs.Links.{Arms, kind_of};
+ghost use Rattle.derive_kit.specs.code.Steps.{Between};
+ghost use Rattle.derive_kit.specs.code.Connectives.{sides as sides_of, sides_back as sides_back_of, both_sides as both_sides_of};
+ghost use Rattle.derive_kit.specs.code.Links.{Arms, kind_of};
 
 use crate::connectives::{both_sides, iff_sides, imp_sides, sides, sides_back, two};
 use crate::joins::{flatten, join_step};

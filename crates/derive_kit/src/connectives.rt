@@ -1,6 +1,6 @@
 ghost use Rattle.std.specs.Prelude.{◌≡◌, ◌∷◌, [], true, IfOk};
 ghost use Rattle.kernel.specs.declared.proof.Proof.{Raa, NotE, Hyp, OrI, OrE, IffI};
-ghost use Rattle.derive_kit.specs.Connectives.{sides as sides_of, sides_back as sides_back_of, both_sides as both_sides_of, contrary as contrary_tree, side_at as side_tree, imp_tree, iff_tree};
+ghost use Rattle.derive_kit.specs.code.Connectives.{sides as sides_of, sides_back as sides_back_of, both_sides as both_sides_of, contrary as contrary_tree, side_at as side_tree, imp_tree, iff_tree};
 
 use crate::nodes::{
     Part, and_e, and_i, hyp, iff_i, iff_l, iff_r, imp_e, imp_i, not_e, or_e, or_i, raa,

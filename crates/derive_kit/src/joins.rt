@@ -3,9 +3,9 @@ ghost use Rattle.std.specs.List.{list_any};
 ghost use Rattle.clause_form.specs.Norm.{node as node_of, members_of, ends, join as joined_of, joined_flat};
 ghost use Rattle.fof_terms.specs.declared.form.Form.{Form as Formula};
 ghost use Rattle.kernel.specs.declared.proof.Proof.{ImpI, OrE, Hyp};
-ghost use Rattle.derive_kit.specs.Steps.{Between};
-ghost use Rattle.derive_kit.specs.Joining.{numbered, spread_tree, lone_tree, gather_tree, Stands, SpreadTo, GatherTo, Flattens};
-ghost use Rattle.derive_kit.specs.Settled.{ended_tree, alone_tree};
+ghost use Rattle.derive_kit.specs.code.Steps.{Between};
+ghost use Rattle.derive_kit.specs.code.Joining.{numbered, spread_tree, lone_tree, gather_tree, Stands, SpreadTo, GatherTo};
+ghost use Rattle.derive_kit.specs.code.Settled.{ended_tree, alone_tree};
 
 use crate::links::{plain_link, toward};
 use crate::nodes::{Part, and_e, and_i, hyp, or_e, or_i};

@@ -1,7 +1,7 @@
 ghost use Rattle.std.specs.Prelude.{◌≡◌, [], IfOk, true, false};
 ghost use Rattle.fof_terms.specs.declared.form.Form.{Not, Or};
 ghost use Rattle.kernel.specs.declared.proof.Proof.{ImpI, OrE, Hyp};
-ghost use Rattle.derive_kit.specs.Links.{kind_of, arm_tree, link_tree};
+ghost use Rattle.derive_kit.specs.code.Links.{kind_of, arm_tree, link_tree};
 
 use crate::nodes::{Part, and_e, and_i, hyp, imp_e, not_e, not_i, or_e, or_i, raa};
 use crate::steps::{denied, node, under};

@@ -5,8 +5,9 @@ ghost use Rattle.fof_terms.specs.declared.form.Form.{Form as Formula, Imp, Not};
 ghost use Rattle.fof_terms.specs.Sorts.{Sorted};
 ghost use Rattle.kernel.specs.Proves.{Proves};
 ghost use Rattle.kernel.specs.Statements.{Statements};
-ghost use Rattle.derive_kit.specs.Placed.{IsPlaced, SortedSomewhere};
-ghost use Rattle.derive_kit.specs.Recursion.{IsStep};
+ghost use Rattle.derive_kit.specs.code.Placed.{IsPlaced};
+ghost use Rattle.derive_kit.specs.Placed.{SortedSomewhere};
+ghost use Rattle.derive_kit.specs.code.Recursion.{IsStep};
 
 use crate::arms::arms_of;
 use crate::bounds::quantified_step;

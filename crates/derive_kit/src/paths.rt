@@ -10,12 +10,12 @@ ghost use Rattle.clause_form.specs.Reached.{Suits};
 ghost use Rattle.clause_form.specs.Sizes.{norm_size_of};
 ghost use Rattle.kernel.specs.Proves.{Proves};
 ghost use Rattle.kernel.specs.Statements.{Statements};
-ghost use Rattle.derive_kit.specs.Fitting.{Fits};
-ghost use Rattle.derive_kit.specs.Links.{PartsFrom};
+ghost use Rattle.derive_kit.specs.code.Fitting.{Fits};
+ghost use Rattle.derive_kit.specs.code.Links.{PartsFrom};
 ghost use Rattle.derive_kit.specs.Placed.{SortedSomewhere};
-ghost use Rattle.derive_kit.specs.Steps.{Between};
-ghost use Rattle.derive_kit.specs.Alongside.{ArmAt, pick_tree, under_tree};
-ghost use Rattle.derive_kit.specs.Routes.{IsAlong};
+ghost use Rattle.derive_kit.specs.code.Steps.{Between};
+ghost use Rattle.derive_kit.specs.code.Alongside.{ArmAt, pick_tree, under_tree};
+ghost use Rattle.derive_kit.specs.code.Routes.{IsAlong};
 
 use crate::nodes::{Part, all_e, all_i, and_e, hyp, imp_e, or_e};
 use crate::steps::{copy, node, same, under};

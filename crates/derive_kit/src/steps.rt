@@ -2,7 +2,7 @@ ghost use Rattle.std.specs.Prelude.{◌≡◌, IfOk};
 ghost use Rattle.fof_terms.specs.declared.form.Form.{Not};
 ghost use Rattle.kernel.specs.declared.proof.Proof.{Hyp, ImpI};
 ghost use Rattle.clause_form.specs.Norm.{node as node_of, signed as signed_of};
-ghost use Rattle.derive_kit.specs.Steps.{then_tree, denied_tree, twice_denied_tree};
+ghost use Rattle.derive_kit.specs.code.Steps.{then_tree, denied_tree, twice_denied_tree};
 
 use crate::nodes::{Part, hyp, imp_e, imp_i, not_e, not_i, raa};
 use fof_terms::{Form, copy_all};

@@ -1,9 +1,9 @@
 ghost use Rattle.std.specs.Prelude.{◌≡◌, ◌≤◌, ◌+◌, ◌<◌, ◌^◌, IfOk, map, length, false};
 ghost use Rattle.clause_form.specs.Norm.{alone};
 ghost use Rattle.kernel.specs.declared.proof.Proof.{Hyp};
-ghost use Rattle.derive_kit.specs.Joining.{numbered};
-ghost use Rattle.derive_kit.specs.Numbering.{general as general_tree, near as near_tree};
-ghost use Rattle.derive_kit.specs.Alongside.{chosen as chosen_tree, by_segment as segment_tree, member_tree};
+ghost use Rattle.derive_kit.specs.code.Joining.{numbered};
+ghost use Rattle.derive_kit.specs.code.Numbering.{general as general_tree, near as near_tree};
+ghost use Rattle.derive_kit.specs.code.Alongside.{chosen as chosen_tree, by_segment as segment_tree, member_tree};
 
 use crate::nodes::{Part, all_e, all_i, hyp, imp_e, imp_i, or_e, or_i};
 use crate::steps::{Whole, copy, node};

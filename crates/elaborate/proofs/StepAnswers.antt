@@ -14,13 +14,15 @@ use Rattle.kernel.specs.declared.proof.Proof.{Proof}
 use Rattle.kernel.specs.declared.entry.Entry.TheVariants.{Lemma}
 use Rattle.clause_rules.specs.Answers.{Rule as Word, cover, Holds as Gives}
 use Rattle.elaborate.specs.declared.answer.Rule.{Rule}
-use Rattle.skolem_fresh.specs.Justified.{ShowsSkolem, skolem_shown}
+use Rattle.skolem_fresh.specs.Justified.{ShowsSkolem}
+use Rattle.skolem_fresh.proofs.JustifiedFacts.{skolem_shown}
 use Rattle.skolem_fresh.specs.SkolemRule.{IsSkolemStep}
 use Rattle.skolem_fresh.specs.declared.just.SkolemJust.{SkolemJust}
 use Rattle.split_defs.specs.DefinitionRule.{Defines, IsDefinitionStep}
 use Rattle.split_defs.specs.DefinitionSearch.{IsFoundDefinition}
 use Rattle.split_defs.specs.SplitRule.{IsSplitStep}
-use Rattle.split_defs.specs.SplitSearch.{ShowsSplit, forms_of, split_holds}
+use Rattle.split_defs.specs.SplitSearch.{ShowsSplit, forms_of}
+use Rattle.split_defs.proofs.SplitSearchFacts.{split_holds}
 use Rattle.split_defs.specs.declared.just.SplitJust.{SplitJust}
 use Rattle.kernel.specs.declared.entry.Entry.{Entry}
 use Rattle.elaborate.specs.declared.answer.Rule.TheVariants.{Split, Skolem, Definition, Choice, Norm, Cover}
@@ -31,10 +33,11 @@ use Rattle.clause_rules.specs.Steps.{AreReady, IsReady}
 use Rattle.elaborate.specs.declared.leaves.FromOne.{FromOne}
 use Rattle.elaborate.specs.declared.steps.Found.{Found}
 use Rattle.elaborate.specs.ByRule.{Holds, IsFirst, IsNone, symbol_rules, GivesFirst, GivesNowhere, LeafRule, ByNoLeafRule, shape_rules}
-use Rattle.derive_kit.specs.Derived.{AreOfTheory, IsDerivedFrom, derived_by_lemma, numbers_of}
+use Rattle.derive_kit.specs.Derived.{AreOfTheory, IsDerivedFrom, numbers_of}
+use Rattle.derive_kit.proofs.DerivedFacts.{derived_by_lemma}
 use Rattle.elaborate.specs.Answers.{IsStepAnswer, IsLeafAnswer}
 use Rattle.clause_proofs.specs.Shown.{ShowsLine, IsByRule}
-use Rattle.elaborate.specs.Proofs.{IsFound, CoversAlone, CoversNowhere, IsCoverAlone, IsFromFirst, IsFirstCover}
+use Rattle.elaborate.specs.code.Proofs.{IsFound, CoversAlone, CoversNowhere, IsCoverAlone, IsFromFirst, IsFirstCover}
 use Rattle.clause_proofs.specs.Refuting.{theory_of}
 use Rattle.clause_proofs.proofs.NormLines.{norm_there, of_theory, parent_at, parent_ready}
 

@@ -1,3 +1,3 @@
 pub mod Answers
 pub mod ByRule
-pub mod Proofs
+pub mod code

@@ -6,7 +6,7 @@ ghost use Rattle.clause_rules.specs.NormRule.{IsNormStep};
 ghost use Rattle.clause_rules.specs.Steps.{AreReady, IsReady};
 ghost use Rattle.derive_kit.specs.Derived.{AreOfTheory};
 ghost use Rattle.elaborate.specs.Answers.{IsLeafAnswer};
-ghost use Rattle.elaborate.specs.Proofs.{IsCoverAlone, IsFirstCover};
+ghost use Rattle.elaborate.specs.code.Proofs.{IsCoverAlone, IsFirstCover};
 
 use crate::answer::{Reason, Rule, StepAnswer};
 use crate::steps::lemma;

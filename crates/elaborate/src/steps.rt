@@ -6,7 +6,7 @@ ghost use Rattle.derive_kit.specs.Derived.{AreOfTheory, numbers_of};
 ghost use Rattle.elaborate.specs.Answers.{IsStepAnswer};
 ghost use Rattle.elaborate.specs.ByRule.{Holds, IsNone, shape_rules};
 ghost use Rattle.elaborate.specs.declared.answer.Rule.TheVariants.{Definition, Skolem, Split};
-ghost use Rattle.elaborate.specs.Proofs.{IsFound};
+ghost use Rattle.elaborate.specs.code.Proofs.{IsFound};
 
 use crate::answer::{Reason, Rule, StepAnswer};
 use crate::naming::{chosen, defined, skolemized, split};

@@ -4,7 +4,7 @@
 -- read before it. On each list that begins with the tokens looked at it answers the same.
 use Rattle.std.proofs.Common.{◌≡◌, ℕ, ◌≤◌, ◌<◌, List, [], ◌∷◌, ◌++◌, Option, Some, None, Ok, Err, refl, sym, ◌∙◌, ap, subst, append_assoc}
 use Rattle.first_fault.specs.Nesting.{Nested, plain, Within}
-use Rattle.first_fault.specs.Reading.{Cause, Unexpected, TooDeep, Outcome, Reader, and_then, mapped, next}
+use Rattle.first_fault.specs.code.Reading.{Cause, Unexpected, TooDeep, Outcome, Reader, and_then, mapped, next}
 use Rattle.first_fault.specs.Rules.{Rule}
 
 -- what a reader took, where it answers a value

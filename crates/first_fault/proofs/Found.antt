@@ -1,7 +1,8 @@
 -- What is derived is found by a reader: it is read, or the first of its tokens over the limit is the fault.
 use Rattle.std.proofs.Common.{◌≡◌, ℕ, ◌≤◌, List, ◌∷◌, Ok, Err, ◌⊎◌, inl, inr, ◌∙◌, ap}
-use Rattle.first_fault.specs.Nesting.{Nested, plain, WithinTo, done, before, FirstOver, behind}
-use Rattle.first_fault.specs.Reading.{TooDeep, Reader, and_then, mapped}
+use Rattle.first_fault.specs.Nesting.{Nested, plain, FirstOver, behind}
+use Rattle.first_fault.proofs.NestingFacts.{WithinTo, done, before}
+use Rattle.first_fault.specs.code.Reading.{TooDeep, Reader, and_then, mapped}
 
 pub within_join : {T : Type 0} {limit : ℕ} {ts mid rest : List (Nested T)} → WithinTo limit ts mid → WithinTo limit mid rest → WithinTo limit ts rest
 within_join done k = k

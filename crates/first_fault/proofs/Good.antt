@@ -2,8 +2,9 @@
 --
 -- A derivation is found where the next token behind it ends it: `E` says which tokens do.
 use Rattle.std.proofs.Common.{◌≡◌, Bool, true, false, if◌then◌else◌, ℕ, ◌≤◌, ◌<◌, List, [], ◌∷◌, Option, Some, Ok, Err, inl, inr, refl, sym, ◌∙◌, ap, subst}
-use Rattle.first_fault.specs.Nesting.{Nested, plain, done, before, here}
-use Rattle.first_fault.specs.Reading.{Unexpected, TooDeep, Outcome, Reader, and_then, mapped, next, expect, closed, opened}
+use Rattle.first_fault.specs.Nesting.{Nested, plain, here}
+use Rattle.first_fault.proofs.NestingFacts.{done, before}
+use Rattle.first_fault.specs.code.Reading.{Unexpected, TooDeep, Outcome, Reader, and_then, mapped, next, expect, closed, opened}
 use Rattle.first_fault.specs.Rules.{Rule}
 use Rattle.first_fault.proofs.Exact.{Exact, Inhabited, Can, exact_then, exact_map, exact_after, exact_stop, exact_deep, exact_token, exact_peek, mapped_same, by_next, by_end}
 use Rattle.first_fault.proofs.Found.{Found, found_as, found_map, found_after, found_then}

@@ -3,3 +3,4 @@ pub mod Found
 pub mod Good
 pub mod Separated
 pub mod Loops
+pub mod NestingFacts

@@ -1,6 +1,6 @@
 -- A loop over a list's members, beside the definition of the list.
 use Rattle.std.proofs.Common.{◌≡◌, Bool, true, false, if◌then◌else◌, ℕ, ◌≤◌, ◌<◌, List, [], ◌∷◌, ◌++◌, length, Ok, Err, refl, sym, ◌∙◌, ap, subst, append_assoc, arith}
-use Rattle.first_fault.specs.Reading.{Cause, Outcome, Reader, mapped, tail, sees, after_seen, separated}
+use Rattle.first_fault.specs.code.Reading.{Cause, Outcome, Reader, mapped, tail, sees, after_seen, separated}
 use Rattle.first_fault.specs.Rules.{Rule}
 use Rattle.first_fault.proofs.Exact.{Exact}
 use Rattle.first_fault.proofs.Separated.{Moves, others, separated_read, separated_err, read_moves}

@@ -1,8 +1,9 @@
 -- Lists with separators are read exactly where their members are.
 use Rattle.std.proofs.Common.{◌≡◌, Bool, true, false, if◌then◌else◌, ℕ, zero, suc, ◌-◌, ◌≤◌, ◌<◌, List, [], ◌∷◌, ◌++◌, length, drop, Option, Some, None, Ok, Err, inl, inr, refl, sym, ◌∙◌, ap, subst, append_assoc, length-append, arith}
 use Rattle.std.proofs.Math.Seq.{drop-append_seam}
-use Rattle.first_fault.specs.Nesting.{Nested, plain, before, behind}
-use Rattle.first_fault.specs.Reading.{Cause, Outcome, Reader, and_then, mapped, next, go_on, separated, separated_from}
+use Rattle.first_fault.specs.Nesting.{Nested, plain, behind}
+use Rattle.first_fault.proofs.NestingFacts.{before}
+use Rattle.first_fault.specs.code.Reading.{Cause, Outcome, Reader, and_then, mapped, next, go_on, separated, separated_from}
 use Rattle.first_fault.specs.Rules.{Rule, Listed, last, more}
 use Rattle.first_fault.proofs.Exact.{IsRead, Exact, Inhabited, after_read, after_fault, exact_done, exact_after, by_next, by_end}
 use Rattle.first_fault.proofs.Found.{Found, within_join, over_join}

@@ -1,3 +1,3 @@
 pub mod Nesting
-pub mod Reading
 pub mod Rules
+pub mod code

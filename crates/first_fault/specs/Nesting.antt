@@ -15,11 +15,6 @@ abbrev pub Within : {T : Type 0} → ℕ → List (Nested T) → Type 0
 Within limit [] = Unit {0}
 Within limit (a ∷ rest) = (a.1 ≤ limit) × Within limit rest
 
--- the tokens before the rest are within the limit
-pub data WithinTo {T : Type 0} (limit : ℕ) : List (Nested T) → List (Nested T) → Type 0 where
-  done : {rest : List (Nested T)} → WithinTo limit rest rest
-  before : {t : T} {n : ℕ} {ts rest : List (Nested T)} → n ≤ limit → WithinTo limit ts rest → WithinTo limit ((t, n) ∷ ts) rest
-
 -- the first token over the limit, with what follows it
 pub data FirstOver {T : Type 0} (limit : ℕ) : List (Nested T) → List (Nested T) → Type 0 where
   here : {t : T} {n : ℕ} {ts : List (Nested T)} → limit < n → FirstOver limit ((t, n) ∷ ts) ((t, n) ∷ ts)

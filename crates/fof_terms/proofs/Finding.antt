@@ -9,7 +9,8 @@ use Rattle.fof_terms.specs.declared.directory.Directory.{Directory}
 use Rattle.fof_terms.specs.declared.signature.Symbol.{Symbol}
 use Rattle.fof_terms.specs.declared.signature.Kind.{Kind}
 use Rattle.fof_terms.specs.declared.signature.Kind.TheVariants.{Function, Predicate}
-use Rattle.fof_terms.specs.Directory.{entered, Enters}
+use Rattle.fof_terms.specs.Directory.{entered}
+use Rattle.fof_terms.specs.code.Directory.{Enters}
 use Rattle.fof_terms.specs.Found.{FindsSymbols, FindsSorts}
 use Rattle.fof_terms.specs.Vocabulary.{is_kind, is_symbol}
 use Rattle.fof_terms.proofs.Places.{position_known, position_missed, position_new}

@@ -1,6 +1,7 @@
 // Where symbols and sorts are found by name.
 ghost use Rattle.std.specs.Prelude.{◌≡◌, ℕ, List, None, OnOk, OnErr};
-ghost use Rattle.fof_terms.specs.Directory.{entered, Enters, HasSameEntries};
+ghost use Rattle.fof_terms.specs.Directory.{entered};
+ghost use Rattle.fof_terms.specs.code.Directory.{Enters, HasSameEntries};
 
 use indexmap::IndexMap;
 use std::alloc::Global;

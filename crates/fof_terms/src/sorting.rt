@@ -23,7 +23,7 @@ pub enum Scope<'a> {
 
 impl Scope<'_> {
     /// The sort of the variable that many binders away.
-    #[tactic(auto, using(crate::specs::Scope::scope_equations))]
+    #[tactic(auto, using(crate::proofs::ScopeFacts::scope_equations))]
     pub fn sort_at(&self, distance: u32) -> Option<SortId>
         ensures { result ≡ slice_get (scope_sorts self.now) distance }
     {
@@ -53,7 +53,7 @@ fn from_end(sorts: &[SortId], distance: u32) -> Option<SortId>
 }
 
 /// The sort of a term, if it is well-sorted.
-#[tactic(auto, using(crate::specs::Sorts::sort_equations))]
+#[tactic(auto, using(crate::proofs::SortsFacts::sort_equations))]
 #[cycle(sort_of)]
 pub fn sort_of(term: &Term, signature: &Signature, scope: &Scope<'_>) -> Option<SortId>
     ensures { result ≡ sort_of_term signature.now (scope_sorts scope.now) term.now }
@@ -77,7 +77,7 @@ pub fn sort_of(term: &Term, signature: &Signature, scope: &Scope<'_>) -> Option<
 }
 
 /// Whether the terms have these sorts.
-#[tactic(auto, using(crate::specs::Sorts::sort_equations))]
+#[tactic(auto, using(crate::proofs::SortsFacts::sort_equations))]
 #[cycle(sort_of)]
 pub fn have_sorts(
     terms: &[Term],
@@ -109,7 +109,7 @@ fn is_found(found: Option<SortId>, sort: SortId) -> bool
 }
 
 /// Whether the symbols, the sorts and the variables of the formula fit.
-#[tactic(auto, using(crate::specs::Sorts::sort_equations))]
+#[tactic(auto, using(crate::proofs::SortsFacts::sort_equations))]
 #[cycle(fits)]
 fn fits(form: &Form, signature: &Signature, scope: &Scope<'_>) -> bool
     ensures { result ≡ is_sorted signature.now (scope_sorts scope.now) form.now }
@@ -143,7 +143,7 @@ fn fits(form: &Form, signature: &Signature, scope: &Scope<'_>) -> bool
     }
 }
 
-#[tactic(auto, using(crate::specs::Sorts::sort_equations))]
+#[tactic(auto, using(crate::proofs::SortsFacts::sort_equations))]
 #[cycle(fits)]
 fn all_fit(forms: &[Form], signature: &Signature, scope: &Scope<'_>) -> bool
     ensures { result ≡ list_all (is_sorted signature.now (scope_sorts scope.now)) forms.now }
@@ -157,7 +157,7 @@ fn all_fit(forms: &[Form], signature: &Signature, scope: &Scope<'_>) -> bool
 }
 
 /// Whether at most that many binders stand inside each other.
-#[tactic(auto, using(crate::specs::Sorts::binder_depth_equations))]
+#[tactic(auto, using(crate::proofs::SortsFacts::binder_depth_equations))]
 #[cycle(is_within)]
 pub fn is_within(form: &Form, limit: u32) -> bool
     ensures { IsTrue result ↔ (binder_depth form.now ≤ limit) }
@@ -173,7 +173,7 @@ pub fn is_within(form: &Form, limit: u32) -> bool
     }
 }
 
-#[tactic(auto, using(crate::specs::Sorts::binder_depth_equations))]
+#[tactic(auto, using(crate::proofs::SortsFacts::binder_depth_equations))]
 #[cycle(is_within)]
 fn all_within(forms: &[Form], limit: u32) -> bool
     ensures { IsTrue result ↔ (greatest (map binder_depth forms.now) ≤ limit) }
@@ -187,7 +187,7 @@ fn all_within(forms: &[Form], limit: u32) -> bool
 }
 
 /// Whether the formula is well-sorted over the variables of these sorts, the last of which is variable 0.
-#[tactic(auto, using(crate::specs::Scope::scope_equations, crate::proofs::Reversed::sorted_over, crate::proofs::Reversed::sorts_of_sorted, crate::proofs::Reversed::few_of_sorted))]
+#[tactic(auto, using(crate::proofs::ScopeFacts::scope_equations, crate::proofs::Reversed::sorted_over, crate::proofs::Reversed::sorts_of_sorted, crate::proofs::Reversed::few_of_sorted))]
 pub fn well_sorted(signature: &Signature, sorts: &[SortId], form: &Form) -> bool
     ensures { IsTrue result ↔ Sorted signature.now (reverse sorts.now) form.now }
 {

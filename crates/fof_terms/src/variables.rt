@@ -8,7 +8,7 @@ use crate::form::Form;
 use crate::term::Term;
 
 /// Whether the variable stands in the term.
-#[tactic(auto, using(crate::specs::Variables::variable_equations))]
+#[tactic(auto, using(crate::proofs::VariablesFacts::variable_equations))]
 #[cycle(has_in_term)]
 pub fn has_in_term(number: u32, term: &Term) -> bool
     ensures { result ≡ stands_in number term.now }
@@ -20,7 +20,7 @@ pub fn has_in_term(number: u32, term: &Term) -> bool
 }
 
 /// Whether the variable stands in one of the terms.
-#[tactic(auto, using(crate::specs::Variables::variable_equations))]
+#[tactic(auto, using(crate::proofs::VariablesFacts::variable_equations))]
 #[cycle(has_in_term)]
 pub fn has_in_terms(number: u32, terms: &[Term]) -> bool
     ensures { result ≡ list_any (stands_in number) terms.now }
@@ -34,7 +34,7 @@ pub fn has_in_terms(number: u32, terms: &[Term]) -> bool
 }
 
 /// Whether the variable stands in the formula.
-#[tactic(auto, using(crate::specs::Variables::variable_equations))]
+#[tactic(auto, using(crate::proofs::VariablesFacts::variable_equations))]
 #[cycle(has_variable)]
 pub fn has_variable(form: &Form, number: u32) -> bool
     requires { number + binder_depth form.now < 2 ^ 32 }
@@ -53,7 +53,7 @@ pub fn has_variable(form: &Form, number: u32) -> bool
 }
 
 /// Whether the variable stands in one of the formulas.
-#[tactic(auto, using(crate::specs::Variables::variable_equations))]
+#[tactic(auto, using(crate::proofs::VariablesFacts::variable_equations))]
 #[cycle(has_variable)]
 pub fn has_in_one(forms: &[Form], number: u32) -> bool
     requires { number + greatest (map binder_depth forms.now) < 2 ^ 32 }

@@ -10,14 +10,14 @@ use Rattle.include_resolve.specs.declared.fault.IncludeFault.TheVariants as faul
 use Rattle.include_resolve.specs.declared.opened.Opened.{Opened}
 use Rattle.include_resolve.specs.declared.reading.Read.{Read}
 use Rattle.include_resolve.specs.declared.reading.Read.TheVariants.{Whole, Over}
-use Rattle.include_resolve.specs.Causes.{HasCause}
+use Rattle.include_resolve.specs.code.Causes.{HasCause}
 use Rattle.include_resolve.specs.Names.{Text}
-use Rattle.include_resolve.specs.Opening.{TakesText}
+use Rattle.include_resolve.specs.code.Opening.{TakesText}
 use Rattle.include_resolve.specs.Parts.{Answer}
-use Rattle.include_resolve.specs.Reading.{IsStop}
-use Rattle.include_resolve.specs.Selecting.{Selects}
+use Rattle.include_resolve.specs.code.Reading.{IsStop}
+use Rattle.include_resolve.specs.code.Selecting.{Selects}
 use Rattle.include_resolve.specs.Selection.{unknown_name, chosen}
-use Rattle.include_resolve.specs.Steps.{IsRefusal}
+use Rattle.include_resolve.specs.code.Steps.{IsRefusal}
 use Rattle.include_resolve.proofs.Joins.{part_of}
 
 pub cause_later : (A B C D : Type 0) → (A → B) → (C → D) → (cause : IncludeFault) → HasCause cause A C → HasCause cause B D

@@ -9,12 +9,12 @@ use Rattle.include_resolve.specs.declared.problem.Problem.{Problem}
 use Rattle.include_resolve.specs.declared.reading.Read.{Read}
 use Rattle.include_resolve.specs.declared.reading.Read.TheVariants.{Whole, Over}
 use Rattle.include_resolve.specs.Names.{Text}
-use Rattle.include_resolve.specs.Opening.{TakesText}
+use Rattle.include_resolve.specs.code.Opening.{TakesText}
 use Rattle.include_resolve.specs.Parts.{Answer, before, file_alone}
 use Rattle.include_resolve.specs.Resolved as walk
 use Rattle.include_resolve.specs.Resolved.{Walk, Opens, Reads, Replaces, Takes, Answers}
 use Rattle.include_resolve.specs.Selection.{selected, chosen, unknown_name}
-use Rattle.include_resolve.specs.Steps.{Opening, Adds}
+use Rattle.include_resolve.specs.code.Steps.{Opening, Adds}
 use Rattle.include_resolve.proofs.Counts.{spelled_few}
 
 -- a part has at most as many files as bytes and so many more

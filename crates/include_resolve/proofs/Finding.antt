@@ -12,7 +12,7 @@ use Rattle.include_resolve.specs.declared.reading.Found.{Found}
 use Rattle.include_resolve.specs.declared.reading.Read.{Read}
 use Rattle.include_resolve.specs.declared.reading.Read.TheVariants.{Whole, Over}
 use Rattle.include_resolve.specs.Names.{Text}
-use Rattle.include_resolve.specs.Reading.{IsReadOf}
+use Rattle.include_resolve.specs.code.Reading.{IsReadOf}
 use Rattle.include_resolve.specs.Resolved.{IsFirstFile, first, later}
 
 some_there : (o : Option Text) (P : Text → Type 0) → IsSomeAnd o P → IsSomeAnd o (λ file. ⊤)

@@ -12,3 +12,4 @@ pub mod OneText
 pub mod OneAnswer
 pub mod ResolvedItems
 pub mod SomeAnswer
+pub mod PathFacts

@@ -18,8 +18,8 @@ use Rattle.include_resolve.specs.declared.opened.Opened.{Opened}
 use Rattle.include_resolve.specs.declared.reading.Read.{Read}
 use Rattle.include_resolve.specs.declared.reading.Read.TheVariants.{Whole, Over}
 use Rattle.include_resolve.specs.Names.{Text}
-use Rattle.include_resolve.specs.Opening.{TakesText}
-use Rattle.include_resolve.specs.Steps.{HasQuotableFile}
+use Rattle.include_resolve.specs.code.Opening.{TakesText}
+use Rattle.include_resolve.specs.code.Steps.{HasQuotableFile}
 use Rattle.include_resolve.specs.Texts.{IsSpelled}
 
 -- ---- a name that a text can spell is UTF-8

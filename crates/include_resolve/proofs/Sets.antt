@@ -17,10 +17,10 @@ use Rattle.include_resolve.specs.declared.fault.IncludeFault.{IncludeFault}
 use Rattle.include_resolve.specs.declared.fault.IncludeFault.TheVariants as fault
 use Rattle.include_resolve.specs.declared.name_set.NameSet.{NameSet}
 use Rattle.include_resolve.specs.Names.{Text}
-use Rattle.include_resolve.specs.NameSet.{has, knows, knows_item}
+use Rattle.include_resolve.specs.code.NameSet.{has, knows, knows_item}
 use Rattle.include_resolve.specs.Parts.{Answer}
 use Rattle.include_resolve.specs.Selection.{is_same_name, is_among, is_selected, unknown_name, chosen}
-use Rattle.include_resolve.specs.Selecting.{Selects, IsUnknown}
+use Rattle.include_resolve.specs.code.Selecting.{Selects, IsUnknown}
 use Rattle.include_resolve.proofs.Joins.{part_of}
 
 or_twice : (b r : Bool) → (b || (b || r)) ≡ (b || r)

@@ -20,14 +20,15 @@ use Rattle.include_resolve.specs.declared.problem.TheConstants.{MAX_DEPTH, TOTAL
 use Rattle.include_resolve.specs.declared.reading.Read.{Read}
 use Rattle.include_resolve.specs.declared.reading.Read.TheVariants.{Whole, Over}
 use Rattle.include_resolve.specs.Names.{Text, tried_names, is_on}
-use Rattle.include_resolve.specs.Opening.{Joins, TakesText}
+use Rattle.include_resolve.specs.code.Opening.{Joins, TakesText}
 use Rattle.include_resolve.specs.Parts.{Answer, nothing, joined, before, file_alone, item_alone}
-use Rattle.include_resolve.specs.Path.{path_names, path_names-Inside}
-use Rattle.include_resolve.specs.Reading.{IsReadOf}
+use Rattle.include_resolve.specs.code.Path.{path_names}
+use Rattle.include_resolve.proofs.PathFacts.{path_names-Inside}
+use Rattle.include_resolve.specs.code.Reading.{IsReadOf}
 use Rattle.include_resolve.specs.Resolved.{Walk, start, beyond, inside, IsFirstFile, IsRead, Opens, missing, cycle, too_deep, opened, Reads, over, faulty, spelled, Replaces, done, stopped, went_on, Takes, comment, formula, replaced, Answers}
-use Rattle.include_resolve.specs.Selecting.{Selects}
+use Rattle.include_resolve.specs.code.Selecting.{Selects}
 use Rattle.include_resolve.specs.Selection.{selected}
-use Rattle.include_resolve.specs.Steps.{walk_of, IsRefusal, Opening, Fails, Gives, Adds}
+use Rattle.include_resolve.specs.code.Steps.{walk_of, IsRefusal, Opening, Fails, Gives, Adds}
 use Rattle.include_resolve.proofs.Joins.{part_of, same_walk, same_part, beyond_joined, beyond_nothing, before_joined, before_end, nothing_before}
 
 -- ---- faults

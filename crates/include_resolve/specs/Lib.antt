@@ -1,14 +1,7 @@
-pub mod Causes
 pub mod Laws
-pub mod NameSet
 pub mod Names
-pub mod Opening
 pub mod Parts
-pub mod Path
-pub mod Reading
 pub mod Resolved
-pub mod Selecting
 pub mod Selection
-pub mod Spelling
-pub mod Steps
 pub mod Texts
+pub mod code

@@ -15,7 +15,6 @@ use Rattle.tptp_base.specs.declared.read.TheConstants.{FILE_SIZE}
 use Rattle.tptp_base.specs.Read.{IsOver}
 use Rattle.tptp_base.specs.Store.{Files, HasFile, IsMissing}
 use Rattle.include_resolve.specs.declared.fault.IncludeFault.{IncludeFault}
-use Rattle.include_resolve.specs.declared.fault.IncludeFault.TheVariants as fault
 use Rattle.include_resolve.specs.declared.fault.TextFault.{TextFault}
 use Rattle.include_resolve.specs.declared.problem.Problem.{Problem}
 use Rattle.include_resolve.specs.declared.problem.TheConstants.{MAX_DEPTH, TOTAL_SIZE}
@@ -23,6 +22,7 @@ use Rattle.include_resolve.specs.Names.{Text, tried_names, is_on}
 use Rattle.include_resolve.specs.Parts.{Answer, nothing, file_alone, item_alone, before}
 use Rattle.include_resolve.specs.Selection.{selected}
 use Rattle.include_resolve.specs.Texts.{IsSpelled, IsFaulty}
+use Rattle.include_resolve.specs.declared.fault.IncludeFault.TheVariants as fault
 
 -- Where the walk stands: the names of the open files, the innermost first; how many files were opened so far; and how many
 -- bytes they have together.

@@ -3,16 +3,16 @@
 use Rattle.std.specs.Prelude.{ℕ, List, length, Ok, Err}
 use Rattle.tptp_base.specs.declared.item.Item.{Item}
 use Rattle.tptp_base.specs.declared.place.Region.{Region}
-use Rattle.tptp_lexer.specs.declared.fault.LexFault.TheVariants as lex
 use Rattle.tptp_lexer.specs.declared.style.Style.TheVariants.{Problem as ProblemStyle}
 use Rattle.tptp_lexer.specs.declared.token.Tokens.{Tokens}
-use Rattle.tptp_lexer.specs.Answer as lexer
 use Rattle.tptp_grammar.specs.declared.fault.GrammarFault.{GrammarFault}
-use Rattle.tptp_grammar.specs.declared.fault.GrammarFault.TheVariants as grammar
-use Rattle.tptp_grammar.specs.Answers as parser
 use Rattle.include_resolve.specs.declared.fault.TextFault.{TextFault}
 use Rattle.include_resolve.specs.declared.fault.TextFault.TheVariants.{Lex, Grammar}
 use Rattle.include_resolve.specs.Names.{Text}
+use Rattle.tptp_lexer.specs.declared.fault.LexFault.TheVariants as lex
+use Rattle.tptp_lexer.specs.Answer as lexer
+use Rattle.tptp_grammar.specs.declared.fault.GrammarFault.TheVariants as grammar
+use Rattle.tptp_grammar.specs.Answers as parser
 
 abbrev pub whole : Text → Region
 whole text = record { start = 0; end = length text }

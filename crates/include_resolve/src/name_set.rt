@@ -3,7 +3,7 @@ ghost use Rattle.std.specs.Prelude.{◌≡◌, ◌||◌, false, List, ℕ, OnOk,
 ghost use Rattle.std.specs.Str.{bytes_eq};
 ghost use Rattle.tptp_base.specs.declared.name.Name.{Name as NameOf};
 ghost use Rattle.include_resolve.specs.Selection.{is_same_name};
-ghost use Rattle.include_resolve.specs.NameSet.{knows, has};
+ghost use Rattle.include_resolve.specs.code.NameSet.{knows, has};
 
 use crate::IncludeFault;
 use indexmap::IndexSet;

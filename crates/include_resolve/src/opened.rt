@@ -1,7 +1,7 @@
 // The files that were opened so far.
 ghost use Rattle.std.specs.Prelude.{◌≡◌, ◌≤◌, ◌+◌, ◌∷◌, [], ◌++◌, length, OnOk, OnErr, IfErr};
 ghost use Rattle.include_resolve.specs.declared.problem.TheConstants.{TOTAL_SIZE as total_size};
-ghost use Rattle.include_resolve.specs.Opening.{TakesText, FitsIn, IsOverFault};
+ghost use Rattle.include_resolve.specs.code.Opening.{TakesText, FitsIn, IsOverFault};
 
 use crate::IncludeFault;
 use crate::reading::Read;

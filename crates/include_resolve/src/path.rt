@@ -1,7 +1,7 @@
 // The files that are open.
 ghost use Rattle.std.specs.Prelude.{◌≡◌};
 ghost use Rattle.include_resolve.specs.Names.{is_on};
-ghost use Rattle.include_resolve.specs.Path.{path_names};
+ghost use Rattle.include_resolve.specs.code.Path.{path_names};
 
 /// The names of the files that are open: none, or one inside the others.
 #[derive(Clone, Copy)]
@@ -11,7 +11,7 @@ pub enum Path<'a> {
 }
 
 /// Whether a file of this name is open.
-#[tactic(auto, using(crate::specs::Path::path_equations))]
+#[tactic(auto, using(crate::proofs::PathFacts::path_equations))]
 pub fn is_open(path: &Path<'_>, name: &str) -> bool
     ensures { result ≡ is_on (path_names path.now) name.now }
 {

@@ -2,7 +2,7 @@
 ghost use Rattle.std.specs.Prelude.{◌≡◌, ◌≤◌, ◌∷◌, [], All, IfOk, IfErr, IfNone, MatchOption, map, option_to_list, string_bytes};
 ghost use Rattle.tptp_base.specs.Count.{Rose};
 ghost use Rattle.tptp_base.specs.Store.{IsMissing};
-ghost use Rattle.include_resolve.specs.Reading.{IsReadOf, IsStop};
+ghost use Rattle.include_resolve.specs.code.Reading.{IsReadOf, IsStop};
 ghost use Rattle.include_resolve.specs.Resolved.{IsFirstFile};
 
 use crate::IncludeFault;

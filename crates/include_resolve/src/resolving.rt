@@ -4,12 +4,12 @@ ghost use Rattle.std.specs.Option.{option_copied};
 ghost use Rattle.tptp_base.specs.Count.{Rose};
 ghost use Rattle.tptp_base.specs.Quotable.{IsQuotable};
 ghost use Rattle.include_resolve.specs.declared.problem.TheConstants.{TOTAL_SIZE as total_size, MAX_DEPTH as max_depth};
-ghost use Rattle.include_resolve.specs.Causes.{HasCause};
+ghost use Rattle.include_resolve.specs.code.Causes.{HasCause};
 ghost use Rattle.include_resolve.specs.Names.{is_on};
-ghost use Rattle.include_resolve.specs.Path.{path_names};
+ghost use Rattle.include_resolve.specs.code.Path.{path_names};
 ghost use Rattle.include_resolve.specs.Resolved as spec;
-ghost use Rattle.include_resolve.specs.Steps.{list_of, walk_of, Gives, Adds, IsRefusal, HasQuotableFile};
-ghost use Rattle.include_resolve.specs.Reading.{IsReadOf};
+ghost use Rattle.include_resolve.specs.code.Steps.{list_of, walk_of, Gives, Adds, IsRefusal, HasQuotableFile};
+ghost use Rattle.include_resolve.specs.code.Reading.{IsReadOf};
 
 use crate::names::{Names, tried_names, written_name};
 use crate::opened::{Opened, take_text};

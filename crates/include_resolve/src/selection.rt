@@ -2,9 +2,9 @@
 ghost use Rattle.std.specs.Prelude.{◌≡◌, ◌||◌, not, ◌++◌, ◌∷◌, [], if◌then◌else◌, filter, Some, IfOk, IfErr, OnOk};
 ghost use Rattle.std.specs.Option.{option_copied};
 ghost use Rattle.tptp_base.specs.declared.name.Name.{Name as NameOf};
-ghost use Rattle.include_resolve.specs.NameSet.{knows, knows_item};
+ghost use Rattle.include_resolve.specs.code.NameSet.{knows, knows_item};
 ghost use Rattle.include_resolve.specs.Selection.{is_among, is_named, is_selected, has_formula, unknown_name};
-ghost use Rattle.include_resolve.specs.Selecting.{Selects, IsUnknown};
+ghost use Rattle.include_resolve.specs.code.Selecting.{Selects, IsUnknown};
 
 use crate::IncludeFault;
 use crate::name_set::NameSet;

@@ -2,7 +2,7 @@
 ghost use Rattle.std.specs.Prelude.{◌≡◌, ◌≤◌, length, IfOk, IfErr};
 ghost use Rattle.tptp_base.specs.declared.read.TheConstants.{FILE_SIZE as file_size};
 ghost use Rattle.tptp_grammar.specs.Answers as parser;
-ghost use Rattle.include_resolve.specs.Spelling.{IsTextFault, IsGrammarStop, IsNamed};
+ghost use Rattle.include_resolve.specs.code.Spelling.{IsTextFault, IsGrammarStop, IsNamed};
 ghost use Rattle.include_resolve.specs.Texts.{IsSpelled};
 
 use crate::{IncludeFault, TextFault};

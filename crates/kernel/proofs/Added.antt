@@ -5,11 +5,13 @@ use Rattle.std.proofs.Common.{arith, get_or, zero, suc, sym, ap, ◌∙◌, fals
 use Rattle.fof_terms.specs.Vocabulary.{Vocabulary}
 use Rattle.fof_terms.specs.declared.term.Term.{Term, Var, App}
 use Rattle.fof_terms.specs.declared.form.Form.{Form, All as Every}
-use Rattle.fof_terms.specs.Lift.{greatest, lift_term_reach, lift_term_reach-Var, lift_term_reach-App}
+use Rattle.fof_terms.specs.Lift.{greatest, lift_term_reach}
+use Rattle.fof_terms.proofs.LiftFacts.{lift_term_reach-Var, lift_term_reach-App}
 use Rattle.fof_terms.specs.Instance.{instance_reach}
 use Rattle.fof_terms.specs.Sorts.{Sorted, binder_depth}
-use Rattle.fof_terms.specs.MoreReaches.{any_reach}
-use Rattle.fof_terms.specs.SortLaws.{Grows, grown_sorted}
+use Rattle.fof_terms.proofs.MoreReaches.{any_reach}
+use Rattle.fof_terms.specs.SortLaws.{Grows}
+use Rattle.fof_terms.proofs.SortLawsFacts.{grown_sorted}
 use Rattle.tptp_base.specs.declared.limit.LimitName.{LimitName}
 use Rattle.fof_terms.specs.declared.signature.SigFault.{SigFault}
 use Rattle.fof_terms.specs.declared.signature.SigFault.TheVariants.{Limit, Memory as no_room}

@@ -4,14 +4,15 @@ use Rattle.std.specs.List.{AllByRecursion}
 use Rattle.std.proofs.Common.{ap, sym, subst, ◌∙◌}
 use Rattle.fof_terms.specs.declared.form.Form.{Form, Not, And, Or, Imp, Iff}
 use Rattle.fof_terms.specs.Sorts.{IsScope, Sorted}
-use Rattle.fof_terms.specs.Scoped.{member_of, sorted_of_not, sorted_of_imp, sorted_of_iff}
-use Rattle.fof_terms.specs.Moved.{closed_anywhere}
-use Rattle.fof_terms.specs.Trees.{And-injective, Not-injective, Imp-injective, Iff-injective}
+use Rattle.fof_terms.proofs.Scoped.{member_of, sorted_of_not, sorted_of_imp, sorted_of_iff}
+use Rattle.fof_terms.proofs.Moved.{closed_anywhere}
+use Rattle.fof_terms.proofs.Trees.{And-injective, Not-injective, Imp-injective, Iff-injective}
 use Rattle.kernel.specs.Statements.{Statements}
 use Rattle.kernel.specs.Proves.{Proves}
-use Rattle.kernel.specs.Rules.{Proves-Line, Proves-Hyp, Proves-AndE, Proves-OrI, Proves-ImpI, Proves-ImpE, Proves-NotI, Proves-NotE, Proves-IffI, Proves-IffL, Proves-IffR}
-use Rattle.kernel.specs.Building.{by_line, by_hyp, by_and_e, by_or_i, by_imp_i, by_imp_e, by_not_i, by_not_e, by_iff_i, by_iff_l, by_iff_r}
-use Rattle.kernel.specs.Concludes.{Concludes, ConcludesUnder}
+use Rattle.kernel.proofs.RulesFacts.{Proves-Line, Proves-Hyp, Proves-AndE, Proves-OrI, Proves-ImpI, Proves-ImpE, Proves-NotI, Proves-NotE, Proves-IffI, Proves-IffL, Proves-IffR}
+use Rattle.kernel.proofs.Building.{by_line, by_hyp, by_and_e, by_or_i, by_imp_i, by_imp_e, by_not_i, by_not_e, by_iff_i, by_iff_l, by_iff_r}
+use Rattle.kernel.specs.Concludes.{Concludes}
+use Rattle.kernel.specs.code.Concludes.{ConcludesUnder}
 use Rattle.kernel.specs.declared.proof.Proof.{Proof, Line, Hyp, AndE, OrI, ImpI, ImpE, NotI, NotE, IffI, IffL, IffR}
 
 -- what follows from what an answer has

@@ -6,16 +6,19 @@ use Rattle.std.proofs.lemmas.List.{length-reverse}
 use Rattle.fof_terms.specs.Vocabulary.{Vocabulary}
 use Rattle.fof_terms.specs.declared.form.Form.{Form, Not, And, Or}
 use Rattle.fof_terms.specs.Sorts.{IsScope, Sorted}
-use Rattle.fof_terms.specs.Scoped.{not_sorted, sorted_of_or}
-use Rattle.fof_terms.specs.Moved.{lifted_over}
+use Rattle.fof_terms.proofs.Scoped.{not_sorted, sorted_of_or}
+use Rattle.fof_terms.proofs.Moved.{lifted_over}
 use Rattle.fof_terms.specs.Lift.{lifted, lift_reach}
-use Rattle.fof_terms.specs.Reaches.{lift_fits}
-use Rattle.fof_terms.specs.Trees.{Or-injective}
+use Rattle.fof_terms.proofs.Reaches.{lift_fits}
+use Rattle.fof_terms.proofs.Trees.{Or-injective}
 use Rattle.kernel.specs.Statements.{Statements}
 use Rattle.kernel.specs.Proves.{Proves, all_over}
-use Rattle.kernel.specs.Rules.{ProveAll, ProveEach, Proves-AndI, Proves-OrE, Proves-Raa}
-use Rattle.kernel.specs.Building.{shown_sorted, by_and_i, by_or_e, by_raa}
-use Rattle.kernel.specs.Concludes.{Concludes, ConcludesUnder, Kept, EachUnder, IsContext, IsReach}
+use Rattle.kernel.specs.code.Rules.{ProveAll}
+use Rattle.kernel.specs.Rules.{ProveEach}
+use Rattle.kernel.proofs.RulesFacts.{Proves-AndI, Proves-OrE, Proves-Raa}
+use Rattle.kernel.proofs.Building.{shown_sorted, by_and_i, by_or_e, by_raa}
+use Rattle.kernel.specs.Concludes.{Concludes, IsContext}
+use Rattle.kernel.specs.code.Concludes.{ConcludesUnder, Kept, EachUnder, IsReach}
 use Rattle.kernel.specs.declared.proof.Proof.{Proof, AndI, OrE, Raa}
 use Rattle.kernel.proofs.Concluded.{some_same, only}
 

@@ -4,16 +4,18 @@ use Rattle.std.proofs.Common.{ap, sym, subst, ◌∙◌, arith}
 use Rattle.fof_terms.specs.Vocabulary.{Vocabulary}
 use Rattle.fof_terms.specs.declared.term.Term.{Term}
 use Rattle.fof_terms.specs.declared.form.Form.{Form, Eq, All, Ex}
-use Rattle.fof_terms.specs.Sorts.{IsScope, Sorted, SortedTo, sort_of_term, binder_depth, binder_depth-All, binder_depth-Ex}
-use Rattle.fof_terms.specs.Scoped.{all_sorted, ex_sorted, sorted_of_eq, sorted_of_ex}
+use Rattle.fof_terms.specs.Sorts.{IsScope, Sorted, SortedTo, sort_of_term, binder_depth}
+use Rattle.fof_terms.proofs.SortsFacts.{binder_depth-All, binder_depth-Ex}
+use Rattle.fof_terms.proofs.Scoped.{all_sorted, ex_sorted, sorted_of_eq, sorted_of_ex}
 use Rattle.fof_terms.specs.Instance.{instance_at, instance_reach}
-use Rattle.fof_terms.specs.MoreReaches.{instance_reach_fits}
-use Rattle.fof_terms.specs.Trees.{All-injective, Ex-injective, Eq-injective}
+use Rattle.fof_terms.proofs.MoreReaches.{instance_reach_fits}
+use Rattle.fof_terms.proofs.Trees.{All-injective, Ex-injective, Eq-injective}
 use Rattle.kernel.specs.Statements.{Statements}
 use Rattle.kernel.specs.Proves.{Proves, over, all_over}
-use Rattle.kernel.specs.Rules.{Proves-AllI, Proves-AllE, Proves-ExI, Proves-ExE, Proves-Refl, Proves-Subst, Proves-Inhabit}
-use Rattle.kernel.specs.Building.{shown_sorted, by_all_i, by_all_e, by_ex_e, by_refl, by_subst, by_inhabit}
-use Rattle.kernel.specs.Concludes.{Concludes, ConcludesUnder}
+use Rattle.kernel.proofs.RulesFacts.{Proves-AllI, Proves-AllE, Proves-ExI, Proves-ExE, Proves-Refl, Proves-Subst, Proves-Inhabit}
+use Rattle.kernel.proofs.Building.{shown_sorted, by_all_i, by_all_e, by_ex_e, by_refl, by_subst, by_inhabit}
+use Rattle.kernel.specs.Concludes.{Concludes}
+use Rattle.kernel.specs.code.Concludes.{ConcludesUnder}
 use Rattle.kernel.specs.declared.proof.Proof.{Proof, AllI, AllE, ExI, ExE, Refl, Subst, Inhabit}
 use Rattle.kernel.proofs.Concluded.{some_same, only}
 

@@ -4,3 +4,8 @@ pub mod ConcludedOver
 pub mod ConcludedLists
 pub mod Added
 pub mod Marked
+pub mod Building
+pub mod EntryLaws
+pub mod HypothesesFacts
+pub mod RulesFacts
+pub mod Weakening

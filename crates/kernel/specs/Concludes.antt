@@ -1,6 +1,6 @@
 -- What a proof concludes, said of an answer.
-use Rattle.std.specs.Prelude.{ℕ, ◌≡◌, ◌↔◌, ◌+◌, List, [], ◌∷◌, length, Option, Some, Bool, IsTrue}
-use Rattle.std.specs.List.{AllByRecursion, All}
+use Rattle.std.specs.Prelude.{ℕ, ◌≡◌, ◌↔◌, List, Option, Some}
+use Rattle.std.specs.List.{All}
 use Rattle.fof_terms.specs.Vocabulary.{Vocabulary}
 use Rattle.fof_terms.specs.Sorts.{IsScope, Sorted}
 use Rattle.fof_terms.specs.declared.form.Form.{Form}
@@ -12,28 +12,7 @@ use Rattle.kernel.specs.declared.proof.Proof.{Proof}
 abbrev pub Concludes : Statements → List ℕ → List Form → Proof → Option Form → Type 0
 Concludes t v h p answer = (a : Form) → (answer ≡ Some a) ↔ Proves t v h p a
 
--- the same under a hypothesis, which is to be well-sorted
-abbrev pub ConcludesUnder : Statements → List ℕ → List Form → Form → Proof → Option Form → Type 0
-ConcludesUnder t v h b p answer = (a : Form) → (answer ≡ Some a) ↔ (Sorted t.vocabulary v b × Proves t v (b ∷ h) p a)
-
--- the goal, where the rest of its rule holds and it is well-sorted, and else none
-abbrev pub Kept : Statements → List ℕ → Form → Bool → Option Form → Type 0
-Kept t v goal holds answer = (a : Form) → (answer ≡ Some a) ↔ ((a ≡ goal) × IsTrue holds × Sorted t.vocabulary v goal)
-
 -- the hypotheses are well-sorted over the variables
 pub record IsContext (v : Vocabulary) (scope : List ℕ) (h : List Form) : Type 0 where
   pub scope_fits : IsScope v scope
   pub hyps_sorted : All (Sorted v scope) h
-
--- the same within a proof, with room for so many variables more
-pub record IsReach (v : Vocabulary) (scope : List ℕ) (h : List Form) (room : ℕ) : Type 0 where
-  pub scope_fits : IsScope v scope
-  pub room_left : length scope + room ≡ 2147483647
-  pub hyps_sorted : AllByRecursion (Sorted v scope) h
-
--- each proof shows the goal under the member at its place, which is well-sorted
-abbrev pub EachUnder : Statements → List ℕ → List Form → Form → List Proof → List Form → Type 0
-EachUnder t v h goal [] [] = Unit {0}
-EachUnder t v h goal [] (b ∷ bs) = ⊥
-EachUnder t v h goal (p ∷ ps) [] = ⊥
-EachUnder t v h goal (p ∷ ps) (b ∷ bs) = (Sorted t.vocabulary v b × Proves t v (b ∷ h) p goal) × EachUnder t v h goal ps bs

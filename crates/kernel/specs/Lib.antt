@@ -1,11 +1,8 @@
-pub mod Building
 pub mod Concludes
 pub mod Entries
-pub mod EntryLaws
 pub mod Faults
-pub mod Hypotheses
 pub mod Proves
 pub mod Rules
 pub mod Statements
 pub mod Uses
-pub mod Weakening
+pub mod code

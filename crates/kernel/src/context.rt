@@ -2,7 +2,7 @@ ghost use Rattle.std.specs.Prelude.{◌≡◌, ◌<◌, ◌^◌, [], ◌∷◌, 
 ghost use Rattle.std.specs.Option.{option_copied};
 ghost use Rattle.std.specs.List.{AllByRecursion};
 ghost use Rattle.fof_terms.specs.Lift.{lift_reach};
-ghost use Rattle.kernel.specs.Hypotheses.{hypotheses};
+ghost use Rattle.kernel.specs.code.Hypotheses.{hypotheses};
 
 use fof_terms::{Form, SortId, lift};
 use std::alloc::Global;
@@ -43,7 +43,7 @@ pub enum Hypotheses<'a> {
 }
 
 /// The hypothesis of that number.
-#[tactic(auto, using(crate::specs::Hypotheses::hypotheses_equations))]
+#[tactic(auto, using(crate::proofs::HypothesesFacts::hypotheses_equations))]
 pub fn hypothesis(alloc: Global, hyps: &Hypotheses<'_>, number: u32) -> Result<Shown, Memory>
     requires { AllByRecursion (λ a. lift_reach 1 0 a < 2 ^ 32) (hypotheses hyps.now) }
     ensures { IfOk result (λ form. form ≡ slice_get (hypotheses hyps.now) number) }

@@ -5,10 +5,11 @@ ghost use Rattle.fof_terms.specs.Scope.{scope_sorts};
 ghost use Rattle.fof_terms.specs.declared.form.Form.{Form as Formula};
 ghost use Rattle.kernel.specs.declared.proof.Proof.{Proof as Deduction, AndI, OrE, Raa, ExE};
 ghost use Rattle.kernel.specs.Statements.{Statements};
-ghost use Rattle.kernel.specs.Hypotheses.{hypotheses};
+ghost use Rattle.kernel.specs.code.Hypotheses.{hypotheses};
 ghost use Rattle.kernel.specs.Proves.{all_over};
-ghost use Rattle.kernel.specs.Rules.{ProveAll};
-ghost use Rattle.kernel.specs.Concludes.{Concludes, ConcludesUnder, EachUnder, IsContext, IsReach};
+ghost use Rattle.kernel.specs.code.Rules.{ProveAll};
+ghost use Rattle.kernel.specs.Concludes.{Concludes, IsContext};
+ghost use Rattle.kernel.specs.code.Concludes.{ConcludesUnder, EachUnder, IsReach};
 
 use crate::context::{Context, Hypotheses, Shown, hypothesis};
 use crate::proof::Proof;

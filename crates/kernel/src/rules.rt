@@ -5,7 +5,8 @@ ghost use Rattle.fof_terms.specs.Scope.{scope_sorts};
 ghost use Rattle.fof_terms.specs.declared.form.Form.{Form as Formula};
 ghost use Rattle.kernel.specs.declared.proof.Proof.{Proof as Deduction, Line, AndE, OrI, ImpI, ImpE, NotI, NotE, IffI, IffL, IffR};
 ghost use Rattle.kernel.specs.Statements.{Statements};
-ghost use Rattle.kernel.specs.Concludes.{Concludes, ConcludesUnder, Kept};
+ghost use Rattle.kernel.specs.Concludes.{Concludes};
+ghost use Rattle.kernel.specs.code.Concludes.{ConcludesUnder, Kept};
 
 use crate::context::{Shown, copied};
 use crate::theory::Theory;

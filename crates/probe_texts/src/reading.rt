@@ -5,7 +5,7 @@ ghost use Rattle.tptp_base.specs.declared.item.Item.{Item};
 ghost use Rattle.tptp_grammar.specs.Answers as answers;
 ghost use Rattle.tptp_grammar.specs.Faults as faults;
 ghost use Rattle.tptp_grammar.specs.Files.{IsFile, Spells, SpellsWithin};
-ghost use Rattle.tptp_grammar.specs.ReadItems as items;
+ghost use Rattle.tptp_grammar.specs.code.ReadItems as items;
 ghost use Rattle.tptp_grammar.specs.Tokens.{Tokens as NestedTokens};
 ghost use Rattle.tptp_lexer.specs.Answer.{Answers, Gives, IsOne, IsWithin, part};
 ghost use Rattle.tptp_lexer.specs.Tokenized.{Tokenized, bare_items};

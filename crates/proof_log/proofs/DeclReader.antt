@@ -4,7 +4,7 @@ use Rattle.std.specs.Prelude.{decimal}
 use Rattle.std.specs.List.{flat_map}
 use Rattle.std.proofs.lemmas.List.{length-map}
 use Rattle.first_fault.specs.Nesting.{Nested, plain}
-use Rattle.first_fault.specs.Reading.{Reader, mapped, next}
+use Rattle.first_fault.specs.code.Reading.{Reader, mapped, next}
 use Rattle.first_fault.specs.Rules.{Rule}
 use Rattle.first_fault.proofs.Good.{Good, After, after, good_then, good_map, good_as, good_opened, Parts, always}
 use Rattle.fof_terms.specs.declared.signature.Kind.{Kind}
@@ -19,9 +19,10 @@ use Rattle.proof_log.specs.Words.{Word, word, at_level, nested}
 use Rattle.proof_log.specs.LogText.{number as number_text, numbers_text}
 use Rattle.tptp_base.specs.Quotable.{IsQuotable}
 use Rattle.proof_log.specs.Entries.{quoted as quoted_text, symbol_text, decl_text, HasNoResult, IsWritableDecl, IsSmall, AreSmall, AreNumbersInRange}
-use Rattle.proof_log.specs.Names.{decl_name, decl_names}
-use Rattle.proof_log.specs.ReadWords.{is_byte, find, number, listed, both, name, head}
-use Rattle.proof_log.specs.ReadEntries.{quoted, function_of, predicate_of, decl_by, declaration}
+use Rattle.proof_log.specs.Names.{decl_name}
+use Rattle.proof_log.specs.code.Names.{decl_names}
+use Rattle.proof_log.specs.code.ReadWords.{is_byte, find, number, listed, both, name, head}
+use Rattle.proof_log.specs.code.ReadEntries.{quoted, function_of, predicate_of, decl_by, declaration}
 use Rattle.proof_log.proofs.Spelling.{Spell, ends, ends_before, level-append}
 use Rattle.proof_log.proofs.NumberReader.{is_kind, one_number, small_good}
 use Rattle.proof_log.proofs.ListReader.{members, list_words, good_list}

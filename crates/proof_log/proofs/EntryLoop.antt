@@ -1,13 +1,13 @@
 -- The loop that reads the entries of a log.
 use Rattle.std.proofs.Common.{◌≡◌, ℕ, ◌<◌, List, [], ◌∷◌, ◌++◌, length, Ok, Err, refl, sym, ◌∙◌, ap, subst, append_assoc, append-nil, arith}
-use Rattle.first_fault.specs.Reading.{Cause, Outcome}
+use Rattle.first_fault.specs.code.Reading.{Cause, Outcome}
 use Rattle.first_fault.proofs.Exact.{Exact}
 use Rattle.kernel.specs.declared.entry.Entry.{Entry}
 use Rattle.proof_log.specs.declared.stop.Stop.{Stop}
 use Rattle.proof_log.specs.declared.stop.Stop.TheVariants as stop
-use Rattle.proof_log.specs.Outcomes.{Fails}
-use Rattle.proof_log.specs.Answers.{FailsEntries}
-use Rattle.proof_log.specs.ReadEntries.{LogOutcome, entry, with_entry, followed, entries}
+use Rattle.proof_log.specs.code.Outcomes.{Fails}
+use Rattle.proof_log.specs.code.Answers.{FailsEntries}
+use Rattle.proof_log.specs.code.ReadEntries.{LogOutcome, entry, with_entry, followed, entries}
 use Rattle.proof_log.proofs.EntryReader.{Line, good_entry}
 use Rattle.proof_log.proofs.LogReader.{unrolled, no_entries, moves}
 

@@ -1,7 +1,7 @@
 -- The reader of entries is exact and finds each entry.
 use Rattle.std.proofs.Common.{◌≡◌, ℕ, List, [], ◌∷◌, ◌++◌, Some, refl, sym, ◌∙◌, ap, append_assoc, arith}
 use Rattle.first_fault.specs.Nesting.{Nested}
-use Rattle.first_fault.specs.Reading.{closed}
+use Rattle.first_fault.specs.code.Reading.{closed}
 use Rattle.first_fault.specs.Rules.{Rule}
 use Rattle.first_fault.proofs.Good.{Good, good_then, good_map, good_as, good_closed, Parts, always}
 use Rattle.fof_terms.specs.declared.form.Form.{Form}
@@ -14,10 +14,11 @@ use Rattle.proof_log.specs.declared.name.EntryName.TheVariants as n
 use Rattle.proof_log.specs.Words.{small, at_level, nested}
 use Rattle.proof_log.specs.LogText.{form_words, proof_words}
 use Rattle.proof_log.specs.Entries.{decl_text, IsLogged, nested_entry}
-use Rattle.proof_log.specs.Names.{entry_name, entry_names}
-use Rattle.proof_log.specs.ReadWords.{is_byte, find, number, both, name}
-use Rattle.proof_log.specs.ReadTrees.{behind, form, proof}
-use Rattle.proof_log.specs.ReadEntries.{declaration, entry_by, entry}
+use Rattle.proof_log.specs.Names.{entry_name}
+use Rattle.proof_log.specs.code.Names.{entry_names}
+use Rattle.proof_log.specs.code.ReadWords.{is_byte, find, number, both, name}
+use Rattle.proof_log.specs.code.ReadTrees.{behind, form, proof}
+use Rattle.proof_log.specs.code.ReadEntries.{declaration, entry_by, entry}
 use Rattle.proof_log.proofs.Spelling.{Spell, ends, pair, good_pair, level-append}
 use Rattle.proof_log.proofs.NumberReader.{is_kind, one_number, small_good}
 use Rattle.proof_log.proofs.NameReader.{Named, good_name}

@@ -2,14 +2,15 @@
 use Rattle.std.proofs.Common.{◌≡◌, true, ℕ, zero, suc, List, [], ◌∷◌, ◌++◌, length, map, inl, refl, sym, ◌∙◌, ap, subst, arith, lit<, lit≤}
 use Rattle.std.specs.List.{flat_map}
 use Rattle.std.proofs.lemmas.List.{length-map}
-use Rattle.first_fault.specs.Nesting.{Nested, plain, done}
-use Rattle.first_fault.specs.Reading.{Reader, mapped, next}
+use Rattle.first_fault.specs.Nesting.{Nested, plain}
+use Rattle.first_fault.proofs.NestingFacts.{done}
+use Rattle.first_fault.specs.code.Reading.{Reader, mapped, next}
 use Rattle.first_fault.specs.Rules.{Rule}
 use Rattle.first_fault.proofs.Exact.{Exact, exact_done}
 use Rattle.first_fault.proofs.Found.{Found}
 use Rattle.first_fault.proofs.Good.{Good, good_then, good_map, Parts}
 use Rattle.proof_log.specs.Words.{Word, large, list_of, nested}
-use Rattle.proof_log.specs.ReadWords.{number, times, listed}
+use Rattle.proof_log.specs.code.ReadWords.{number, times, listed}
 use Rattle.proof_log.proofs.Spelling.{Spell, ends, ends_before, nested_on, ranges-append, ranges-first, ranges-second}
 use Rattle.proof_log.proofs.NumberReader.{one_number, good_number}
 

@@ -1,15 +1,16 @@
 -- What the function that reads a log answers.
 use Rattle.std.proofs.Common.{◌≡◌, ℕ, ◌-◌, List, length, Ok, Err, ◌⊎◌, inl, inr, refl, sym, ◌∙◌, ap, subst}
 use Rattle.first_fault.specs.Nesting.{Within}
-use Rattle.first_fault.specs.Reading.{Cause, Unexpected, TooDeep}
+use Rattle.first_fault.specs.code.Reading.{Cause, Unexpected, TooDeep}
 use Rattle.kernel.specs.declared.entry.Entry.{Entry}
 use Rattle.proof_log.specs.declared.stop.Stop.{Stop}
 use Rattle.proof_log.specs.declared.stop.Stop.TheVariants as stop
 use Rattle.proof_log.specs.declared.reader.LogFault.TheVariants as fault
 use Rattle.proof_log.specs.Entries.{AreLogged, log_text, nested_log}
 use Rattle.proof_log.specs.Logs.{IsFirstFault, IsFirstDeep}
-use Rattle.proof_log.specs.Answers.{FailsEntries, fault_of, IsLogOf, Tells}
-use Rattle.proof_log.specs.ReadEntries.{LogOutcome, log}
+use Rattle.proof_log.specs.code.Answers.{FailsEntries, fault_of}
+use Rattle.proof_log.specs.Answers.{IsLogOf, Tells}
+use Rattle.proof_log.specs.code.ReadEntries.{LogOutcome, log}
 use Rattle.proof_log.proofs.LogLaws.{log_plain, never_over}
 use Rattle.proof_log.proofs.LogWhole.{IsWholeLog, ExactWhole, exact_log, FoundLog, found_log}
 use Rattle.proof_log.proofs.Offsets.{first_fault, first_deep}

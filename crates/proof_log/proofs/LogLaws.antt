@@ -4,7 +4,7 @@ use Rattle.std.specs.Prelude.{decimal}
 use Rattle.std.specs.List.{flat_map}
 use Rattle.std.proofs.Math.Seq.{drop-append_seam}
 use Rattle.first_fault.specs.Nesting.{Nested, plain, Within, FirstOver, here, behind}
-use Rattle.first_fault.specs.Reading.{Outcome}
+use Rattle.first_fault.specs.code.Reading.{Outcome}
 use Rattle.first_fault.proofs.Exact.{plain-append}
 use Rattle.first_fault.proofs.Found.{Found}
 use Rattle.kernel.specs.declared.entry.Entry.{Entry}
@@ -13,7 +13,7 @@ use Rattle.proof_log.specs.Words.{small, at_level, nested, word}
 use Rattle.proof_log.specs.LogText.{form_words, form_text, proof_words, proof_text}
 use Rattle.proof_log.specs.Entries.{entry_text, log_text, IsLogged, AreLogged, nested_entry, nested_log}
 use Rattle.proof_log.specs.declared.write.TheConstants.{HEADER}
-use Rattle.proof_log.specs.ReadEntries.{LogOutcome, entry, entries}
+use Rattle.proof_log.specs.code.ReadEntries.{LogOutcome, entry, entries}
 use Rattle.proof_log.proofs.Spelling.{plain-level, plain-nested}
 use Rattle.proof_log.proofs.EntryReader.{good_entry}
 use Rattle.proof_log.proofs.LogReader.{lines, starts_line, FoundAll, found_entries}

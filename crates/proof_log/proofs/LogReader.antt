@@ -1,15 +1,16 @@
 -- The reader of logs is exact and finds each log.
 use Rattle.std.proofs.Common.{◌≡◌, ℕ, zero, suc, ◌<◌, ◌≤◌, List, [], ◌∷◌, ◌++◌, length, Ok, Err, ◌⊎◌, inl, inr, refl, sym, ◌∙◌, ap, subst, append_assoc, append-nil, length-append, arith}
 use Rattle.std.specs.List.{flat_map}
-use Rattle.first_fault.specs.Nesting.{Nested, plain, Within, WithinTo, done, FirstOver}
-use Rattle.first_fault.specs.Reading.{Cause, TooDeep, Outcome, next}
+use Rattle.first_fault.specs.Nesting.{Nested, plain, Within, FirstOver}
+use Rattle.first_fault.proofs.NestingFacts.{WithinTo, done}
+use Rattle.first_fault.specs.code.Reading.{Cause, TooDeep, Outcome, next}
 use Rattle.first_fault.proofs.Exact.{Exact, IsRead, IsFault, Over, plain-append, within-append}
 use Rattle.first_fault.proofs.Found.{Found, within_join, over_join}
 use Rattle.first_fault.proofs.Separated.{length-plain}
 use Rattle.kernel.specs.declared.entry.Entry.{Entry}
 use Rattle.kernel.specs.declared.entry.Entry.TheVariants.{Declare, Lemma, Name, Choice}
 use Rattle.proof_log.specs.Entries.{AreLogged, nested_entry}
-use Rattle.proof_log.specs.ReadEntries.{LogOutcome, entry, with_entry, followed, entries_from, entries}
+use Rattle.proof_log.specs.code.ReadEntries.{LogOutcome, entry, with_entry, followed, entries_from, entries}
 use Rattle.proof_log.proofs.EntryReader.{Line, good_entry}
 
 -- the lines of entries

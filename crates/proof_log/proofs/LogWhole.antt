@@ -1,7 +1,8 @@
 -- The reader of a whole log: its first line, and its entries.
 use Rattle.std.proofs.Common.{◌≡◌, ℕ, List, [], ◌∷◌, ◌++◌, Some, Ok, Err, ◌⊎◌, inl, inr, refl, sym, ◌∙◌, ap, subst, append_assoc, append-nil, arith}
-use Rattle.first_fault.specs.Nesting.{Nested, plain, Within, WithinTo, FirstOver}
-use Rattle.first_fault.specs.Reading.{Cause, Unexpected, TooDeep, Outcome, next}
+use Rattle.first_fault.specs.Nesting.{Nested, plain, Within, FirstOver}
+use Rattle.first_fault.proofs.NestingFacts.{WithinTo}
+use Rattle.first_fault.specs.code.Reading.{Cause, Unexpected, TooDeep, Outcome, next}
 use Rattle.first_fault.proofs.Exact.{Exact, IsRead, IsFault, Over, plain-append, within-append}
 use Rattle.first_fault.proofs.Found.{within_join, over_join}
 use Rattle.first_fault.proofs.Good.{Good, always}
@@ -11,9 +12,10 @@ use Rattle.proof_log.specs.declared.name.LogVersion.TheVariants as version
 use Rattle.proof_log.specs.declared.write.TheConstants.{HEADER}
 use Rattle.proof_log.specs.Words.{at_level}
 use Rattle.proof_log.specs.Entries.{AreLogged, nested_log}
-use Rattle.proof_log.specs.Names.{version_line, versions}
-use Rattle.proof_log.specs.ReadWords.{find, name}
-use Rattle.proof_log.specs.ReadEntries.{LogOutcome, entries, behind_version, log}
+use Rattle.proof_log.specs.Names.{version_line}
+use Rattle.proof_log.specs.code.Names.{versions}
+use Rattle.proof_log.specs.code.ReadWords.{find, name}
+use Rattle.proof_log.specs.code.ReadEntries.{LogOutcome, entries, behind_version, log}
 use Rattle.proof_log.proofs.Spelling.{plain-level, all_within, within_level}
 use Rattle.proof_log.proofs.NameReader.{Named, read_name, good_name}
 use Rattle.proof_log.proofs.LogReader.{lines, ExactLog, exact_entries, FoundAll, found_entries, plain_on}

@@ -1,11 +1,11 @@
 -- Loops that read the members of a list.
 use Rattle.std.proofs.Common.{◌≡◌, ℕ, suc, ◌+◌, ◌-◌, ◌<◌, ◌≤◌, List, [], ◌∷◌, ◌++◌, Ok, Err, refl, sym, ◌∙◌, ap, append_assoc, append-nil, arith}
-use Rattle.first_fault.specs.Reading.{Cause, Outcome, Reader, and_then, mapped}
+use Rattle.first_fault.specs.code.Reading.{Cause, Outcome, Reader, and_then, mapped}
 use Rattle.first_fault.proofs.Exact.{mapped_same}
 use Rattle.proof_log.specs.declared.stop.Stop.{Stop}
 use Rattle.proof_log.specs.declared.stop.Stop.TheVariants as stop
-use Rattle.proof_log.specs.Outcomes.{Fails}
-use Rattle.proof_log.specs.ReadWords.{number, times, listed}
+use Rattle.proof_log.specs.code.Outcomes.{Fails}
+use Rattle.proof_log.specs.code.ReadWords.{number, times, listed}
 
 -- what is read of a list, once these members were read
 abbrev pub Kept : {A : Type 0} → Reader ℕ A → ℕ → List ℕ → List A → ℕ → List ℕ → Type 0

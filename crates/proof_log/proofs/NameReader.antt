@@ -5,13 +5,13 @@ use Rattle.std.proofs.lemmas.List.{take-append-drop}
 use Rattle.std.proofs.lemmas.Bool.Decides.{nat_tests}
 use Rattle.std.proofs.Math.Seq.{drop-append_seam}
 use Rattle.first_fault.specs.Nesting.{Nested, plain, FirstOver, here}
-use Rattle.first_fault.specs.Reading.{Unexpected, TooDeep, Outcome, next, refuse}
+use Rattle.first_fault.specs.code.Reading.{Unexpected, TooDeep, Outcome, next, refuse}
 use Rattle.first_fault.specs.Rules.{Rule}
 use Rattle.first_fault.proofs.Exact.{Exact, Inhabited, exact_stop, exact_deep, by_next, by_end}
 use Rattle.first_fault.proofs.Found.{Found}
 use Rattle.first_fault.proofs.Good.{Good, always}
 use Rattle.proof_log.specs.Words.{at_level}
-use Rattle.proof_log.specs.ReadWords.{shared, begins, find, reach, found_or, name, deep_name}
+use Rattle.proof_log.specs.code.ReadWords.{shared, begins, find, reach, found_or, name, deep_name}
 use Rattle.proof_log.proofs.Spelling.{within_level, all_within, plain-on, plain-level, level-append}
 
 -- ---- what a text and a name share

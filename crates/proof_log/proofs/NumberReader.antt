@@ -5,13 +5,13 @@ use Rattle.std.specs.Char.{is_ascii_digit}
 use Rattle.std.proofs.lemmas.Fmt.{decimal_digit, decimal_step, decimal_by_steps}
 use Rattle.std.proofs.lemmas.Bool.Decides.{nat_tests}
 use Rattle.first_fault.specs.Nesting.{Nested, plain}
-use Rattle.first_fault.specs.Reading.{Unexpected, Outcome, next}
+use Rattle.first_fault.specs.code.Reading.{Unexpected, Outcome, next}
 use Rattle.first_fault.specs.Rules.{Rule}
 use Rattle.first_fault.proofs.Exact.{Exact, Inhabited, exact_done, exact_stop, exact_after, exact_token, mapped_same, by_next, by_end}
 use Rattle.first_fault.proofs.Found.{Found}
 use Rattle.first_fault.proofs.Good.{Good, After, after, good_opened, good_as, IsKind}
 use Rattle.proof_log.specs.Words.{Word, Number, at_level}
-use Rattle.proof_log.specs.ReadWords.{is_byte, more_digits, digits, number}
+use Rattle.proof_log.specs.code.ReadWords.{is_byte, more_digits, digits, number}
 use Rattle.proof_log.proofs.Spelling.{Spell, ends, within_level, plain-on}
 
 pub is_kind : (mark : ℕ) → IsKind (is_byte mark) mark

@@ -3,12 +3,12 @@ use Rattle.std.proofs.Common.{◌≡◌, ℕ, suc, ◌-◌, ◌<◌, ◌≤◌, 
 use Rattle.std.proofs.lemmas.List.{take-append-le}
 use Rattle.std.proofs.Math.Seq.{take-append_seam}
 use Rattle.first_fault.specs.Nesting.{Nested, plain, Within, FirstOver, here, behind}
-use Rattle.first_fault.specs.Reading.{Cause, Unexpected, TooDeep, next}
+use Rattle.first_fault.specs.code.Reading.{Cause, Unexpected, TooDeep, next}
 use Rattle.first_fault.proofs.Separated.{length-plain}
 use Rattle.kernel.specs.declared.entry.Entry.{Entry}
 use Rattle.proof_log.specs.Entries.{AreLogged, log_text, nested_log}
 use Rattle.proof_log.specs.Logs.{IsFirstFault, IsFirstDeep}
-use Rattle.proof_log.specs.ReadEntries.{LogOutcome, log}
+use Rattle.proof_log.specs.code.ReadEntries.{LogOutcome, log}
 use Rattle.proof_log.proofs.LogLaws.{log_plain}
 use Rattle.proof_log.proofs.LogWhole.{IsWholeFault, FoundLog, found_log}
 

@@ -5,7 +5,7 @@ use Rattle.std.proofs.Common.{zero, suc, inl, inr, sym, ◌∙◌, ap, subst}
 use Rattle.fof_terms.specs.declared.form.Form.{Form, Eq, And, Imp, Iff, All}
 use Rattle.fof_terms.specs.declared.signature.Symbol.{Symbol}
 use Rattle.fof_terms.specs.Instance.{instance_at}
-use Rattle.fof_terms.specs.Trees.{And-injective, Imp-injective, Iff-injective, All-injective, Eq-injective}
+use Rattle.fof_terms.proofs.Trees.{And-injective, Imp-injective, Iff-injective, All-injective, Eq-injective}
 use Rattle.kernel.specs.Statements.{Statements, IsRefuted}
 use Rattle.kernel.specs.Proves.{Proves, ProvesAll, all_over}
 use Rattle.kernel.specs.Entries.{Legal, After, Admits, Refutes, naming, choice, with_formula}

@@ -1,13 +1,13 @@
 -- A text that has a first fault is refused for that fault and no other.
 use Rattle.std.proofs.Common.{◌≡◌, ℕ, zero, suc, ◌-◌, ◌<◌, ◌≤◌, List, [], ◌∷◌, ◌++◌, length, take, Ok, Err, inl, inr, refl, sym, ◌∙◌, ap, subst, append_assoc, length-append, arith}
 use Rattle.first_fault.specs.Nesting.{Nested, plain, Within}
-use Rattle.first_fault.specs.Reading.{Cause, Unexpected, TooDeep}
+use Rattle.first_fault.specs.code.Reading.{Cause, Unexpected, TooDeep}
 use Rattle.first_fault.proofs.Exact.{plain-append}
 use Rattle.first_fault.proofs.Separated.{length-plain}
 use Rattle.kernel.specs.declared.entry.Entry.{Entry}
 use Rattle.proof_log.specs.Entries.{AreLogged, log_text, nested_log}
 use Rattle.proof_log.specs.Logs.{BeginsLog, IsFirstFault, IsFirstDeep}
-use Rattle.proof_log.specs.ReadEntries.{LogOutcome, log}
+use Rattle.proof_log.specs.code.ReadEntries.{LogOutcome, log}
 use Rattle.proof_log.proofs.LogLaws.{log_plain, within_second}
 use Rattle.proof_log.proofs.LogWhole.{IsWholeFault, IsWholeLog, ExactWhole, exact_log, FoundLog, found_log}
 use Rattle.proof_log.proofs.Offsets.{agree, common, same_front, over_is, over_length, offset_is, first_fault}

@@ -1,7 +1,7 @@
 -- The reader of proofs is exact and finds each proof within its limit.
 use Rattle.std.proofs.Common.{◌≡◌, ℕ, zero, suc, ◌+◌, ◌≤◌, List, [], ◌∷◌, ◌++◌, Some, refl, sym, ◌∙◌, ap, subst, arith}
 use Rattle.first_fault.specs.Nesting.{Nested}
-use Rattle.first_fault.specs.Reading.{Reader}
+use Rattle.first_fault.specs.code.Reading.{Reader}
 use Rattle.first_fault.specs.Rules.{Rule}
 use Rattle.first_fault.proofs.Exact.{Inhabited}
 use Rattle.first_fault.proofs.Good.{Good, good_map}
@@ -16,9 +16,10 @@ use Rattle.proof_log.specs.declared.name.ProofName.{ProofName}
 use Rattle.proof_log.specs.declared.name.ProofName.TheVariants as n
 use Rattle.proof_log.specs.Words.{Word, small, large, node, nested, AreInRange}
 use Rattle.proof_log.specs.LogText.{term_words, form_words, proof_words, proof_node}
-use Rattle.proof_log.specs.Names.{proof_name, proof_names}
-use Rattle.proof_log.specs.ReadWords.{find, number, listed, both}
-use Rattle.proof_log.specs.ReadTrees.{proof_by, term, form, proof}
+use Rattle.proof_log.specs.Names.{proof_name}
+use Rattle.proof_log.specs.code.Names.{proof_names}
+use Rattle.proof_log.specs.code.ReadWords.{find, number, listed, both}
+use Rattle.proof_log.specs.code.ReadTrees.{proof_by, term, form, proof}
 use Rattle.proof_log.proofs.Spelling.{Spell, ends, pair, good_pair, ranges-append, ranges-deeper}
 use Rattle.proof_log.proofs.NumberReader.{one_number, small_good, large_good}
 use Rattle.proof_log.proofs.ListReader.{list_words, good_list}

@@ -5,7 +5,7 @@ use Rattle.std.specs.List.{flat_map, list_all}
 use Rattle.std.proofs.lemmas.Bool.Decides.{nat_tests}
 use Rattle.std.proofs.lemmas.List.Sums.{AllPass-from_list_all, list_all-from_AllPass}
 use Rattle.first_fault.specs.Nesting.{Nested, plain}
-use Rattle.first_fault.specs.Reading.{Unexpected, Reader, Outcome, mapped, opened}
+use Rattle.first_fault.specs.code.Reading.{Unexpected, Reader, Outcome, mapped, opened}
 use Rattle.first_fault.specs.Rules.{Rule}
 use Rattle.first_fault.proofs.Exact.{Exact, Inhabited, exact_stop, exact_after, exact_token, mapped_same, by_next, by_end}
 use Rattle.first_fault.proofs.Found.{Found}
@@ -14,8 +14,8 @@ use Rattle.proof_log.specs.Words.{at_level}
 use Rattle.tptp_base.specs.Quotable.{is_printable, IsQuotable}
 use Rattle.proof_log.specs.Entries.{is_special, escaped}
 use Rattle.proof_log.specs.Entries as entries
-use Rattle.proof_log.specs.ReadWords.{is_byte}
-use Rattle.proof_log.specs.ReadEntries.{characters, some_characters, quoted}
+use Rattle.proof_log.specs.code.ReadWords.{is_byte}
+use Rattle.proof_log.specs.code.ReadEntries.{characters, some_characters, quoted}
 use Rattle.proof_log.proofs.Spelling.{within_level, plain-on}
 use Rattle.proof_log.proofs.NumberReader.{is_kind}
 

@@ -3,12 +3,13 @@ use Rattle.std.proofs.Common.{◌≡◌, Bool, true, false, ℕ, suc, ◌+◌, �
 use Rattle.std.specs.Prelude.{decimal, if◌then◌else◌}
 use Rattle.std.specs.Char.{is_ascii_digit}
 use Rattle.std.proofs.lemmas.List.Concat.{flat_map-append}
-use Rattle.first_fault.specs.Nesting.{Nested, plain, Within, WithinTo, done, before}
-use Rattle.first_fault.specs.Reading.{Reader, mapped, next}
+use Rattle.first_fault.specs.Nesting.{Nested, plain, Within}
+use Rattle.first_fault.proofs.NestingFacts.{WithinTo, done, before}
+use Rattle.first_fault.specs.code.Reading.{Reader, mapped, next}
 use Rattle.first_fault.specs.Rules.{Rule}
 use Rattle.first_fault.proofs.Exact.{plain-append}
 use Rattle.first_fault.proofs.Good.{Good, good_then, good_map, Parts}
-use Rattle.proof_log.specs.ReadWords.{both}
+use Rattle.proof_log.specs.code.ReadWords.{both}
 use Rattle.proof_log.specs.Words.{Word, Tree, Number, word, spelled, text_of, deeper, nested, nested_word, at_level, AreInRange}
 
 -- ---- texts

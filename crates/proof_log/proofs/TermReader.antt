@@ -1,7 +1,7 @@
 -- The reader of terms is exact and finds each term within its limit.
 use Rattle.std.proofs.Common.{◌≡◌, ℕ, zero, suc, ◌+◌, ◌≤◌, List, [], ◌∷◌, ◌++◌, Some, refl, sym, ◌∙◌, ap, subst, arith}
 use Rattle.first_fault.specs.Nesting.{Nested}
-use Rattle.first_fault.specs.Reading.{Reader}
+use Rattle.first_fault.specs.code.Reading.{Reader}
 use Rattle.first_fault.specs.Rules.{Rule}
 use Rattle.first_fault.proofs.Exact.{Inhabited}
 use Rattle.first_fault.proofs.Good.{Good, good_map}
@@ -14,9 +14,10 @@ use Rattle.proof_log.specs.declared.name.TermName.{TermName}
 use Rattle.proof_log.specs.declared.name.TermName.TheVariants as n
 use Rattle.proof_log.specs.Words.{Word, small, node, nested, AreInRange}
 use Rattle.proof_log.specs.LogText.{term_words, term_node}
-use Rattle.proof_log.specs.Names.{term_name, term_names}
-use Rattle.proof_log.specs.ReadWords.{find, number, listed, both}
-use Rattle.proof_log.specs.ReadTrees.{term_by, term}
+use Rattle.proof_log.specs.Names.{term_name}
+use Rattle.proof_log.specs.code.Names.{term_names}
+use Rattle.proof_log.specs.code.ReadWords.{find, number, listed, both}
+use Rattle.proof_log.specs.code.ReadTrees.{term_by, term}
 use Rattle.proof_log.proofs.Spelling.{Spell, ends, pair, good_pair, ranges-deeper}
 use Rattle.proof_log.proofs.NumberReader.{one_number, small_good}
 use Rattle.proof_log.proofs.ListReader.{list_words, good_list}

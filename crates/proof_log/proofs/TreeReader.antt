@@ -1,14 +1,14 @@
 -- The readers of trees: a name, and then the arguments that it has.
 use Rattle.std.proofs.Common.{◌≡◌, ℕ, suc, ◌+◌, ◌<◌, ◌≤◌, List, [], ◌∷◌, ◌++◌, Some, inr, refl, sym, ◌∙◌, ap, subst, append_assoc, arith}
 use Rattle.first_fault.specs.Nesting.{Nested, behind}
-use Rattle.first_fault.specs.Reading.{Reader, and_then}
+use Rattle.first_fault.specs.code.Reading.{Reader, and_then}
 use Rattle.first_fault.specs.Rules.{Rule}
 use Rattle.first_fault.proofs.Exact.{Inhabited, exact_then, exact_stop}
 use Rattle.first_fault.proofs.Found.{Found}
 use Rattle.first_fault.proofs.Good.{Good, After, after, good_then, good_opened, Parts, always}
 use Rattle.proof_log.specs.Words.{Word, node, deeper, nested, at_level, AreInRange}
-use Rattle.proof_log.specs.ReadWords.{is_byte, find, name, deep_name, head, deep_head}
-use Rattle.proof_log.specs.ReadTrees.{behind as read_behind, nothing}
+use Rattle.proof_log.specs.code.ReadWords.{is_byte, find, name, deep_name, head, deep_head}
+use Rattle.proof_log.specs.code.ReadTrees.{behind as read_behind, nothing}
 use Rattle.proof_log.proofs.Spelling.{Spell, ends, nested-deeper, ranges-deeper, ranges-shallower}
 use Rattle.proof_log.proofs.NumberReader.{is_kind}
 use Rattle.proof_log.proofs.NameReader.{Named, Over, over_name, good_name, good_deep_name}

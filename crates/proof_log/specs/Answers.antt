@@ -1,31 +1,12 @@
 -- What reading a log answers.
 use Rattle.std.specs.Prelude.{◌≡◌, ◌<◌, ◌⊎◌, ℕ, List, length, Result, Ok, Err}
 use Rattle.first_fault.specs.Nesting.{Within}
-use Rattle.first_fault.specs.Reading.{Unexpected, TooDeep}
 use Rattle.kernel.specs.declared.entry.Entry.{Entry}
 use Rattle.tptp_base.specs.declared.read.TheConstants.{FILE_SIZE}
-use Rattle.proof_log.specs.declared.stop.Stop.{Stop}
-use Rattle.proof_log.specs.declared.stop.Stop.TheVariants as stop
 use Rattle.proof_log.specs.declared.reader.LogFault.{LogFault}
-use Rattle.proof_log.specs.declared.reader.LogFault.TheVariants as fault
 use Rattle.proof_log.specs.Entries.{AreLogged, log_text, nested_log}
 use Rattle.proof_log.specs.Logs.{IsFirstFault, IsFirstDeep}
-use Rattle.proof_log.specs.ReadEntries.{LogOutcome}
-
--- the definition's outcome, unless memory runs out
-abbrev pub FailsEntries : LogOutcome → Stop → List ℕ → Type 0
-FailsEntries outcome stop.Memory new = Unit {0}
-FailsEntries outcome stop.Unexpected new = outcome ≡ Err (Unexpected, new)
-FailsEntries outcome stop.TooDeep new = outcome ≡ Err (TooDeep, new)
-
-abbrev pub ReadsEntries : LogOutcome → Result (List Entry) Stop → List ℕ → Type 0
-ReadsEntries outcome (Ok es) new = outcome ≡ Ok es
-ReadsEntries outcome (Err e) new = FailsEntries outcome e new
-
-abbrev pub fault_of : Stop → ℕ → LogFault
-fault_of stop.Memory offset = fault.Memory
-fault_of stop.Unexpected offset = fault.Text offset
-fault_of stop.TooDeep offset = fault.Deep offset
+use Rattle.proof_log.specs.declared.reader.LogFault.TheVariants as fault
 
 -- The entries have the text, and no tree in them is nested too deep.
 pub record IsLogOf (limit : ℕ) (text : List ℕ) (entries : List Entry) : Type 0 where

@@ -1,5 +1,5 @@
 -- The text of entries, one line each, and of a whole log.
-use Rattle.std.specs.Prelude.{◌≡◌, ⊤, ℕ, ◌==◌, ◌||◌, ◌≤◌, Bool, List, [], ◌∷◌, ◌++◌, length, map, codes, if◌then◌else◌}
+use Rattle.std.specs.Prelude.{◌≡◌, ⊤, ℕ, ◌==◌, ◌||◌, ◌≤◌, Bool, List, [], ◌∷◌, ◌++◌, map, codes, if◌then◌else◌}
 use Rattle.std.specs.List.{flat_map, AllByRecursion}
 use Rattle.tptp_base.specs.Quotable.{IsQuotable}
 use Rattle.fof_terms.specs.declared.signature.Kind.{Kind}
@@ -59,10 +59,6 @@ IsWritable (Declare decl) = IsWritableDecl decl
 IsWritable (Lemma proof) = ⊤
 IsWritable (Name symbol body) = ⊤
 IsWritable (Choice symbol body) = ⊤
-
--- each of the entries can be
-abbrev pub AreWritable : List Entry → Type 0
-AreWritable entries = AllByRecursion IsWritable entries
 
 -- ---- the numbers
 

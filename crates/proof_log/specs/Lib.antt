@@ -1,14 +1,8 @@
 pub mod Answers
-pub mod Characters
 pub mod Checks
 pub mod Entries
-pub mod LogEquations
 pub mod LogText
 pub mod Logs
 pub mod Names
-pub mod Outcomes
-pub mod ReadEntries
-pub mod ReadTrees
-pub mod ReadWords
-pub mod WordLaws
 pub mod Words
+pub mod code

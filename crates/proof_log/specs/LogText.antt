@@ -3,15 +3,15 @@
 use Rattle.std.specs.Prelude.{ℕ, List, [], ◌∷◌, ◌++◌, length, map, codes, decimal}
 use Rattle.std.specs.List.{flat_map}
 use Rattle.fof_terms.specs.declared.term.Term.{Term}
-use Rattle.fof_terms.specs.declared.term.Term.TheOpen as term
 use Rattle.fof_terms.specs.declared.term.Term.TheFolds.{fold-Term}
 use Rattle.fof_terms.specs.declared.form.Form.{Form}
-use Rattle.fof_terms.specs.declared.form.Form.TheOpen as form
 use Rattle.fof_terms.specs.declared.form.Form.TheFolds.{fold-Form}
 use Rattle.kernel.specs.declared.proof.Proof.{Proof}
-use Rattle.kernel.specs.declared.proof.Proof.TheOpen as proof
 use Rattle.kernel.specs.declared.proof.Proof.TheFolds.{fold-Proof}
 use Rattle.proof_log.specs.Words.{Word, small, large, list_of, node, word, text_of}
+use Rattle.fof_terms.specs.declared.term.Term.TheOpen as term
+use Rattle.fof_terms.specs.declared.form.Form.TheOpen as form
+use Rattle.kernel.specs.declared.proof.Proof.TheOpen as proof
 
 -- ---- the words of trees
 
@@ -78,19 +78,9 @@ list_text parts = number (length parts) ++ flat_map (λ part. part) parts
 abbrev pub numbers_text : List ℕ → List ℕ
 numbers_text numbers = list_text (map number numbers)
 
--- the text of a term
-unfoldable pub term_text : Term → List ℕ
-term_text t = text_of (term_words t)
-
-abbrev pub terms_text : List Term → List ℕ
-terms_text terms = list_text (map term_text terms)
-
 -- the text of a formula
 unfoldable pub form_text : Form → List ℕ
 form_text a = text_of (form_words a)
-
-abbrev pub forms_text : List Form → List ℕ
-forms_text forms = list_text (map form_text forms)
 
 -- the text of a proof
 unfoldable pub proof_text : Proof → List ℕ

@@ -1,8 +1,8 @@
 // A place in the text of a log.
 ghost use Rattle.std.specs.Prelude.{◌≡◌, length, drop};
-ghost use Rattle.first_fault.specs.Reading.{next, tail, expect};
-ghost use Rattle.proof_log.specs.ReadWords as spec;
-ghost use Rattle.proof_log.specs.Outcomes.{Reads};
+ghost use Rattle.first_fault.specs.code.Reading.{next, tail, expect};
+ghost use Rattle.proof_log.specs.code.ReadWords as spec;
+ghost use Rattle.proof_log.specs.code.Outcomes.{Reads};
 
 use crate::stop::Stop;
 use std::marker::Model;

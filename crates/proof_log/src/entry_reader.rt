@@ -1,9 +1,10 @@
 // Entries are read. The room is how deep trees may nest.
-ghost use Rattle.proof_log.specs.Names.{decl_name, decl_names, entry_name, entry_names};
-ghost use Rattle.proof_log.specs.ReadWords.{number, listed, head, name as a_name};
-ghost use Rattle.proof_log.specs.ReadTrees.{behind};
-ghost use Rattle.proof_log.specs.ReadEntries as spec;
-ghost use Rattle.proof_log.specs.Outcomes.{Reads};
+ghost use Rattle.proof_log.specs.Names.{decl_name, entry_name};
+ghost use Rattle.proof_log.specs.code.Names.{decl_names, entry_names};
+ghost use Rattle.proof_log.specs.code.ReadWords.{number, listed, head, name as a_name};
+ghost use Rattle.proof_log.specs.code.ReadTrees.{behind};
+ghost use Rattle.proof_log.specs.code.ReadEntries as spec;
+ghost use Rattle.proof_log.specs.code.Outcomes.{Reads};
 
 use crate::cursor::Cursor;
 use crate::form_reader::form;
@@ -19,7 +20,7 @@ use std::alloc::Global;
 use tptp_base::{Boxed, List};
 
 // How many numbers there are, and the numbers.
-#[tactic(auto, unfolding(crate::specs::ReadWords::listed))]
+#[tactic(auto, unfolding(crate::specs::code::ReadWords::listed))]
 fn numbers(alloc: Global, text: &mut Cursor<'_>) -> Result<List<u32>, Stop>
     ensures { Reads (listed (number 4294967295) text.old) result text.new }
 {
@@ -32,7 +33,7 @@ fn numbers(alloc: Global, text: &mut Cursor<'_>) -> Result<List<u32>, Stop>
 }
 
 // What is declared.
-#[tactic(auto, unfolding(crate::specs::ReadEntries::declaration))]
+#[tactic(auto, unfolding(crate::specs::code::ReadEntries::declaration))]
 fn declaration(alloc: Global, text: &mut Cursor<'_>) -> Result<Decl, Stop>
     ensures { Reads (spec.declaration text.old) result text.new }
 {
@@ -86,7 +87,7 @@ fn entry_before(alloc: Global, text: &mut Cursor<'_>, room: usize) -> Result<Ent
 }
 
 /// An entry with its line feed.
-#[tactic(auto, unfolding(crate::specs::ReadEntries::entry))]
+#[tactic(auto, unfolding(crate::specs::code::ReadEntries::entry))]
 pub fn entry(alloc: Global, text: &mut Cursor<'_>, room: usize) -> Result<Boxed<Entry>, Stop>
     ensures { Reads (spec.entry room text.old) result text.new }
 {

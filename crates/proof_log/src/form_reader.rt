@@ -1,9 +1,10 @@
 // Forms are read. The room is how deep trees may still nest. Each function has few values of its own, since as many
 // calls of it may be open as trees may nest.
-ghost use Rattle.proof_log.specs.ReadWords.{listed, head};
-ghost use Rattle.proof_log.specs.Names.{form_name, form_names};
-ghost use Rattle.proof_log.specs.ReadTrees as spec;
-ghost use Rattle.proof_log.specs.Outcomes.{Reads};
+ghost use Rattle.proof_log.specs.code.ReadWords.{listed, head};
+ghost use Rattle.proof_log.specs.Names.{form_name};
+ghost use Rattle.proof_log.specs.code.Names.{form_names};
+ghost use Rattle.proof_log.specs.code.ReadTrees as spec;
+ghost use Rattle.proof_log.specs.code.Outcomes.{Reads};
 
 use crate::cursor::Cursor;
 use crate::name::{FORM_NAMES, FormName};
@@ -17,7 +18,7 @@ use tptp_base::{Boxed, List};
 
 /// A form.
 #[cycle(form)]
-#[tactic(auto, unfolding(crate::specs::ReadTrees::form))]
+#[tactic(auto, unfolding(crate::specs::code::ReadTrees::form))]
 pub fn form(alloc: Global, text: &mut Cursor<'_>, room: usize) -> Result<Boxed<Form>, Stop>
     ensures { Reads (spec.form room text.old) result text.new }
 {
@@ -62,7 +63,7 @@ fn form_of(
 
 /// How many forms there are, and the forms.
 #[cycle(form)]
-#[tactic(auto, unfolding(crate::specs::ReadWords::listed))]
+#[tactic(auto, unfolding(crate::specs::code::ReadWords::listed))]
 pub fn forms(alloc: Global, text: &mut Cursor<'_>, room: usize) -> Result<List<Form>, Stop>
     ensures { Reads (listed (spec.form room) text.old) result text.new }
 {

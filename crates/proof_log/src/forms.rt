@@ -1,6 +1,7 @@
 // The text of terms and formulas.
 ghost use Rattle.std.specs.Prelude.{◌≡◌, ◌++◌, OnOk, map};
-ghost use Rattle.proof_log.specs.LogText.{term_text, terms_text, form_text, forms_text, term_words, form_words};
+ghost use Rattle.proof_log.specs.code.LogText.{term_text, terms_text, forms_text};
+ghost use Rattle.proof_log.specs.LogText.{form_text, term_words, form_words};
 ghost use Rattle.proof_log.specs.Words.{AreInRange, list_of};
 
 use crate::line::{put_number, put_small, put_word};
@@ -8,7 +9,7 @@ use fof_terms::{Form, Term};
 use std::alloc::AllocError;
 
 // Appends the text of a term.
-#[tactic(auto, using(crate::specs::LogEquations::term_equations))]
+#[tactic(auto, using(crate::proofs::LogEquations::term_equations))]
 #[cycle(put_term)]
 pub fn put_term(term: &Term, text: &mut Vec<u8>) -> Result<(), AllocError>
     ensures text { OnOk result (text.new.items ≡ text.old.items ++ term_text term.now) }
@@ -28,7 +29,7 @@ pub fn put_term(term: &Term, text: &mut Vec<u8>) -> Result<(), AllocError>
 }
 
 // Appends how many terms there are, and then their words.
-#[tactic(auto, using(crate::specs::LogEquations::term_equations))]
+#[tactic(auto, using(crate::proofs::LogEquations::term_equations))]
 #[cycle(put_term)]
 pub fn put_terms(terms: &[Term], text: &mut Vec<u8>) -> Result<(), AllocError>
     ensures text { OnOk result (text.new.items ≡ text.old.items ++ terms_text terms.now) }
@@ -42,7 +43,7 @@ pub fn put_terms(terms: &[Term], text: &mut Vec<u8>) -> Result<(), AllocError>
 }
 
 // Appends the text of a formula.
-#[tactic(auto, using(crate::specs::LogEquations::form_equations))]
+#[tactic(auto, using(crate::proofs::LogEquations::form_equations))]
 #[cycle(put_form)]
 pub fn put_form(form: &Form, text: &mut Vec<u8>) -> Result<(), AllocError>
     ensures text { OnOk result (text.new.items ≡ text.old.items ++ form_text form.now) }
@@ -95,7 +96,7 @@ pub fn put_form(form: &Form, text: &mut Vec<u8>) -> Result<(), AllocError>
 }
 
 // Appends how many formulas there are, and then their words.
-#[tactic(auto, using(crate::specs::LogEquations::form_equations))]
+#[tactic(auto, using(crate::proofs::LogEquations::form_equations))]
 #[cycle(put_form)]
 pub fn put_forms(forms: &[Form], text: &mut Vec<u8>) -> Result<(), AllocError>
     ensures text { OnOk result (text.new.items ≡ text.old.items ++ forms_text forms.now) }

@@ -1,9 +1,10 @@
 // Proofs are read. The room is how deep trees may still nest. Each function has few values of its own, since as many
 // calls of it may be open as trees may nest.
-ghost use Rattle.proof_log.specs.ReadWords.{listed, head};
-ghost use Rattle.proof_log.specs.Names.{proof_name, proof_names};
-ghost use Rattle.proof_log.specs.ReadTrees as spec;
-ghost use Rattle.proof_log.specs.Outcomes.{Reads};
+ghost use Rattle.proof_log.specs.code.ReadWords.{listed, head};
+ghost use Rattle.proof_log.specs.Names.{proof_name};
+ghost use Rattle.proof_log.specs.code.Names.{proof_names};
+ghost use Rattle.proof_log.specs.code.ReadTrees as spec;
+ghost use Rattle.proof_log.specs.code.Outcomes.{Reads};
 
 use crate::cursor::Cursor;
 use crate::form_reader::{form, forms};
@@ -18,7 +19,7 @@ use tptp_base::{Boxed, List};
 
 /// A proof.
 #[cycle(proof)]
-#[tactic(auto, unfolding(crate::specs::ReadTrees::proof))]
+#[tactic(auto, unfolding(crate::specs::code::ReadTrees::proof))]
 pub fn proof(alloc: Global, text: &mut Cursor<'_>, room: usize) -> Result<Boxed<Proof>, Stop>
     ensures { Reads (spec.proof room text.old) result text.new }
 {
@@ -75,7 +76,7 @@ fn proof_of(
 
 /// How many proofs there are, and the proofs.
 #[cycle(proof)]
-#[tactic(auto, unfolding(crate::specs::ReadWords::listed))]
+#[tactic(auto, unfolding(crate::specs::code::ReadWords::listed))]
 pub fn proofs(alloc: Global, text: &mut Cursor<'_>, room: usize) -> Result<List<Proof>, Stop>
     ensures { Reads (listed (spec.proof room) text.old) result text.new }
 {

@@ -2,9 +2,9 @@
 ghost use Rattle.std.specs.Prelude.{◌≡◌, true, false};
 ghost use Rattle.tptp_base.specs.Quotable as names;
 ghost use Rattle.proof_log.specs.Entries as entries;
-ghost use Rattle.proof_log.specs.ReadEntries as spec;
-ghost use Rattle.proof_log.specs.Characters.{ReadsCharacter, ReadsEscaped};
-ghost use Rattle.proof_log.specs.Outcomes.{Reads};
+ghost use Rattle.proof_log.specs.code.ReadEntries as spec;
+ghost use Rattle.proof_log.specs.code.Characters.{ReadsCharacter, ReadsEscaped};
+ghost use Rattle.proof_log.specs.code.Outcomes.{Reads};
 
 use crate::cursor::Cursor;
 use crate::stop::Stop;
@@ -86,7 +86,7 @@ fn some_characters(alloc: Global, text: &mut Cursor<'_>) -> Result<Text, Stop>
 }
 
 /// A quoted name with a blank before it.
-#[tactic(auto, unfolding(crate::specs::ReadEntries::quoted))]
+#[tactic(auto, unfolding(crate::specs::code::ReadEntries::quoted))]
 pub fn quoted(alloc: Global, text: &mut Cursor<'_>) -> Result<Text, Stop>
     ensures { Reads (spec.quoted text.old) result text.new }
 {

@@ -3,12 +3,14 @@ ghost use Rattle.std.specs.Prelude.{◌≡◌, ◌<◌, ◌≤◌, ◌-◌, ◌�
 ghost use Rattle.first_fault.specs.Nesting.{Within};
 ghost use Rattle.kernel.specs.declared.entry.Entry.{Entry as Logged};
 ghost use Rattle.tptp_base.specs.declared.read.TheConstants.{FILE_SIZE as max_size};
-ghost use Rattle.proof_log.specs.Names.{version_line, versions};
-ghost use Rattle.proof_log.specs.ReadWords.{name as a_name};
-ghost use Rattle.proof_log.specs.ReadEntries as spec;
+ghost use Rattle.proof_log.specs.Names.{version_line};
+ghost use Rattle.proof_log.specs.code.Names.{versions};
+ghost use Rattle.proof_log.specs.code.ReadWords.{name as a_name};
+ghost use Rattle.proof_log.specs.code.ReadEntries as spec;
 ghost use Rattle.proof_log.specs.Entries.{AreLogged, log_text, nested_log};
 ghost use Rattle.proof_log.specs.Logs.{IsFirstFault, IsFirstDeep};
 ghost use Rattle.proof_log.specs.Answers as answers;
+ghost use Rattle.proof_log.specs.code.Answers as answers_code;
 
 use crate::cursor::Cursor;
 use crate::entry_reader::entry;
@@ -42,7 +44,7 @@ pub enum LogFault {
 
 // Entries to the end of the text.
 fn entries(alloc: Global, text: &mut Cursor<'_>) -> Result<List<Entry>, Stop>
-    ensures { answers.ReadsEntries (spec.entries MAX_NESTING text.old) result text.new }
+    ensures { answers_code.ReadsEntries (spec.entries MAX_NESTING text.old) result text.new }
 {
     let mut found = List::new(alloc);
     'entries: while !text.text().is_empty() {
@@ -53,9 +55,9 @@ fn entries(alloc: Global, text: &mut Cursor<'_>) -> Result<List<Entry>, Stop>
 }
 
 // The first line, and the entries.
-#[tactic(auto, unfolding(crate::specs::ReadEntries::log))]
+#[tactic(auto, unfolding(crate::specs::code::ReadEntries::log))]
 fn log(alloc: Global, text: &mut Cursor<'_>) -> Result<List<Entry>, Stop>
-    ensures { answers.ReadsEntries (spec.log MAX_NESTING text.old) result text.new }
+    ensures { answers_code.ReadsEntries (spec.log MAX_NESTING text.old) result text.new }
 {
     name(text, &VERSIONS)?;
     entries(alloc, text)
@@ -63,7 +65,7 @@ fn log(alloc: Global, text: &mut Cursor<'_>) -> Result<List<Entry>, Stop>
 
 // The fault at a place with so many bytes behind it.
 fn fault_of(stop: Stop, size: usize, left: usize) -> LogFault
-    ensures { result ≡ answers.fault_of stop (size - left) }
+    ensures { result ≡ answers_code.fault_of stop (size - left) }
 {
     let offset = size.saturating_sub(left) as u64;
     match stop {

@@ -1,10 +1,11 @@
 // Terms are read. The room is how deep trees may still nest. Each function has few values of its own, since as many
 // calls of it may be open as trees may nest.
-ghost use Rattle.first_fault.specs.Reading.{mapped};
-ghost use Rattle.proof_log.specs.ReadWords.{number, listed, head};
-ghost use Rattle.proof_log.specs.Names.{term_name, term_names};
-ghost use Rattle.proof_log.specs.ReadTrees as spec;
-ghost use Rattle.proof_log.specs.Outcomes.{Reads};
+ghost use Rattle.first_fault.specs.code.Reading.{mapped};
+ghost use Rattle.proof_log.specs.code.ReadWords.{number, listed, head};
+ghost use Rattle.proof_log.specs.Names.{term_name};
+ghost use Rattle.proof_log.specs.code.Names.{term_names};
+ghost use Rattle.proof_log.specs.code.ReadTrees as spec;
+ghost use Rattle.proof_log.specs.code.Outcomes.{Reads};
 
 use crate::cursor::Cursor;
 use crate::name::{TERM_NAMES, TermName};
@@ -17,7 +18,7 @@ use tptp_base::{Boxed, List};
 
 /// A term.
 #[cycle(term)]
-#[tactic(auto, unfolding(crate::specs::ReadTrees::term))]
+#[tactic(auto, unfolding(crate::specs::code::ReadTrees::term))]
 pub fn term(alloc: Global, text: &mut Cursor<'_>, room: usize) -> Result<Boxed<Term>, Stop>
     ensures { Reads (spec.term room text.old) result text.new }
 {
@@ -59,7 +60,7 @@ fn application(alloc: Global, text: &mut Cursor<'_>, room: usize) -> Result<Boxe
 
 /// How many terms there are, and the terms.
 #[cycle(term)]
-#[tactic(auto, unfolding(crate::specs::ReadWords::listed))]
+#[tactic(auto, unfolding(crate::specs::code::ReadWords::listed))]
 pub fn terms(alloc: Global, text: &mut Cursor<'_>, room: usize) -> Result<List<Term>, Stop>
     ensures { Reads (listed (spec.term room) text.old) result text.new }
 {

@@ -1,8 +1,8 @@
 // The words of a log are read.
 ghost use Rattle.std.specs.Prelude.{◌≡◌, ◌≤◌, ◌+◌, ◌*◌, ◌-◌, length, Ok, IfOk};
-ghost use Rattle.first_fault.specs.Reading.{next, tail};
-ghost use Rattle.proof_log.specs.ReadWords as spec;
-ghost use Rattle.proof_log.specs.Outcomes.{Reads, Fails};
+ghost use Rattle.first_fault.specs.code.Reading.{next, tail};
+ghost use Rattle.proof_log.specs.code.ReadWords as spec;
+ghost use Rattle.proof_log.specs.code.Outcomes.{Reads, Fails};
 
 use crate::cursor::Cursor;
 use crate::name::Spelled;
@@ -51,7 +51,7 @@ fn reach<N: Spelled>(all: &[N], text: &[u8]) -> usize
 }
 
 /// One of the names.
-#[tactic(auto, unfolding(crate::specs::ReadWords::name))]
+#[tactic(auto, unfolding(crate::specs::code::ReadWords::name))]
 pub fn name<N: Spelled + Copy>(text: &mut Cursor<'_>, all: &[N]) -> Result<N, Stop>
     ensures { Reads (spec.name N.spell all.now text.old) result text.new }
 {
@@ -69,7 +69,7 @@ pub fn name<N: Spelled + Copy>(text: &mut Cursor<'_>, all: &[N]) -> Result<N, St
 }
 
 /// One of the names, with a blank before it.
-#[tactic(auto, unfolding(crate::specs::ReadWords::head))]
+#[tactic(auto, unfolding(crate::specs::code::ReadWords::head))]
 pub fn head<N: Spelled + Copy>(text: &mut Cursor<'_>, all: &[N]) -> Result<N, Stop>
     ensures { Reads (spec.head N.spell all.now text.old) result text.new }
 {
@@ -78,7 +78,7 @@ pub fn head<N: Spelled + Copy>(text: &mut Cursor<'_>, all: &[N]) -> Result<N, St
 }
 
 /// Why none of the names, with a blank before it, is read where it would be nested too deep.
-#[tactic(auto, unfolding(crate::specs::ReadWords::deep_head, crate::specs::ReadWords::deep_name))]
+#[tactic(auto, unfolding(crate::specs::code::ReadWords::deep_head, crate::specs::code::ReadWords::deep_name))]
 pub fn deep_head<N: Spelled>(text: &mut Cursor<'_>, all: &[N]) -> Stop
     ensures { Fails (spec.deep_head N.spell all.now text.old) result text.new }
 {
@@ -150,7 +150,7 @@ fn digits(text: &mut Cursor<'_>, most: u64) -> Result<u64, Stop>
 }
 
 // A number with a blank before it.
-#[tactic(auto, unfolding(crate::specs::ReadWords::number))]
+#[tactic(auto, unfolding(crate::specs::code::ReadWords::number))]
 fn number(text: &mut Cursor<'_>, most: u64) -> Result<u64, Stop>
     requires { 9 ≤ most }
     ensures { Reads (spec.number most text.old) result text.new }

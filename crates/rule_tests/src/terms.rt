@@ -89,7 +89,7 @@ fn symbols_of_a_term_and_a_formula(rt: HostRuntime) -> Result<(), Fail> {
 }
 
 #[test]
-#[tactic(auto, using(fof_terms::specs::Lift::lift_equations, fof_terms::specs::Instance::instance_equations))]
+#[tactic(auto, using(fof_terms::proofs::LiftFacts::lift_equations, fof_terms::proofs::InstanceFacts::instance_equations))]
 fn variables_move(rt: HostRuntime) -> Result<(), Fail> {
     let alloc = rt.alloc();
     let third = Term::Var(3);
@@ -111,7 +111,7 @@ fn variables_move(rt: HostRuntime) -> Result<(), Fail> {
 }
 
 #[test]
-#[tactic(auto, using(fof_terms::specs::Lift::lift_equations, fof_terms::specs::Instance::instance_equations))]
+#[tactic(auto, using(fof_terms::proofs::LiftFacts::lift_equations, fof_terms::proofs::InstanceFacts::instance_equations))]
 fn bound_variables_stay(rt: HostRuntime) -> Result<(), Fail> {
     let alloc = rt.alloc();
     let form = Form::All(0, Boxed::new(alloc, Form::Eq(Term::Var(0), Term::Var(1)))?);

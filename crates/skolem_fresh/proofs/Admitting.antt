@@ -11,21 +11,24 @@ use Rattle.fof_terms.specs.declared.signature.Kind.{Kind}
 use Rattle.fof_terms.specs.declared.signature.Kind.TheVariants.{Function, Predicate}
 use Rattle.fof_terms.specs.Vocabulary.{Vocabulary}
 use Rattle.fof_terms.specs.Instance.{instance_of, instance_at}
-use Rattle.fof_terms.specs.Occurs.{occurs_in, occurs_in_term, occurs_in-Imp, occurs_in-Ex, occurs_in-All, occurs_in_term-App, occurs_in_term-Var}
+use Rattle.fof_terms.specs.Occurs.{occurs_in, occurs_in_term}
+use Rattle.fof_terms.proofs.OccursFacts.{occurs_in-Imp, occurs_in-Ex, occurs_in-All, occurs_in_term-App, occurs_in_term-Var}
 use Rattle.fof_terms.specs.Variables.{has_variable}
-use Rattle.fof_terms.specs.Sorts.{Sorted, SortedTo, IsScope, is_sort, are_sorts, made_by, applied, sort_of_term, sort_of_term-App, sort_of_term-Var, is_sorted, binder_depth}
-use Rattle.fof_terms.specs.Scoped.{raised, imp_sorted, ex_sorted, all_sorted}
-use Rattle.fof_terms.specs.Laws.{both, below_or_above}
+use Rattle.fof_terms.specs.Sorts.{Sorted, SortedTo, IsScope, is_sort, are_sorts, made_by, applied, sort_of_term, is_sorted, binder_depth}
+use Rattle.fof_terms.proofs.SortsFacts.{sort_of_term-App, sort_of_term-Var}
+use Rattle.fof_terms.proofs.Scoped.{raised, imp_sorted, ex_sorted, all_sorted}
+use Rattle.fof_terms.proofs.LiftingLaws.{both, below_or_above}
 use Rattle.std.proofs.lemmas.Bool.{lt-ltb, le-ltb}
-use Rattle.fof_terms.specs.Moved.{body_instance_sorted}
-use Rattle.fof_terms.specs.Walks.{same_depth}
+use Rattle.fof_terms.proofs.Moved.{body_instance_sorted}
+use Rattle.fof_terms.proofs.Walks.{same_depth}
 use Rattle.kernel.specs.Statements.{Statements}
 use Rattle.kernel.specs.Entries.{for_all, variables, choice, IsFresh, MayChoose, Admits, with_formula}
 use Rattle.kernel.specs.declared.entry.Entry.{Entry}
 use Rattle.kernel.specs.declared.entry.Entry.TheVariants.{Declare, Lemma, Name, Choice}
 use Rattle.skolem_fresh.specs.declared.just.Use.{Use}
-use Rattle.skolem_fresh.specs.Only.{is_among, only_has}
-use Rattle.skolem_fresh.specs.Renamed.{place_of, renamed, renamed_term, renamed_term-Var}
+use Rattle.skolem_fresh.specs.code.Only.{is_among, only_has}
+use Rattle.skolem_fresh.specs.Renamed.{place_of, renamed, renamed_term}
+use Rattle.skolem_fresh.proofs.RenamedFacts.{renamed_term-Var}
 use Rattle.skolem_fresh.specs.Uses.{value, value_of, functions_of, Fits}
 use Rattle.skolem_fresh.specs.Choosing.{IsWithin}
 use Rattle.skolem_fresh.proofs.Opened.{body_room, body_sorted}

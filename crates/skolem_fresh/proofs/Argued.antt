@@ -10,16 +10,20 @@ use Rattle.std.proofs.lemmas.Simd.{map-map}
 use Rattle.fof_terms.specs.declared.term.Term.{Term, Var, App}
 use Rattle.fof_terms.specs.declared.form.Form.{Form, Imp, All, Ex}
 use Rattle.fof_terms.specs.Vocabulary.{Vocabulary}
-use Rattle.fof_terms.specs.Induction.{term_induction, form_induction}
-use Rattle.fof_terms.specs.Laws.{both, below_or_above, stays, moves, smaller, greater, here, instance_instance}
+use Rattle.fof_terms.proofs.Induction.{term_induction, form_induction}
+use Rattle.fof_terms.proofs.LiftingLaws.{both, below_or_above, stays, moves, smaller, greater, here, instance_instance}
 use Rattle.fof_terms.specs.Lift.{lifted_term}
-use Rattle.fof_terms.specs.Instance.{instance_term, instance_at, instance_of, instance_term-App, instance_at-Imp, instance_at-All, instance_at-Ex}
-use Rattle.fof_terms.specs.Sorts.{is_sort, are_sorts, applied, holds_of, sort_of_term, is_sorted, sort_of_term-Var, sort_of_term-App, is_sorted-Atom, is_sorted-Eq, is_sorted-Not, is_sorted-And, is_sorted-Or, is_sorted-Imp, is_sorted-Iff, is_sorted-All, is_sorted-Ex}
-use Rattle.fof_terms.specs.Walks.{TermWalk, FormWalk, staying, staying_term, placing, placing_term, both_walks, both_terms}
+use Rattle.fof_terms.specs.Instance.{instance_term, instance_at, instance_of}
+use Rattle.fof_terms.proofs.InstanceFacts.{instance_term-App, instance_at-Imp, instance_at-All, instance_at-Ex}
+use Rattle.fof_terms.specs.Sorts.{is_sort, are_sorts, applied, holds_of, sort_of_term, is_sorted}
+use Rattle.fof_terms.proofs.SortsFacts.{sort_of_term-Var, sort_of_term-App, is_sorted-Atom, is_sorted-Eq, is_sorted-Not, is_sorted-And, is_sorted-Or, is_sorted-Imp, is_sorted-Iff, is_sorted-All, is_sorted-Ex}
+use Rattle.fof_terms.proofs.Walks.{TermWalk, FormWalk, staying, staying_term, placing, placing_term, both_walks, both_terms}
 use Rattle.kernel.specs.Entries.{for_all, variables}
 use Rattle.derive_kit.specs.Instances.{IsInstance}
-use Rattle.skolem_fresh.specs.Only.{is_among, only_in_term, only_has, only_in_term-Var, only_in_term-App, only_has-Atom, only_has-Eq, only_has-Not, only_has-And, only_has-Or, only_has-Imp, only_has-Iff, only_has-All, only_has-Ex}
-use Rattle.skolem_fresh.specs.Renamed.{place_of, renamed_term, renamed, renamed_term-Var, renamed_term-App, renamed-Atom, renamed-Eq, renamed-Not, renamed-And, renamed-Or, renamed-Imp, renamed-Iff, renamed-All, renamed-Ex}
+use Rattle.skolem_fresh.specs.code.Only.{is_among, only_in_term, only_has}
+use Rattle.skolem_fresh.proofs.OnlyFacts.{only_in_term-Var, only_in_term-App, only_has-Atom, only_has-Eq, only_has-Not, only_has-And, only_has-Or, only_has-Imp, only_has-Iff, only_has-All, only_has-Ex}
+use Rattle.skolem_fresh.specs.Renamed.{place_of, renamed_term, renamed}
+use Rattle.skolem_fresh.proofs.RenamedFacts.{renamed_term-Var, renamed_term-App, renamed-Atom, renamed-Eq, renamed-Not, renamed-And, renamed-Or, renamed-Imp, renamed-Iff, renamed-All, renamed-Ex}
 use Rattle.skolem_fresh.specs.Uses.{value}
 use Rattle.skolem_fresh.proofs.Freely.{at, each, same_term_where, same_form_where}
 

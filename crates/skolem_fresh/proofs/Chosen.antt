@@ -7,18 +7,20 @@ use Rattle.fof_terms.specs.declared.form.Form.{Form, Imp, All}
 use Rattle.fof_terms.specs.declared.form.Form.TheOpen as form
 use Rattle.fof_terms.specs.declared.form.Form.TheViews.{out-Form, outs-All, outs-Imp}
 use Rattle.fof_terms.specs.Vocabulary.{Vocabulary}
-use Rattle.fof_terms.specs.Trees.{All-injective, Imp-injective}
+use Rattle.fof_terms.proofs.Trees.{All-injective, Imp-injective}
 use Rattle.fof_terms.specs.Occurs.{occurs_in}
-use Rattle.fof_terms.specs.Sorts.{SortedTo, binder_depth, binder_depth-Imp, binder_depth-All}
-use Rattle.fof_terms.specs.Scoped.{raised, sorted_of_imp, sorted_of_all}
+use Rattle.fof_terms.specs.Sorts.{SortedTo, binder_depth}
+use Rattle.fof_terms.proofs.SortsFacts.{binder_depth-Imp, binder_depth-All}
+use Rattle.fof_terms.proofs.Scoped.{raised, sorted_of_imp, sorted_of_all}
 use Rattle.kernel.specs.Statements.{Statements}
 use Rattle.kernel.specs.Entries.{for_all, IsFresh}
 use Rattle.skolem_fresh.specs.declared.just.Use.{Use}
-use Rattle.skolem_fresh.specs.Leading.{leading}
-use Rattle.skolem_fresh.specs.Only.{only_has}
+use Rattle.skolem_fresh.specs.code.Leading.{leading}
+use Rattle.skolem_fresh.specs.code.Only.{only_has}
 use Rattle.skolem_fresh.specs.Uses.{functions_of, Fits, AreArguments}
 use Rattle.skolem_fresh.specs.ChoiceRule.{IsOpened, MayChooseFor, Chooses, IsChoiceStep}
-use Rattle.skolem_fresh.specs.Choosing.{IsWithin, IsRead, IsChosen, ChoosesUnder, IsChosenUnder, IsFree, MayChooseIfFit}
+use Rattle.skolem_fresh.specs.Choosing.{IsWithin}
+use Rattle.skolem_fresh.specs.code.Choosing.{IsRead, IsChosen, ChoosesUnder, IsChosenUnder, IsFree, MayChooseIfFit}
 use Rattle.skolem_fresh.proofs.Distinct.{among_contains, contains_among}
 use Rattle.skolem_fresh.proofs.Freely.{only_form_has, form_only}
 use Rattle.skolem_fresh.proofs.Opened.{leading_opened}

@@ -6,7 +6,7 @@ use Rattle.std.proofs.Common.{ap, sym, subst, ◌∙◌, arith, ◌⊎◌, inl, 
 use Rattle.std.proofs.lemmas.Bool.Decides.{nat_tests}
 use Rattle.std.proofs.lemmas.List.{take_more}
 use Rattle.std.proofs.lemmas.Map.Keys.{IsDistinct-push, IsDistinct-head, IsDistinct-tail}
-use Rattle.skolem_fresh.specs.Only.{is_among}
+use Rattle.skolem_fresh.specs.code.Only.{is_among}
 
 same_either : (x y : ℕ) → nat_eq y x ≡ nat_eq x y
 same_either x y = nat_eq_equiv.symm y x

@@ -10,9 +10,10 @@ use Rattle.fof_terms.specs.declared.term.Term.{Term, Var, App}
 use Rattle.fof_terms.specs.declared.form.Form.{Form, Imp, Ex}
 use Rattle.fof_terms.specs.declared.signature.Symbol.{Symbol}
 use Rattle.fof_terms.specs.Vocabulary.{Vocabulary}
-use Rattle.fof_terms.specs.Trees.{Ex-injective}
+use Rattle.fof_terms.proofs.Trees.{Ex-injective}
 use Rattle.fof_terms.specs.Instance.{instance_of, instance_at}
-use Rattle.fof_terms.specs.Occurs.{occurs_in, occurs_in_term, occurs_in-Imp, occurs_in-Ex, occurs_in_term-App, occurs_in_term-Var, list_any-map}
+use Rattle.fof_terms.specs.Occurs.{occurs_in, occurs_in_term}
+use Rattle.fof_terms.proofs.OccursFacts.{occurs_in-Imp, occurs_in-Ex, occurs_in_term-App, occurs_in_term-Var, list_any-map}
 use Rattle.fof_terms.specs.Variables.{has_variable}
 use Rattle.fof_terms.specs.Sorts.{Sorted}
 use Rattle.std.specs.List.{list_any}
@@ -27,7 +28,8 @@ use Rattle.skolem_fresh.specs.Uses.{value, value_of, functions_of, Fits}
 use Rattle.skolem_fresh.specs.ChoiceRule.{IsOpened}
 use Rattle.skolem_fresh.specs.Choosing.{IsWithin}
 use Rattle.skolem_fresh.specs.Entered.{added_by, formulas_told, Enters}
-use Rattle.skolem_fresh.specs.Told.{AreTold, AddedFrom, IsOpenable}
+use Rattle.skolem_fresh.specs.code.Told.{AreTold, IsOpenable}
+use Rattle.skolem_fresh.specs.Told.{AddedFrom}
 use Rattle.skolem_fresh.proofs.Openable.{open_used, open_unused, opened_used, only_body, few_all}
 use Rattle.skolem_fresh.proofs.Occurring.{instance_occurs}
 use Rattle.skolem_fresh.proofs.Admitting.{symbol, at_symbol, choice_sorted, may_choose, renamed_occurs, for_all_occurs}

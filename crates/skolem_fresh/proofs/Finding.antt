@@ -8,16 +8,20 @@ use Rattle.std.proofs.lemmas.Bool.Decides.{nat_tests}
 use Rattle.std.proofs.lemmas.Bool.{le-ltb}
 use Rattle.fof_terms.specs.declared.term.Term.{Term, Var, App}
 use Rattle.fof_terms.specs.declared.form.Form.{Form, Ex}
-use Rattle.fof_terms.specs.Induction.{term_induction}
-use Rattle.fof_terms.specs.Laws.{moves, instance_of_lifted, here}
-use Rattle.fof_terms.specs.Lift.{lifted_term, lifted_term-App}
+use Rattle.fof_terms.proofs.Induction.{term_induction}
+use Rattle.fof_terms.proofs.LiftingLaws.{moves, instance_of_lifted, here}
+use Rattle.fof_terms.specs.Lift.{lifted_term}
+use Rattle.fof_terms.proofs.LiftFacts.{lifted_term-App}
 use Rattle.fof_terms.specs.Instance.{instance_term, instance_at, instance_of}
-use Rattle.fof_terms.specs.Variables.{has_in_term, has_variable, has_in_term-Var, has_in_term-App}
-use Rattle.fof_terms.specs.Walks.{TermWalk, staying_term, placing, placing_term, both_terms}
+use Rattle.fof_terms.specs.Variables.{has_in_term, has_variable}
+use Rattle.fof_terms.proofs.VariablesFacts.{has_in_term-Var, has_in_term-App}
+use Rattle.fof_terms.proofs.Walks.{TermWalk, staying_term, placing, placing_term, both_terms}
 use Rattle.skolem_fresh.specs.declared.just.Use.{Use}
 use Rattle.skolem_fresh.specs.declared.leaves.Leaf.{Leaf}
-use Rattle.skolem_fresh.specs.Leaves.{leaf, leaves_of, leaves_of-Ex}
-use Rattle.skolem_fresh.specs.Reading.{found_in, found_term, found_term-Var, found_term-App-App, all_there, variable_of, variable_of-Var, use_of, use_of-App, used, read, read_or, or_else}
+use Rattle.skolem_fresh.specs.code.Leaves.{leaf, leaves_of}
+use Rattle.skolem_fresh.proofs.LeavesFacts.{leaves_of-Ex}
+use Rattle.skolem_fresh.specs.code.Reading.{found_in, found_term, all_there, variable_of, use_of, used, read, read_or, or_else}
+use Rattle.skolem_fresh.proofs.ReadingFacts.{found_term-Var, found_term-App-App, variable_of-Var, use_of-App}
 use Rattle.skolem_fresh.specs.Uses.{value, value_of}
 use Rattle.skolem_fresh.specs.ChoiceRule.{IsOpened}
 use Rattle.skolem_fresh.proofs.LeafLaws.{changed, walk_leaves, deeper, deeper_leaves, stands, stands_in}

@@ -6,11 +6,13 @@ use Rattle.std.proofs.lemmas.Bool.Decides.{nat_tests}
 use Rattle.std.proofs.lemmas.Bool.{lt-ltb, le-ltb}
 use Rattle.fof_terms.specs.declared.term.Term.{Term, Var, App}
 use Rattle.fof_terms.specs.declared.form.Form.{Form, Atom, Not, And, Or, All, Ex}
-use Rattle.fof_terms.specs.Induction.{term_induction, form_induction}
-use Rattle.fof_terms.specs.Laws.{both, below_or_above}
-use Rattle.fof_terms.specs.Walks.{TermWalk, FormWalk}
-use Rattle.fof_terms.specs.Variables.{has_in_term, has_variable, has_in_term-Var, has_in_term-App, has_variable-Atom, has_variable-Eq, has_variable-Not, has_variable-And, has_variable-Or, has_variable-Imp, has_variable-Iff, has_variable-All, has_variable-Ex}
-use Rattle.skolem_fresh.specs.Only.{is_among, only_in_term, only_has, only_in_term-Var, only_in_term-App, only_has-Atom, only_has-Eq, only_has-Not, only_has-And, only_has-Or, only_has-Imp, only_has-Iff, only_has-All, only_has-Ex}
+use Rattle.fof_terms.proofs.Induction.{term_induction, form_induction}
+use Rattle.fof_terms.proofs.LiftingLaws.{both, below_or_above}
+use Rattle.fof_terms.proofs.Walks.{TermWalk, FormWalk}
+use Rattle.fof_terms.specs.Variables.{has_in_term, has_variable}
+use Rattle.fof_terms.proofs.VariablesFacts.{has_in_term-Var, has_in_term-App, has_variable-Atom, has_variable-Eq, has_variable-Not, has_variable-And, has_variable-Or, has_variable-Imp, has_variable-Iff, has_variable-All, has_variable-Ex}
+use Rattle.skolem_fresh.specs.code.Only.{is_among, only_in_term, only_has}
+use Rattle.skolem_fresh.proofs.OnlyFacts.{only_in_term-Var, only_in_term-App, only_has-Atom, only_has-Eq, only_has-Not, only_has-And, only_has-Or, only_has-Imp, only_has-Iff, only_has-All, only_has-Ex}
 
 pub one_of : (a b : Bool) → (a || b) ≡ true → (a ≡ true) ⊎ (b ≡ true)
 one_of true b e = inl refl

@@ -11,7 +11,7 @@ use Rattle.fof_terms.specs.Variables.{has_variable}
 use Rattle.fof_terms.specs.Sorts.{binder_depth}
 use Rattle.kernel.specs.Statements.{Statements}
 use Rattle.kernel.specs.Proves.{Proves}
-use Rattle.kernel.specs.Building.{by_line, by_imp_e}
+use Rattle.kernel.proofs.Building.{by_line, by_imp_e}
 use Rattle.kernel.specs.declared.proof.Proof.{Proof, Hyp, ExE, ImpE, Line}
 use Rattle.kernel.specs.declared.entry.Entry.{Entry}
 use Rattle.kernel.specs.declared.entry.Entry.TheVariants.{Choice}
@@ -22,7 +22,7 @@ use Rattle.skolem_fresh.specs.Renamed.{renamed}
 use Rattle.skolem_fresh.specs.Uses.{value_of}
 use Rattle.skolem_fresh.specs.ChoiceRule.{IsOpened}
 use Rattle.skolem_fresh.specs.Choosing.{IsWithin}
-use Rattle.skolem_fresh.specs.Told.{AreTold, IsOpenable, Leads, IsLed}
+use Rattle.skolem_fresh.specs.code.Told.{AreTold, IsOpenable, Leads, IsLed}
 use Rattle.skolem_fresh.proofs.Opened.{body_room, value_reaches, unused_reaches, more_than_none}
 use Rattle.skolem_fresh.proofs.Openable.{first_use, open_unused, open_used, opened_ways, fits_sort, few_all, PartShows, unused_leads, used_leads}
 

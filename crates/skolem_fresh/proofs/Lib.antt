@@ -25,3 +25,11 @@ pub mod SolidLaws
 pub mod WalkCode
 pub mod Walking
 pub mod WholeLines
+pub mod Alike
+pub mod JustifiedFacts
+pub mod LeadingFacts
+pub mod LeavesFacts
+pub mod OnlyFacts
+pub mod ReadingFacts
+pub mod RenamedFacts
+pub mod SolidFacts

@@ -10,8 +10,9 @@ use Rattle.fof_terms.specs.Occurs.{occurs_in}
 use Rattle.kernel.specs.Statements.{Statements}
 use Rattle.skolem_fresh.specs.declared.just.Use.{Use}
 use Rattle.skolem_fresh.specs.declared.leaves.Leaf.{Leaf}
-use Rattle.skolem_fresh.specs.Reading.{found_in, found_term, found_term-App-Var, read, read_from, all_there}
-use Rattle.skolem_fresh.specs.Choosing.{IsFree}
+use Rattle.skolem_fresh.specs.code.Reading.{found_in, found_term, read, read_from, all_there}
+use Rattle.skolem_fresh.proofs.ReadingFacts.{found_term-App-Var}
+use Rattle.skolem_fresh.specs.code.Choosing.{IsFree}
 
 none_in : (fs : List (Term → Option Term)) → found_in fs [] ≡ None
 none_in [] = refl

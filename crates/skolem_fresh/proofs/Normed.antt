@@ -9,14 +9,19 @@ use Rattle.fof_terms.specs.declared.term.Term.{Term, Var}
 use Rattle.fof_terms.specs.declared.form.Form.{Form, Atom, Eq, Not}
 use Rattle.fof_terms.specs.declared.form.Form.TheOpen as form
 use Rattle.fof_terms.specs.declared.form.Form.TheViews.{out-Form, outs-And, outs-Or}
-use Rattle.fof_terms.specs.Induction.{form_induction}
-use Rattle.fof_terms.specs.Instance.{instance_at, instance_at-And, instance_at-Or}
-use Rattle.fof_terms.specs.Variables.{has_variable, has_variable-And, has_variable-Or}
-use Rattle.clause_form.specs.Norm.{node, quantifier, quantified, quantified-kept, quantified-dropped, signed, members_of, ends, alone, join, joined_flat-ended, joined_flat-alone, norm_of, norm_of-Atom, norm_of-Eq, norm_of-Not, norm_of-And, norm_of-Or, norm_of-Imp, norm_of-Iff, norm_of-All, norm_of-Ex}
-use Rattle.clause_form.specs.Kinds.{members_of-And-true, members_of-Or-false, ends-And-false, ends-Or-true}
-use Rattle.clause_form.specs.Joined.{members_cases}
-use Rattle.skolem_fresh.specs.Leaves.{leaves_of, leaves_of-All, leaves_of-Ex}
-use Rattle.skolem_fresh.specs.Solid.{IsSolid, AreSolid, AreSome, an_atom, an_equation, a_denied_atom, a_denied_equation, a_node, a_quantifier, no_member, a_member}
+use Rattle.fof_terms.proofs.Induction.{form_induction}
+use Rattle.fof_terms.specs.Instance.{instance_at}
+use Rattle.fof_terms.proofs.InstanceFacts.{instance_at-And, instance_at-Or}
+use Rattle.fof_terms.specs.Variables.{has_variable}
+use Rattle.fof_terms.proofs.VariablesFacts.{has_variable-And, has_variable-Or}
+use Rattle.clause_form.specs.Norm.{node, quantifier, quantified, signed, members_of, ends, alone, join, norm_of}
+use Rattle.clause_form.proofs.NormFacts.{quantified-kept, quantified-dropped, joined_flat-ended, joined_flat-alone, norm_of-Atom, norm_of-Eq, norm_of-Not, norm_of-And, norm_of-Or, norm_of-Imp, norm_of-Iff, norm_of-All, norm_of-Ex}
+use Rattle.clause_form.proofs.MemberKinds.{members_of-And-true, members_of-Or-false, ends-And-false, ends-Or-true}
+use Rattle.clause_form.proofs.Joined.{members_cases}
+use Rattle.skolem_fresh.specs.code.Leaves.{leaves_of}
+use Rattle.skolem_fresh.proofs.LeavesFacts.{leaves_of-All, leaves_of-Ex}
+use Rattle.skolem_fresh.specs.code.Solid.{IsSolid, AreSolid, an_atom, an_equation, a_denied_atom, a_denied_equation, a_node, a_quantifier, no_member, a_member}
+use Rattle.skolem_fresh.proofs.SolidFacts.{AreSome}
 use Rattle.skolem_fresh.proofs.SolidLaws.{node_solid, some_solid, first_solid, append_solid, not_ended, members_solid, members_leaves, node_leaves, instance_solid}
 use Rattle.skolem_fresh.proofs.LeafLaws.{stands, stands_in}
 

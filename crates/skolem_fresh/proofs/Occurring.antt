@@ -5,13 +5,17 @@ use Rattle.std.proofs.Common.{ap, sym, subst, ◌∙◌, arith, ◌⊎◌, inl, 
 use Rattle.std.proofs.lemmas.Bool.Decides.{nat_tests}
 use Rattle.fof_terms.specs.declared.term.Term.{Term, Var, App}
 use Rattle.fof_terms.specs.declared.form.Form.{Form}
-use Rattle.fof_terms.specs.Induction.{term_induction, form_induction}
-use Rattle.fof_terms.specs.Laws.{below_or_above, smaller, greater, here, moves}
-use Rattle.fof_terms.specs.Lift.{lifted_term, lifted_term-App}
-use Rattle.fof_terms.specs.Instance.{instance_term, instance_at, instance_term-App, instance_at-Atom, instance_at-Eq, instance_at-Not, instance_at-And, instance_at-Or, instance_at-Imp, instance_at-Iff, instance_at-All, instance_at-Ex}
-use Rattle.fof_terms.specs.Occurs.{occurs_in, occurs_in_term, list_any-map, occurs_in_term-Var, occurs_in_term-App, occurs_in-Atom, occurs_in-Eq, occurs_in-Not, occurs_in-And, occurs_in-Or, occurs_in-Imp, occurs_in-Iff, occurs_in-All, occurs_in-Ex}
-use Rattle.fof_terms.specs.Variables.{has_in_term, has_variable, has_in_term-Var, has_in_term-App, has_variable-Atom, has_variable-Eq, has_variable-Not, has_variable-And, has_variable-Or, has_variable-Imp, has_variable-Iff, has_variable-All, has_variable-Ex}
-use Rattle.fof_terms.specs.Walks.{TermWalk, FormWalk}
+use Rattle.fof_terms.proofs.Induction.{term_induction, form_induction}
+use Rattle.fof_terms.proofs.LiftingLaws.{below_or_above, smaller, greater, here, moves}
+use Rattle.fof_terms.specs.Lift.{lifted_term}
+use Rattle.fof_terms.proofs.LiftFacts.{lifted_term-App}
+use Rattle.fof_terms.specs.Instance.{instance_term, instance_at}
+use Rattle.fof_terms.proofs.InstanceFacts.{instance_term-App, instance_at-Atom, instance_at-Eq, instance_at-Not, instance_at-And, instance_at-Or, instance_at-Imp, instance_at-Iff, instance_at-All, instance_at-Ex}
+use Rattle.fof_terms.specs.Occurs.{occurs_in, occurs_in_term}
+use Rattle.fof_terms.proofs.OccursFacts.{list_any-map, occurs_in_term-Var, occurs_in_term-App, occurs_in-Atom, occurs_in-Eq, occurs_in-Not, occurs_in-And, occurs_in-Or, occurs_in-Imp, occurs_in-Iff, occurs_in-All, occurs_in-Ex}
+use Rattle.fof_terms.specs.Variables.{has_in_term, has_variable}
+use Rattle.fof_terms.proofs.VariablesFacts.{has_in_term-Var, has_in_term-App, has_variable-Atom, has_variable-Eq, has_variable-Not, has_variable-And, has_variable-Or, has_variable-Imp, has_variable-Iff, has_variable-All, has_variable-Ex}
+use Rattle.fof_terms.proofs.Walks.{TermWalk, FormWalk}
 use Rattle.skolem_fresh.proofs.Freely.{at, each}
 
 any_agree : {X : Type 0} (f g : X → Bool) (xs : List X) → AllByRecursion (λ x. f x ≡ g x) xs → list_any f xs ≡ list_any g xs

@@ -7,13 +7,16 @@ use Rattle.std.proofs.lemmas.Bool.{lt-ltb, le-ltb}
 use Rattle.std.proofs.lemmas.List.Folds.{list_all-map}
 use Rattle.fof_terms.specs.declared.term.Term.{Term, Var, App}
 use Rattle.fof_terms.specs.declared.form.Form.{Form, Ex}
-use Rattle.fof_terms.specs.Induction.{term_induction, form_induction}
-use Rattle.fof_terms.specs.Laws.{both, below_or_above, stays, moves, smaller, greater, here}
-use Rattle.fof_terms.specs.Lift.{lifted_term, lifted, lifted_term-App, lifted-Atom, lifted-Eq, lifted-Not, lifted-And, lifted-Or, lifted-Imp, lifted-Iff, lifted-All, lifted-Ex}
-use Rattle.fof_terms.specs.Instance.{instance_term, instance_at, instance_of, instance_term-App, instance_at-Atom, instance_at-Eq, instance_at-Not, instance_at-And, instance_at-Or, instance_at-Imp, instance_at-Iff, instance_at-All, instance_at-Ex}
-use Rattle.fof_terms.specs.Unused.{unused_back}
+use Rattle.fof_terms.proofs.Induction.{term_induction, form_induction}
+use Rattle.fof_terms.proofs.LiftingLaws.{both, below_or_above, stays, moves, smaller, greater, here}
+use Rattle.fof_terms.specs.Lift.{lifted_term, lifted}
+use Rattle.fof_terms.proofs.LiftFacts.{lifted_term-App, lifted-Atom, lifted-Eq, lifted-Not, lifted-And, lifted-Or, lifted-Imp, lifted-Iff, lifted-All, lifted-Ex}
+use Rattle.fof_terms.specs.Instance.{instance_term, instance_at, instance_of}
+use Rattle.fof_terms.proofs.InstanceFacts.{instance_term-App, instance_at-Atom, instance_at-Eq, instance_at-Not, instance_at-And, instance_at-Or, instance_at-Imp, instance_at-Iff, instance_at-All, instance_at-Ex}
+use Rattle.fof_terms.proofs.Unused.{unused_back}
 use Rattle.fof_terms.specs.Variables.{has_variable}
-use Rattle.skolem_fresh.specs.Only.{is_among, only_in_term, only_has, only_in_term-Var, only_in_term-App, only_has-Atom, only_has-Eq, only_has-Not, only_has-And, only_has-Or, only_has-Imp, only_has-Iff, only_has-All, only_has-Ex}
+use Rattle.skolem_fresh.specs.code.Only.{is_among, only_in_term, only_has}
+use Rattle.skolem_fresh.proofs.OnlyFacts.{only_in_term-Var, only_in_term-App, only_has-Atom, only_has-Eq, only_has-Not, only_has-And, only_has-Or, only_has-Imp, only_has-Iff, only_has-All, only_has-Ex}
 use Rattle.skolem_fresh.specs.Uses.{value}
 use Rattle.skolem_fresh.proofs.Freely.{at, each}
 

@@ -8,28 +8,32 @@ use Rattle.fof_terms.specs.declared.signature.Symbol.{Symbol}
 use Rattle.fof_terms.specs.declared.signature.Kind.{Kind}
 use Rattle.fof_terms.specs.declared.signature.Kind.TheVariants.{Function, Predicate}
 use Rattle.fof_terms.specs.Vocabulary.{Vocabulary}
-use Rattle.fof_terms.specs.Trees.{Ex-injective}
-use Rattle.fof_terms.specs.Instance.{instance_of, instance_at, instance_reach, instance_at-Imp, instance_at-Ex}
+use Rattle.fof_terms.proofs.Trees.{Ex-injective}
+use Rattle.fof_terms.specs.Instance.{instance_of, instance_at, instance_reach}
+use Rattle.fof_terms.proofs.InstanceFacts.{instance_at-Imp, instance_at-Ex}
 use Rattle.fof_terms.specs.Lift.{lifted}
 use Rattle.fof_terms.specs.Variables.{has_variable}
-use Rattle.fof_terms.specs.Sorts.{Sorted, SortedTo, IsScope, are_sorts, made_by, applied, sort_of_term, sort_of_term-App, binder_depth}
-use Rattle.fof_terms.specs.Moved.{closed_anywhere}
-use Rattle.fof_terms.specs.Unused.{unused_back}
+use Rattle.fof_terms.specs.Sorts.{Sorted, SortedTo, IsScope, are_sorts, made_by, applied, sort_of_term, binder_depth}
+use Rattle.fof_terms.proofs.SortsFacts.{sort_of_term-App}
+use Rattle.fof_terms.proofs.Moved.{closed_anywhere}
+use Rattle.fof_terms.proofs.Unused.{unused_back}
 use Rattle.kernel.specs.Statements.{Statements}
 use Rattle.kernel.specs.Proves.{Proves, over, all_over}
-use Rattle.kernel.specs.Building.{by_line, by_hyp, by_imp_e, by_ex_e, shown_sorted}
+use Rattle.kernel.proofs.Building.{by_line, by_hyp, by_imp_e, by_ex_e, shown_sorted}
 use Rattle.kernel.specs.Entries.{for_all, variables, choice}
 use Rattle.kernel.specs.declared.proof.Proof.{Proof, Hyp, ExE, ImpE, Line}
 use Rattle.kernel.specs.declared.entry.Entry.{Entry}
 use Rattle.kernel.specs.declared.entry.Entry.TheVariants.{Choice}
 use Rattle.derive_kit.specs.Instances.{IsInstance}
 use Rattle.skolem_fresh.specs.declared.just.Use.{Use}
-use Rattle.skolem_fresh.specs.Only.{only_has, only_has-Ex}
+use Rattle.skolem_fresh.specs.code.Only.{only_has}
+use Rattle.skolem_fresh.proofs.OnlyFacts.{only_has-Ex}
 use Rattle.skolem_fresh.specs.Renamed.{renamed}
 use Rattle.skolem_fresh.specs.Uses.{value, value_of, Fits}
 use Rattle.skolem_fresh.specs.ChoiceRule.{IsOpened}
 use Rattle.skolem_fresh.specs.Choosing.{IsWithin}
-use Rattle.skolem_fresh.specs.Told.{AreTold, AddedFrom, IsOpenable, Leads, IsLed}
+use Rattle.skolem_fresh.specs.code.Told.{AreTold, IsOpenable, Leads, IsLed}
+use Rattle.skolem_fresh.specs.Told.{AddedFrom}
 use Rattle.skolem_fresh.proofs.Opened.{body_room, body_sorted, within_value, within_unused, value_reaches, unused_reaches}
 use Rattle.skolem_fresh.proofs.OnlyLaws.{only_unused, only_value, value_only}
 use Rattle.skolem_fresh.proofs.Argued.{sorts_at, args_length, put, put_term, putting, put_back, put_instance, put_value, all_instances}

@@ -8,25 +8,28 @@ use Rattle.fof_terms.specs.declared.term.Term.TheOpen as term
 use Rattle.fof_terms.specs.declared.term.Term.TheViews.{out-Term}
 use Rattle.fof_terms.specs.declared.form.Form.{Form, Ex}
 use Rattle.fof_terms.specs.Vocabulary.{Vocabulary}
-use Rattle.fof_terms.specs.Trees.{Ex-injective}
-use Rattle.fof_terms.specs.Induction.{form_induction}
+use Rattle.fof_terms.proofs.Trees.{Ex-injective}
+use Rattle.fof_terms.proofs.Induction.{form_induction}
 use Rattle.fof_terms.specs.Instance.{instance_of, instance_at, instance_term, instance_reach}
 use Rattle.fof_terms.specs.Variables.{has_variable}
-use Rattle.fof_terms.specs.Sorts.{SortedTo, sort_of_term, binder_depth, binder_depth-Ex}
-use Rattle.fof_terms.specs.Scoped.{sorted_of_ex}
-use Rattle.fof_terms.specs.Moved.{body_instance_sorted, of_lifted_over}
-use Rattle.fof_terms.specs.MoreReaches.{instance_reach_fits}
-use Rattle.fof_terms.specs.PlaceReach.{place_reach}
-use Rattle.fof_terms.specs.Unused.{unused_back}
-use Rattle.fof_terms.specs.Walks.{FormWalk, placing, same_depth}
+use Rattle.fof_terms.specs.Sorts.{SortedTo, sort_of_term, binder_depth}
+use Rattle.fof_terms.proofs.SortsFacts.{binder_depth-Ex}
+use Rattle.fof_terms.proofs.Scoped.{sorted_of_ex}
+use Rattle.fof_terms.proofs.Moved.{body_instance_sorted, of_lifted_over}
+use Rattle.fof_terms.proofs.MoreReaches.{instance_reach_fits}
+use Rattle.fof_terms.proofs.PlaceReach.{place_reach}
+use Rattle.fof_terms.proofs.Unused.{unused_back}
+use Rattle.fof_terms.proofs.Walks.{FormWalk, placing, same_depth}
 use Rattle.skolem_fresh.specs.declared.just.Use.{Use}
 use Rattle.skolem_fresh.specs.declared.leaves.Leaf.{Leaf}
-use Rattle.skolem_fresh.specs.Leaves.{leaves_of}
-use Rattle.skolem_fresh.specs.Leading.{leading, leading-Atom, leading-Eq, leading-Not, leading-And, leading-Or, leading-Imp, leading-Iff, leading-All, leading-Ex}
-use Rattle.skolem_fresh.specs.Reading.{read, read_or, found_term, use_of, use_in, used, all_there, variable_of}
+use Rattle.skolem_fresh.specs.code.Leaves.{leaves_of}
+use Rattle.skolem_fresh.specs.code.Leading.{leading}
+use Rattle.skolem_fresh.proofs.LeadingFacts.{leading-Atom, leading-Eq, leading-Not, leading-And, leading-Or, leading-Imp, leading-Iff, leading-All, leading-Ex}
+use Rattle.skolem_fresh.specs.code.Reading.{read, read_or, found_term, use_of, use_in, used, all_there, variable_of}
 use Rattle.skolem_fresh.specs.Uses.{value_of, Fits}
 use Rattle.skolem_fresh.specs.ChoiceRule.{IsOpened}
-use Rattle.skolem_fresh.specs.Choosing.{IsWithin, IsNext, IsRead}
+use Rattle.skolem_fresh.specs.Choosing.{IsWithin}
+use Rattle.skolem_fresh.specs.code.Choosing.{IsNext, IsRead}
 use Rattle.skolem_fresh.proofs.Finding.{read_off}
 
 pub on_ok : {X E : Type 0} {P Q : X → Type 0} (r : Result X E) → ((x : X) → P x → Q x) → IfOk r P → IfOk r Q

@@ -7,16 +7,17 @@ use Rattle.std.proofs.lemmas.List.{map-append}
 use Rattle.std.proofs.lemmas.List.Concat.{flat_map-cons}
 use Rattle.fof_terms.specs.declared.term.Term.{Term, Var}
 use Rattle.fof_terms.specs.declared.form.Form.{Form, Atom, Eq, Not, All, Ex}
-use Rattle.fof_terms.specs.Laws.{here, instance_of_lifted, lift_twice}
+use Rattle.fof_terms.proofs.LiftingLaws.{here, instance_of_lifted, lift_twice}
 use Rattle.fof_terms.specs.Lift.{lifted_term}
 use Rattle.fof_terms.specs.Instance.{instance_of, instance_at, instance_term}
 use Rattle.fof_terms.specs.Variables.{has_in_term, has_variable}
 use Rattle.fof_terms.specs.Vocabulary.{Vocabulary}
-use Rattle.fof_terms.specs.Walks.{TermWalk, staying_term, placing, placing_term, both_terms}
+use Rattle.fof_terms.proofs.Walks.{TermWalk, staying_term, placing, placing_term, both_terms}
 use Rattle.skolem_fresh.specs.declared.just.Use.{Use}
 use Rattle.skolem_fresh.specs.declared.leaves.Leaf.{Leaf}
-use Rattle.skolem_fresh.specs.Leaves.{leaves_of, leaves_of-And, leaves_of-Or, leaves_of-All, leaves_of-Ex}
-use Rattle.skolem_fresh.specs.Reading.{found_term, read, read_or, read_from, outward}
+use Rattle.skolem_fresh.specs.code.Leaves.{leaves_of}
+use Rattle.skolem_fresh.proofs.LeavesFacts.{leaves_of-And, leaves_of-Or, leaves_of-All, leaves_of-Ex}
+use Rattle.skolem_fresh.specs.code.Reading.{found_term, read, read_or, read_from, outward}
 use Rattle.skolem_fresh.specs.Uses.{value_of}
 use Rattle.skolem_fresh.specs.SkolemRule.{IsSkolemized, AreSkolemized, an_atom, an_equation, a_negation, a_conjunction, a_disjunction, for_each, for_some, none, more}
 use Rattle.skolem_fresh.proofs.Finding.{if_there, found_walk, use_back}

@@ -4,7 +4,8 @@ use Rattle.std.proofs.Common.{ap, sym, ◌∙◌, append_assoc}
 use Rattle.fof_terms.specs.declared.term.Term.{Term}
 use Rattle.fof_terms.specs.declared.form.Form.{Form, Eq, Imp, Iff}
 use Rattle.skolem_fresh.specs.declared.leaves.Leaf.{Leaf}
-use Rattle.skolem_fresh.specs.Leaves.{leaf, leaves_of, leaves_of-Eq, leaves_of-Imp, leaves_of-Iff}
+use Rattle.skolem_fresh.specs.code.Leaves.{leaf, leaves_of}
+use Rattle.skolem_fresh.proofs.LeavesFacts.{leaves_of-Eq, leaves_of-Imp, leaves_of-Iff}
 
 in_two : (xs ys zs old mid new : List Leaf) → xs ≡ ys ++ zs → mid ≡ old ++ ys → new ≡ mid ++ zs → new ≡ old ++ xs
 in_two xs ys zs old mid new e f g = g ∙ ap (λ (ls : List Leaf). ls ++ zs) f ∙ append_assoc old ys zs ∙ ap (λ (ls : List Leaf). old ++ ls) (sym e)

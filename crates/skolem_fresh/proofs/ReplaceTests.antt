@@ -11,11 +11,12 @@ use Rattle.fof_terms.specs.Vocabulary.{Vocabulary}
 use Rattle.skolem_fresh.specs.declared.just.Use.{Use}
 use Rattle.skolem_fresh.specs.declared.leaves.Leaf.{Leaf}
 use Rattle.skolem_fresh.specs.Choosing.{IsWithin}
-use Rattle.skolem_fresh.specs.Leaves.{leaves_of}
-use Rattle.skolem_fresh.specs.Only.{only_has, only_has-Ex}
-use Rattle.skolem_fresh.specs.Reading.{read_from, outward}
+use Rattle.skolem_fresh.specs.code.Leaves.{leaves_of}
+use Rattle.skolem_fresh.specs.code.Only.{only_has}
+use Rattle.skolem_fresh.proofs.OnlyFacts.{only_has-Ex}
+use Rattle.skolem_fresh.specs.code.Reading.{read_from, outward}
 use Rattle.skolem_fresh.specs.SkolemRule.{MayReplace}
-use Rattle.skolem_fresh.specs.Skolemizing.{IsFunctionFor, IsReplaced}
+use Rattle.skolem_fresh.specs.code.Skolemizing.{IsFunctionFor, IsReplaced}
 use Rattle.skolem_fresh.specs.Uses.{value_of}
 use Rattle.skolem_fresh.proofs.Chosen.{only_arguments, arguments_only, not_true, is_true}
 use Rattle.skolem_fresh.proofs.Opened.{read_sort, value_reaches}

@@ -11,7 +11,7 @@ use Rattle.fof_terms.specs.Occurs.{occurs_in}
 use Rattle.fof_terms.specs.Sorts.{SortedTo, binder_depth}
 use Rattle.fof_terms.specs.Vocabulary.{Vocabulary}
 use Rattle.clause_form.specs.Norm.{node, norm_of}
-use Rattle.clause_form.specs.NormSorts.{norm_depth}
+use Rattle.clause_form.proofs.NormSorts.{norm_depth}
 use Rattle.clause_form.specs.Sizes.{norm_size_of}
 use Rattle.clause_form.specs.declared.path.Parent.{Parent}
 use Rattle.kernel.specs.Entries.{IsFresh}
@@ -22,10 +22,10 @@ use Rattle.skolem_fresh.specs.declared.just.SkolemJust.TheVariants.{Skolem}
 use Rattle.skolem_fresh.specs.declared.leaves.Leaf.{Leaf}
 use Rattle.skolem_fresh.specs.Choosing.{IsWithin}
 use Rattle.skolem_fresh.specs.Justified.{ShowsSkolem}
-use Rattle.skolem_fresh.specs.Leaves.{leaves_of}
+use Rattle.skolem_fresh.specs.code.Leaves.{leaves_of}
 use Rattle.skolem_fresh.specs.SkolemRule.{HasNorm, IsSkolemized, Skolemizes, IsSkolemOf, IsSkolemStep, forms_of}
-use Rattle.skolem_fresh.specs.Skolemizing.{IsWalked, IsWalkedTo, Gives, IsGiven}
-use Rattle.skolem_fresh.specs.Solid.{IsSolid}
+use Rattle.skolem_fresh.specs.code.Skolemizing.{IsWalked, IsWalkedTo, Gives, IsGiven}
+use Rattle.skolem_fresh.specs.code.Solid.{IsSolid}
 use Rattle.skolem_fresh.specs.Uses.{AreNew}
 use Rattle.skolem_fresh.proofs.Chosen.{not_true, is_true}
 use Rattle.skolem_fresh.proofs.LoopsRead.{has_none}

@@ -7,15 +7,18 @@ use Rattle.fof_terms.specs.declared.form.Form.TheOpen as form
 use Rattle.fof_terms.specs.declared.form.Form.TheViews.{out-Form, outs-Atom, outs-Eq, outs-Not, outs-And, outs-Or, outs-All, outs-Ex}
 use Rattle.fof_terms.specs.Lift.{greatest}
 use Rattle.fof_terms.specs.Instance.{instance_of, instance_at, instance_term}
-use Rattle.fof_terms.specs.Sorts.{binder_depth, binder_depth-And, binder_depth-Or, binder_depth-All, binder_depth-Ex}
-use Rattle.fof_terms.specs.Variables.{has_variable, has_variable-And, has_variable-Or, has_variable-All, has_variable-Ex}
+use Rattle.fof_terms.specs.Sorts.{binder_depth}
+use Rattle.fof_terms.proofs.SortsFacts.{binder_depth-And, binder_depth-Or, binder_depth-All, binder_depth-Ex}
+use Rattle.fof_terms.specs.Variables.{has_variable}
+use Rattle.fof_terms.proofs.VariablesFacts.{has_variable-And, has_variable-Or, has_variable-All, has_variable-Ex}
 use Rattle.fof_terms.specs.Vocabulary.{Vocabulary}
-use Rattle.fof_terms.specs.Walks.{placing, same_depth}
+use Rattle.fof_terms.proofs.Walks.{placing, same_depth}
 use Rattle.clause_form.specs.Norm.{node}
 use Rattle.skolem_fresh.specs.declared.just.Use.{Use}
 use Rattle.skolem_fresh.specs.Uses.{value_of}
 use Rattle.skolem_fresh.specs.SkolemRule.{MayReplace, IsSkolemized, AreSkolemized, an_atom, an_equation, a_negation, a_conjunction, a_disjunction, for_each, for_some, none, more}
-use Rattle.skolem_fresh.specs.Solid.{IsSolid, AreSolid, AreSome, a_node, a_quantifier, no_member, a_member}
+use Rattle.skolem_fresh.specs.code.Solid.{IsSolid, AreSolid, a_node, a_quantifier, no_member, a_member}
+use Rattle.skolem_fresh.proofs.SolidFacts.{AreSome}
 use Rattle.skolem_fresh.proofs.Freely.{one_of}
 use Rattle.skolem_fresh.proofs.SolidLaws.{node_solid, quantifier_solid, first_solid, instance_solid, keeps}
 

@@ -8,14 +8,18 @@ use Rattle.std.proofs.lemmas.List.Concat.{flat_map-cons}
 use Rattle.fof_terms.specs.declared.term.Term.{Term, Var}
 use Rattle.fof_terms.specs.declared.form.Form.{Form, Atom, Eq, And, Or, All, Ex}
 use Rattle.fof_terms.specs.declared.form.Form.TheViews.{out-Form, outs-Atom, outs-Eq, outs-Not, outs-And, outs-Or, outs-All, outs-Ex}
-use Rattle.fof_terms.specs.Induction.{term_induction, form_induction}
-use Rattle.fof_terms.specs.Instance.{instance_term, instance_at, instance_term-App, instance_at-Atom, instance_at-Eq, instance_at-Not, instance_at-And, instance_at-Or, instance_at-Imp, instance_at-Iff, instance_at-All, instance_at-Ex}
-use Rattle.fof_terms.specs.Laws.{smaller, greater}
-use Rattle.fof_terms.specs.Variables.{has_in_term, has_variable, has_in_term-Var, has_in_term-App, has_variable-Atom, has_variable-Eq, has_variable-Not, has_variable-And, has_variable-Or, has_variable-Imp, has_variable-Iff, has_variable-All, has_variable-Ex}
+use Rattle.fof_terms.proofs.Induction.{term_induction, form_induction}
+use Rattle.fof_terms.specs.Instance.{instance_term, instance_at}
+use Rattle.fof_terms.proofs.InstanceFacts.{instance_term-App, instance_at-Atom, instance_at-Eq, instance_at-Not, instance_at-And, instance_at-Or, instance_at-Imp, instance_at-Iff, instance_at-All, instance_at-Ex}
+use Rattle.fof_terms.proofs.LiftingLaws.{smaller, greater}
+use Rattle.fof_terms.specs.Variables.{has_in_term, has_variable}
+use Rattle.fof_terms.proofs.VariablesFacts.{has_in_term-Var, has_in_term-App, has_variable-Atom, has_variable-Eq, has_variable-Not, has_variable-And, has_variable-Or, has_variable-Imp, has_variable-Iff, has_variable-All, has_variable-Ex}
 use Rattle.clause_form.specs.Norm.{node, quantifier, members_of, ends}
-use Rattle.clause_form.specs.Joined.{members_cases, ends_case}
-use Rattle.skolem_fresh.specs.Leaves.{leaves_of, leaves_of-And, leaves_of-Or}
-use Rattle.skolem_fresh.specs.Solid.{IsSolid, AreSolid, AreSome, SolidIn, an_atom, an_equation, a_denied_atom, a_denied_equation, a_node, a_quantifier, no_member, a_member}
+use Rattle.clause_form.proofs.Joined.{members_cases, ends_case}
+use Rattle.skolem_fresh.specs.code.Leaves.{leaves_of}
+use Rattle.skolem_fresh.proofs.LeavesFacts.{leaves_of-And, leaves_of-Or}
+use Rattle.skolem_fresh.specs.code.Solid.{IsSolid, AreSolid, an_atom, an_equation, a_denied_atom, a_denied_equation, a_node, a_quantifier, no_member, a_member}
+use Rattle.skolem_fresh.proofs.SolidFacts.{AreSome, SolidIn}
 use Rattle.skolem_fresh.proofs.Freely.{one_of}
 
 -- By its kind.

@@ -6,21 +6,23 @@ use Rattle.std.proofs.lemmas.List.{drop-drop, drop_at, length-append, length-dro
 use Rattle.fof_terms.specs.declared.term.Term.{Term}
 use Rattle.fof_terms.specs.declared.form.Form.{Form, All, Ex}
 use Rattle.fof_terms.specs.Instance.{instance_of, instance_at, instance_term}
-use Rattle.fof_terms.specs.Laws.{each_true}
+use Rattle.fof_terms.proofs.LiftingLaws.{each_true}
 use Rattle.fof_terms.specs.Lift.{greatest}
-use Rattle.fof_terms.specs.Sorts.{binder_depth, binder_depth-And, binder_depth-Or, sort_of_term, is_sorted, is_sorted-And, is_sorted-Or}
+use Rattle.fof_terms.specs.Sorts.{binder_depth, sort_of_term, is_sorted}
+use Rattle.fof_terms.proofs.SortsFacts.{binder_depth-And, binder_depth-Or, is_sorted-And, is_sorted-Or}
 use Rattle.fof_terms.specs.Vocabulary.{Vocabulary}
 use Rattle.clause_form.specs.Norm.{node}
-use Rattle.clause_form.specs.SizeLaws.{sum_cons}
-use Rattle.clause_form.specs.Sizes.{norm_size_of, norm_size_of-Atom, norm_size_of-Eq, norm_size_of-Not, norm_size_of-And, norm_size_of-Or, norm_size_of-Imp, norm_size_of-Iff, norm_size_of-All, norm_size_of-Ex}
-use Rattle.fof_terms.specs.Induction.{form_induction}
-use Rattle.fof_terms.specs.Walks.{FormWalk, placing}
+use Rattle.clause_form.proofs.SizeLaws.{sum_cons}
+use Rattle.clause_form.specs.Sizes.{norm_size_of}
+use Rattle.clause_form.proofs.SizesFacts.{norm_size_of-Atom, norm_size_of-Eq, norm_size_of-Not, norm_size_of-And, norm_size_of-Or, norm_size_of-Imp, norm_size_of-Iff, norm_size_of-All, norm_size_of-Ex}
+use Rattle.fof_terms.proofs.Induction.{form_induction}
+use Rattle.fof_terms.proofs.Walks.{FormWalk, placing}
 use Rattle.skolem_fresh.proofs.Freely.{at}
 use Rattle.skolem_fresh.specs.declared.just.Use.{Use}
 use Rattle.skolem_fresh.specs.declared.leaves.Leaf.{Leaf}
 use Rattle.skolem_fresh.specs.Choosing.{IsWithin}
 use Rattle.skolem_fresh.specs.SkolemRule.{MayReplace}
-use Rattle.skolem_fresh.specs.Skolemizing.{IsReplaced, IsWalked, IsWalkedTo, AreWalked, AreWalkedTo}
+use Rattle.skolem_fresh.specs.code.Skolemizing.{IsReplaced, IsWalked, IsWalkedTo, AreWalked, AreWalkedTo}
 use Rattle.skolem_fresh.specs.Uses.{value_of}
 use Rattle.skolem_fresh.proofs.Walking.{one_more, none_more, none_walked, node_walked, node_none, all_walked, all_none, some_walked, some_none, unreplaced}
 use Rattle.skolem_fresh.proofs.Opened.{within_value}

@@ -11,11 +11,12 @@ use Rattle.fof_terms.specs.Vocabulary.{Vocabulary}
 use Rattle.clause_form.specs.Norm.{node}
 use Rattle.skolem_fresh.specs.declared.just.Use.{Use}
 use Rattle.skolem_fresh.specs.declared.leaves.Leaf.{Leaf}
-use Rattle.skolem_fresh.specs.Leaves.{leaves_of, leaves_of-All}
-use Rattle.skolem_fresh.specs.Reading.{read_from}
+use Rattle.skolem_fresh.specs.code.Leaves.{leaves_of}
+use Rattle.skolem_fresh.proofs.LeavesFacts.{leaves_of-All}
+use Rattle.skolem_fresh.specs.code.Reading.{read_from}
 use Rattle.skolem_fresh.specs.SkolemRule.{MayReplace, IsSkolemized, AreSkolemized, an_atom, an_equation, a_negation, a_conjunction, a_disjunction, for_each, for_some, none, more}
-use Rattle.skolem_fresh.specs.Skolemizing.{IsFunctionFor, IsReplaced, IsWalked, IsWalkedTo, AreWalked, AreWalkedTo, IsPassed}
-use Rattle.skolem_fresh.specs.Solid.{IsSolid, AreSolid, no_member, a_member}
+use Rattle.skolem_fresh.specs.code.Skolemizing.{IsFunctionFor, IsReplaced, IsWalked, IsWalkedTo, AreWalked, AreWalkedTo, IsPassed}
+use Rattle.skolem_fresh.specs.code.Solid.{IsSolid, AreSolid, no_member, a_member}
 use Rattle.skolem_fresh.specs.Uses.{value_of}
 use Rattle.skolem_fresh.proofs.Paired.{value_read}
 use Rattle.skolem_fresh.proofs.SolidLaws.{node_solid, some_solid, quantifier_solid, first_solid, node_leaves, instance_solid}

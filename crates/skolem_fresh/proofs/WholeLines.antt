@@ -8,16 +8,18 @@ use Rattle.std.proofs.lemmas.List.{append-nil}
 use Rattle.std.proofs.lemmas.Map.Steps.{length-le_from_distinct_below}
 use Rattle.fof_terms.specs.declared.form.Form.{Form, Imp, All}
 use Rattle.fof_terms.specs.Vocabulary.{Vocabulary}
-use Rattle.fof_terms.specs.Trees.{Imp-injective, All-injective}
-use Rattle.fof_terms.specs.Occurs.{occurs_in, occurs_in-Imp}
-use Rattle.fof_terms.specs.Sorts.{Sorted, SortedTo, is_sort, are_sorts, sort_of_term, sort_of_term-Var, binder_depth}
-use Rattle.fof_terms.specs.Laws.{both}
+use Rattle.fof_terms.proofs.Trees.{Imp-injective, All-injective}
+use Rattle.fof_terms.specs.Occurs.{occurs_in}
+use Rattle.fof_terms.proofs.OccursFacts.{occurs_in-Imp}
+use Rattle.fof_terms.specs.Sorts.{Sorted, SortedTo, is_sort, are_sorts, sort_of_term, binder_depth}
+use Rattle.fof_terms.proofs.SortsFacts.{sort_of_term-Var}
+use Rattle.fof_terms.proofs.LiftingLaws.{both}
 use Rattle.fof_terms.specs.declared.term.Term.{Var}
 use Rattle.kernel.specs.Statements.{Statements}
 use Rattle.kernel.specs.Proves.{Proves, all_over}
-use Rattle.kernel.specs.Building.{by_hyp, by_imp_i, by_all_i}
+use Rattle.kernel.proofs.Building.{by_hyp, by_imp_i, by_all_i}
 use Rattle.kernel.specs.Entries.{for_all, Admits, IsFresh, with_formula}
-use Rattle.kernel.specs.EntryLaws.{admits_more}
+use Rattle.kernel.proofs.EntryLaws.{admits_more}
 use Rattle.kernel.specs.declared.proof.Proof.{Proof, Hyp, ImpI, AllI}
 use Rattle.kernel.specs.declared.entry.Entry.{Entry}
 use Rattle.kernel.specs.declared.entry.Entry.TheVariants.{Lemma}
@@ -26,12 +28,13 @@ use Rattle.skolem_fresh.specs.declared.just.Use.{Use}
 use Rattle.skolem_fresh.specs.declared.just.SkolemJust.{SkolemJust}
 use Rattle.skolem_fresh.specs.declared.just.SkolemJust.TheVariants.{Skolem, Choice}
 use Rattle.skolem_fresh.specs.Justified.{ShowsChoice}
-use Rattle.skolem_fresh.specs.Leading.{leading}
-use Rattle.skolem_fresh.specs.Only.{is_among, only_has}
+use Rattle.skolem_fresh.specs.code.Leading.{leading}
+use Rattle.skolem_fresh.specs.code.Only.{is_among, only_has}
 use Rattle.skolem_fresh.specs.Uses.{Fits, AreArguments}
 use Rattle.skolem_fresh.specs.ChoiceRule.{IsOpened, MayChooseFor, Chooses}
-use Rattle.skolem_fresh.specs.Choosing.{IsWithin, ChoosesUnder}
-use Rattle.skolem_fresh.specs.Told.{AreTold, IsOpenable, IsLed, IsTellable, ToldUnder, IsShown}
+use Rattle.skolem_fresh.specs.Choosing.{IsWithin}
+use Rattle.skolem_fresh.specs.code.Choosing.{ChoosesUnder}
+use Rattle.skolem_fresh.specs.code.Told.{AreTold, IsOpenable, IsLed, IsTellable, ToldUnder, IsShown}
 use Rattle.skolem_fresh.proofs.Chosen.{scope_under, never_both, imp_room, within_all, within_left, within_start, arguments_only}
 use Rattle.skolem_fresh.proofs.Distinct.{same_among}
 use Rattle.skolem_fresh.proofs.Opened.{leading_opened}

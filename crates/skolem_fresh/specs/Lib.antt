@@ -1,15 +1,9 @@
-pub mod Alike
 pub mod ChoiceRule
 pub mod Choosing
 pub mod Entered
 pub mod Justified
-pub mod Leading
-pub mod Leaves
-pub mod Only
-pub mod Reading
 pub mod Renamed
 pub mod SkolemRule
-pub mod Skolemizing
-pub mod Solid
 pub mod Told
 pub mod Uses
+pub mod code

@@ -4,7 +4,8 @@ ghost use Rattle.fof_terms.specs.Scope.{scope_sorts};
 ghost use Rattle.fof_terms.specs.Sorts.{SortedTo};
 ghost use Rattle.fof_terms.specs.declared.form.Form.{Imp};
 ghost use Rattle.skolem_fresh.specs.ChoiceRule.{IsChoiceStep};
-ghost use Rattle.skolem_fresh.specs.Choosing.{IsChosen, IsChosenUnder, IsWithin};
+ghost use Rattle.skolem_fresh.specs.code.Choosing.{IsChosen, IsChosenUnder};
+ghost use Rattle.skolem_fresh.specs.Choosing.{IsWithin};
 ghost use Rattle.skolem_fresh.specs.Justified.{ShowsChoice};
 
 use crate::choosing::may_choose;

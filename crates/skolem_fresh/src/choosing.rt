@@ -2,7 +2,7 @@
 ghost use Rattle.std.specs.Prelude.{◌≡◌, ◌↔◌, ◌<◌, ◌^◌, IsTrue, IfOk, nat_eq};
 ghost use Rattle.std.specs.List.{AllByRecursion as Each, IsDistinct};
 ghost use Rattle.fof_terms.specs.Sorts.{binder_depth};
-ghost use Rattle.skolem_fresh.specs.Choosing.{IsFree, MayChooseIfFit};
+ghost use Rattle.skolem_fresh.specs.code.Choosing.{IsFree, MayChooseIfFit};
 ghost use Rattle.skolem_fresh.specs.Uses.{functions_of as functions_in};
 
 use crate::just::Use;

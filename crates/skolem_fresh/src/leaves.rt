@@ -2,7 +2,7 @@
 ghost use Rattle.std.specs.Prelude.{◌≡◌, ◌+◌, ◌++◌, ◌∷◌, [], ◌<◌, ◌^◌, OnOk, map, flat_map};
 ghost use Rattle.fof_terms.specs.Lift.{greatest};
 ghost use Rattle.fof_terms.specs.Sorts.{binder_depth};
-ghost use Rattle.skolem_fresh.specs.Leaves.{leaf, leaves_of};
+ghost use Rattle.skolem_fresh.specs.code.Leaves.{leaf, leaves_of};
 
 use fof_terms::{Form, Term};
 use std::alloc::Global;
@@ -17,7 +17,7 @@ pub struct Leaf {
 
 // Adds the terms of the formula, which stands under so many quantifiers, from the left.
 #[cycle(push_leaves)]
-#[tactic(auto, using(crate::specs::Leaves::leaves_equations))]
+#[tactic(auto, using(crate::proofs::LeavesFacts::leaves_equations))]
 pub(crate) fn push_leaves(
     alloc: Global,
     form: &Form,
@@ -55,7 +55,7 @@ pub(crate) fn push_leaves(
 }
 
 #[cycle(push_leaves)]
-#[tactic(auto, using(crate::specs::Leaves::leaves_equations))]
+#[tactic(auto, using(crate::proofs::LeavesFacts::leaves_equations))]
 fn push_all_leaves(
     alloc: Global,
     forms: &[Form],

@@ -3,7 +3,7 @@ ghost use Rattle.std.specs.Prelude.{◌≡◌, ◌+◌, ◌<◌, ◌^◌, map};
 ghost use Rattle.std.specs.List.{list_all};
 ghost use Rattle.fof_terms.specs.Lift.{greatest};
 ghost use Rattle.fof_terms.specs.Sorts.{binder_depth};
-ghost use Rattle.skolem_fresh.specs.Only.{is_among as among, only_in_term as only_term, only_has as only_of};
+ghost use Rattle.skolem_fresh.specs.code.Only.{is_among as among, only_in_term as only_term, only_has as only_of};
 
 use fof_terms::{Form, Term};
 
@@ -20,7 +20,7 @@ pub(crate) fn is_among(numbers: &[u32], number: u32) -> bool
 }
 
 #[cycle(only_in_term)]
-#[tactic(auto, using(crate::specs::Only::only_equations))]
+#[tactic(auto, using(crate::proofs::OnlyFacts::only_equations))]
 fn only_in_term(variables: &[u32], term: &Term, depth: u32) -> bool
     ensures { result ≡ only_term variables.now depth term.now }
 {
@@ -32,7 +32,7 @@ fn only_in_term(variables: &[u32], term: &Term, depth: u32) -> bool
 }
 
 #[cycle(only_in_term)]
-#[tactic(auto, using(crate::specs::Only::only_equations))]
+#[tactic(auto, using(crate::proofs::OnlyFacts::only_equations))]
 fn only_in_terms(variables: &[u32], terms: &[Term], depth: u32) -> bool
     ensures { result ≡ list_all (only_term variables.now depth) terms.now }
 {
@@ -46,7 +46,7 @@ fn only_in_terms(variables: &[u32], terms: &[Term], depth: u32) -> bool
 
 // Whether each variable that the formula has, under so many quantifiers, is one of these or that of a quantifier.
 #[cycle(only_has)]
-#[tactic(auto, using(crate::specs::Only::only_equations))]
+#[tactic(auto, using(crate::proofs::OnlyFacts::only_equations))]
 pub(crate) fn only_has(variables: &[u32], form: &Form, depth: u32) -> bool
     requires { depth + binder_depth form.now < 2 ^ 32 }
     ensures { result ≡ only_of variables.now depth form.now }
@@ -66,7 +66,7 @@ pub(crate) fn only_has(variables: &[u32], form: &Form, depth: u32) -> bool
 }
 
 #[cycle(only_has)]
-#[tactic(auto, using(crate::specs::Only::only_equations))]
+#[tactic(auto, using(crate::proofs::OnlyFacts::only_equations))]
 fn only_have(variables: &[u32], forms: &[Form], depth: u32) -> bool
     requires { depth + greatest (map binder_depth forms.now) < 2 ^ 32 }
     ensures { result ≡ list_all (only_of variables.now depth) forms.now }

@@ -4,9 +4,10 @@ ghost use Rattle.fof_terms.specs.Scope.{scope_sorts};
 ghost use Rattle.fof_terms.specs.Sorts.{binder_depth, sort_of_term};
 ghost use Rattle.fof_terms.specs.declared.form.Form.{Ex};
 ghost use Rattle.skolem_fresh.specs.Uses.{value_of as value_in};
-ghost use Rattle.skolem_fresh.specs.Choosing.{IsWithin, IsNext, IsRead};
-ghost use Rattle.skolem_fresh.specs.Leaves.{leaves_of};
-ghost use Rattle.skolem_fresh.specs.Leading.{leading as leading_in};
+ghost use Rattle.skolem_fresh.specs.Choosing.{IsWithin};
+ghost use Rattle.skolem_fresh.specs.code.Choosing.{IsNext, IsRead};
+ghost use Rattle.skolem_fresh.specs.code.Leaves.{leaves_of};
+ghost use Rattle.skolem_fresh.specs.code.Leading.{leading as leading_in};
 
 use crate::just::Use;
 use crate::leaves::{Leaf, push_leaves};
@@ -16,7 +17,7 @@ use std::alloc::Global;
 use tptp_base::{Boxed, List, Memory};
 
 // How many existential quantifiers the formula begins with.
-#[tactic(auto, using(crate::specs::Leading::leading_equations))]
+#[tactic(auto, using(crate::proofs::LeadingFacts::leading_equations))]
 pub(crate) fn leading(form: &Form) -> u32
     requires { binder_depth form.now < 2 ^ 32 }
     ensures value { result ≡ leading_in form.now }

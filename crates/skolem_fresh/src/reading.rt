@@ -1,6 +1,6 @@
 // What stands in one formula for the variables of another of the same build.
 ghost use Rattle.std.specs.Prelude.{◌≡◌, ℕ, IfOk, map};
-ghost use Rattle.skolem_fresh.specs.Reading.{found_term, found_in, all_there, variable_of as variable_in, use_of as use_in, read as read_in, read_from as read_from_in};
+ghost use Rattle.skolem_fresh.specs.code.Reading.{found_term, found_in, all_there, variable_of as variable_in, use_of as use_in, read as read_in, read_from as read_from_in};
 
 use crate::just::Use;
 use crate::leaves::Leaf;
@@ -10,7 +10,7 @@ use tptp_base::{List, Memory};
 
 // The term that stands in the second where the variable stands first in the first.
 #[cycle(term_at)]
-#[tactic(auto, using(crate::specs::Reading::reading_equations))]
+#[tactic(auto, using(crate::proofs::ReadingFacts::reading_equations))]
 fn term_at(alloc: Global, number: u32, term: &Term, other: &Term) -> Result<Option<Term>, Memory>
     ensures { IfOk result (λ found. found ≡ found_term number term.now other.now) }
 {
@@ -26,7 +26,7 @@ fn term_at(alloc: Global, number: u32, term: &Term, other: &Term) -> Result<Opti
 
 // The same of the first pair of terms, at one place, in which it finds one.
 #[cycle(term_at)]
-#[tactic(auto, using(crate::specs::Reading::reading_equations))]
+#[tactic(auto, using(crate::proofs::ReadingFacts::reading_equations))]
 fn term_in(
     alloc: Global,
     number: u32,
@@ -48,7 +48,7 @@ fn term_in(
 }
 
 // The variable that the term is, so many quantifiers further out.
-#[tactic(auto, using(crate::specs::Reading::reading_equations))]
+#[tactic(auto, using(crate::proofs::ReadingFacts::reading_equations))]
 fn variable_of(term: &Term, depth: u32) -> Option<u32>
     ensures { result ≡ variable_in depth term.now }
 {
@@ -74,7 +74,7 @@ fn variables_of(alloc: Global, terms: &[Term], depth: u32) -> Result<Option<List
 }
 
 // The function and the variables of which the term is the value, so many quantifiers further out.
-#[tactic(auto, using(crate::specs::Reading::reading_equations))]
+#[tactic(auto, using(crate::proofs::ReadingFacts::reading_equations))]
 fn use_of(alloc: Global, term: &Term, depth: u32, sort: SortId) -> Result<Option<Use>, Memory>
     ensures { IfOk result (λ found. found ≡ use_in depth sort term.now) }
 {

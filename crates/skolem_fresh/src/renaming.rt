@@ -23,7 +23,7 @@ pub(crate) fn place_of(variables: &[u32], variable: u32) -> u32
 }
 
 #[cycle(rename_term)]
-#[tactic(auto, using(crate::specs::Renamed::renamed_equations))]
+#[tactic(auto, using(crate::proofs::RenamedFacts::renamed_equations))]
 fn rename_term(alloc: Global, variables: &[u32], term: &Term, depth: u32) -> Result<Term, Memory>
     requires { depth + length variables.now < 2 ^ 32 }
     ensures { IfOk result (λ made. made ≡ renamed_term variables.now depth term.now) }
@@ -39,7 +39,7 @@ fn rename_term(alloc: Global, variables: &[u32], term: &Term, depth: u32) -> Res
 }
 
 #[cycle(rename_term)]
-#[tactic(auto, using(crate::specs::Renamed::renamed_equations))]
+#[tactic(auto, using(crate::proofs::RenamedFacts::renamed_equations))]
 fn rename_terms(
     alloc: Global,
     variables: &[u32],
@@ -59,7 +59,7 @@ fn rename_terms(
 /// The formula, under so many quantifiers, over the arguments of a function in place of the variables that it is applied
 /// to.
 #[cycle(rename)]
-#[tactic(auto, using(crate::specs::Renamed::renamed_equations))]
+#[tactic(auto, using(crate::proofs::RenamedFacts::renamed_equations))]
 pub fn rename(alloc: Global, variables: &[u32], form: &Form, depth: u32) -> Result<Form, Memory>
     requires { depth + binder_depth form.now + length variables.now < 2 ^ 32 }
     ensures { IfOk result (λ made. made ≡ renamed variables.now depth form.now) }
@@ -101,7 +101,7 @@ pub fn rename(alloc: Global, variables: &[u32], form: &Form, depth: u32) -> Resu
 }
 
 #[cycle(rename)]
-#[tactic(auto, using(crate::specs::Renamed::renamed_equations))]
+#[tactic(auto, using(crate::proofs::RenamedFacts::renamed_equations))]
 fn rename_box(
     alloc: Global,
     variables: &[u32],
@@ -115,7 +115,7 @@ fn rename_box(
 }
 
 #[cycle(rename)]
-#[tactic(auto, using(crate::specs::Renamed::renamed_equations))]
+#[tactic(auto, using(crate::proofs::RenamedFacts::renamed_equations))]
 fn rename_all(
     alloc: Global,
     variables: &[u32],

@@ -4,7 +4,7 @@ ghost use Rattle.fof_terms.specs.Scope.{scope_sorts};
 ghost use Rattle.fof_terms.specs.declared.form.Form.{Ex};
 ghost use Rattle.skolem_fresh.specs.Choosing.{IsWithin};
 ghost use Rattle.skolem_fresh.specs.SkolemRule.{MayReplace};
-ghost use Rattle.skolem_fresh.specs.Skolemizing.{IsFunctionFor, IsReplaced};
+ghost use Rattle.skolem_fresh.specs.code.Skolemizing.{IsFunctionFor, IsReplaced};
 
 use crate::choosing::are_distinct;
 use crate::just::Use;

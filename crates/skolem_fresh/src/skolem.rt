@@ -7,9 +7,9 @@ ghost use Rattle.clause_form.specs.declared.path.Parent.{Parent as Stated};
 ghost use Rattle.kernel.specs.Entries.{IsFresh};
 ghost use Rattle.skolem_fresh.specs.declared.just.Use.{Use as Used};
 ghost use Rattle.skolem_fresh.specs.Justified.{ShowsSkolem};
-ghost use Rattle.skolem_fresh.specs.Leaves.{leaves_of};
+ghost use Rattle.skolem_fresh.specs.code.Leaves.{leaves_of};
 ghost use Rattle.skolem_fresh.specs.SkolemRule.{HasNorm, IsSkolemStep, forms_of};
-ghost use Rattle.skolem_fresh.specs.Skolemizing.{IsGiven};
+ghost use Rattle.skolem_fresh.specs.code.Skolemizing.{IsGiven};
 ghost use Rattle.skolem_fresh.specs.Uses.{AreNew};
 
 use crate::choosing::{are_distinct, functions_of};

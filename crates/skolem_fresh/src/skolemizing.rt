@@ -5,8 +5,8 @@ ghost use Rattle.fof_terms.specs.Scope.{scope_sorts};
 ghost use Rattle.fof_terms.specs.Sorts.{binder_depth};
 ghost use Rattle.skolem_fresh.specs.Choosing.{IsWithin};
 ghost use Rattle.skolem_fresh.specs.declared.leaves.Leaf.{Leaf as Terms};
-ghost use Rattle.skolem_fresh.specs.Leaves.{leaves_of};
-ghost use Rattle.skolem_fresh.specs.Skolemizing.{IsPassed, IsWalked, AreWalked};
+ghost use Rattle.skolem_fresh.specs.code.Leaves.{leaves_of};
+ghost use Rattle.skolem_fresh.specs.code.Skolemizing.{IsPassed, IsWalked, AreWalked};
 
 use crate::just::Use;
 use crate::leaves::{Leaf, push_leaves};

@@ -9,7 +9,7 @@ ghost use Rattle.derive_kit.specs.Instances.{IsInstance};
 ghost use Rattle.kernel.specs.Proves.{Proves};
 ghost use Rattle.kernel.specs.Statements.{Statements};
 ghost use Rattle.skolem_fresh.specs.Uses.{value_of as value_in};
-ghost use Rattle.skolem_fresh.specs.Told.{IsOpenable, IsLed, IsTellable, IsShown};
+ghost use Rattle.skolem_fresh.specs.code.Told.{IsOpenable, IsLed, IsTellable, IsShown};
 
 use crate::just::Use;
 use crate::opening::{leading, value_of};

@@ -8,12 +8,13 @@ use Rattle.std.proofs.lemmas.Map.Keys.{IsDistinct-head, IsDistinct-tail}
 use Rattle.fof_terms.specs.declared.form.Form.{Form, And, Or, All, Ex}
 use Rattle.fof_terms.specs.declared.signature.Symbol.{Symbol}
 use Rattle.fof_terms.specs.Instance.{instance_of}
-use Rattle.fof_terms.specs.Occurs.{occurs_in, occurs_in_term, occurs_in-And, occurs_in-Or, occurs_in-All, occurs_in-Ex}
+use Rattle.fof_terms.specs.Occurs.{occurs_in, occurs_in_term}
+use Rattle.fof_terms.proofs.OccursFacts.{occurs_in-And, occurs_in-Or, occurs_in-All, occurs_in-Ex}
 use Rattle.fof_terms.specs.Variables.{has_variable}
 use Rattle.fof_terms.specs.Vocabulary.{Vocabulary}
 use Rattle.kernel.specs.Statements.{Statements}
 use Rattle.kernel.specs.Entries.{choice, Admits, with_formula}
-use Rattle.kernel.specs.EntryLaws.{admits_append}
+use Rattle.kernel.proofs.EntryLaws.{admits_append}
 use Rattle.kernel.specs.declared.proof.Proof.{Proof}
 use Rattle.kernel.specs.declared.entry.Entry.{Entry}
 use Rattle.kernel.specs.declared.entry.Entry.TheVariants.{Declare, Lemma, Name, Choice}
@@ -21,7 +22,8 @@ use Rattle.derive_kit.specs.Derived.{with_formulas}
 use Rattle.skolem_fresh.specs.declared.just.Use.{Use}
 use Rattle.skolem_fresh.specs.Choosing.{IsWithin}
 use Rattle.skolem_fresh.specs.Entered.{added_by, formulas_told, Enters}
-use Rattle.skolem_fresh.specs.Only.{only_has, only_has-Ex}
+use Rattle.skolem_fresh.specs.code.Only.{only_has}
+use Rattle.skolem_fresh.proofs.OnlyFacts.{only_has-Ex}
 use Rattle.skolem_fresh.specs.Renamed.{renamed}
 use Rattle.skolem_fresh.specs.Told.{AddedFrom}
 use Rattle.skolem_fresh.specs.Uses.{value_of, functions_of}
@@ -33,7 +35,7 @@ use Rattle.skolem_fresh.proofs.Opened.{within_value}
 use Rattle.skolem_fresh.proofs.WalkCode.{members_within}
 use Rattle.skolem_fresh.proofs.WholeLines.{few_variables}
 use Rattle.skolem_proofs.specs.Choosing.{AreOthers}
-use Rattle.skolem_proofs.specs.Witnessed.{IsWitnessed, AreWitnessed, itself, a_conjunction, a_disjunction, for_each, for_some, none, more}
+use Rattle.skolem_proofs.specs.code.Witnessed.{IsWitnessed, AreWitnessed, itself, a_conjunction, a_disjunction, for_each, for_some, none, more}
 
 -- Entries and others behind them.
 added_more : (v : Vocabulary) (r : Option Symbol) (f : ℕ) (a : Form) (front rest : List Form) → added_by r f a (front ++ rest) ≡ added_by r f a front ++ rest

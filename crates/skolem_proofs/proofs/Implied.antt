@@ -5,23 +5,28 @@ use Rattle.std.proofs.Common.{ap, sym, subst, ◌∙◌, arith, append_assoc, ze
 use Rattle.fof_terms.specs.declared.term.Term.{Var}
 use Rattle.fof_terms.specs.declared.form.Form.{Form, And, Or, Imp, All, Ex}
 use Rattle.fof_terms.specs.Instance.{instance_of, instance_at, instance_term}
-use Rattle.fof_terms.specs.Lift.{greatest, lifted-All}
-use Rattle.fof_terms.specs.Moved.{closed_anywhere}
-use Rattle.fof_terms.specs.Scoped.{Sorted, raised, or_sorted, sorted_of_and, sorted_of_or, sorted_of_imp, sorted_of_all, all_sorted}
-use Rattle.fof_terms.specs.Sorts.{binder_depth, binder_depth-And, binder_depth-Or, binder_depth-All, binder_depth-Ex}
+use Rattle.fof_terms.specs.Lift.{greatest}
+use Rattle.fof_terms.proofs.LiftFacts.{lifted-All}
+use Rattle.fof_terms.proofs.Moved.{closed_anywhere}
+use Rattle.fof_terms.specs.Sorts.{Sorted}
+use Rattle.fof_terms.proofs.Scoped.{raised, or_sorted, sorted_of_and, sorted_of_or, sorted_of_imp, sorted_of_all, all_sorted}
+use Rattle.fof_terms.specs.Sorts.{binder_depth}
+use Rattle.fof_terms.proofs.SortsFacts.{binder_depth-And, binder_depth-Or, binder_depth-All, binder_depth-Ex}
 use Rattle.fof_terms.specs.Vocabulary.{Vocabulary}
-use Rattle.fof_terms.specs.Walks.{placing, same_depth}
-use Rattle.clause_form.specs.ClauseLaws.{sorted_more}
+use Rattle.fof_terms.proofs.Walks.{placing, same_depth}
+use Rattle.clause_form.proofs.ClauseLaws.{sorted_more}
 use Rattle.kernel.specs.Statements.{Statements}
 use Rattle.kernel.specs.Proves.{Proves, over, all_over}
-use Rattle.kernel.specs.Rules.{ProveAll, ProveEach}
-use Rattle.kernel.specs.Building.{shown_sorted, over_sorted, by_hyp, by_imp_i, by_imp_e, by_and_i, by_and_e, by_or_i, by_or_e, by_all_i, by_all_e_here}
+use Rattle.kernel.specs.code.Rules.{ProveAll}
+use Rattle.kernel.specs.Rules.{ProveEach}
+use Rattle.kernel.proofs.Building.{shown_sorted, over_sorted, by_hyp, by_imp_i, by_imp_e, by_and_i, by_and_e, by_or_i, by_or_e, by_all_i, by_all_e_here}
 use Rattle.kernel.specs.Entries.{choice}
 use Rattle.kernel.specs.declared.proof.Proof.{Proof, Hyp, AndE, ImpI, ImpE, AllI, AllE}
 use Rattle.kernel.specs.declared.entry.Entry.{Entry}
 use Rattle.kernel.specs.declared.entry.Entry.TheVariants.{Declare, Lemma, Name, Choice}
 use Rattle.skolem_fresh.specs.declared.just.Use.{Use}
-use Rattle.skolem_fresh.specs.Only.{only_has, only_has-Ex}
+use Rattle.skolem_fresh.specs.code.Only.{only_has}
+use Rattle.skolem_fresh.proofs.OnlyFacts.{only_has-Ex}
 use Rattle.skolem_fresh.specs.Renamed.{renamed}
 use Rattle.skolem_fresh.specs.SkolemRule.{MayReplace, IsSkolemized, AreSkolemized}
 use Rattle.skolem_fresh.specs.SkolemRule as rule
@@ -31,7 +36,7 @@ use Rattle.skolem_fresh.proofs.Chosen.{arguments_only}
 use Rattle.skolem_fresh.proofs.Openable.{use_symbol, same_symbol, choice_instance}
 use Rattle.skolem_fresh.proofs.Skolemized.{depth_kept}
 use Rattle.skolem_proofs.specs.Choosing.{ChooseInTurn}
-use Rattle.skolem_proofs.specs.Witnessed.{arms, cases, StepShows, IsWitnessed, AreWitnessed, itself, a_conjunction, a_disjunction, for_each, for_some, none, more}
+use Rattle.skolem_proofs.specs.code.Witnessed.{arms, cases, StepShows, IsWitnessed, AreWitnessed, itself, a_conjunction, a_disjunction, for_each, for_some, none, more}
 
 -- it is the formula with the functions
 module _ (v : Vocabulary) where

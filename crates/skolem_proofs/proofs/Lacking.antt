@@ -4,11 +4,13 @@ use Rattle.std.specs.List.{AllByRecursion as Each, list_any}
 use Rattle.std.proofs.Common.{sym, subst, ◌∙◌, inl, inr, ◌⊎◌}
 use Rattle.fof_terms.specs.declared.term.Term.{Var}
 use Rattle.fof_terms.specs.declared.form.Form.{Form}
-use Rattle.fof_terms.specs.Induction.{form_induction}
-use Rattle.fof_terms.specs.Occurs.{occurs_in, occurs_in_term, occurs_in_term-Var, occurs_in-Not, occurs_in-And, occurs_in-Or, occurs_in-Imp, occurs_in-Iff, occurs_in-All, occurs_in-Ex}
+use Rattle.fof_terms.proofs.Induction.{form_induction}
+use Rattle.fof_terms.specs.Occurs.{occurs_in, occurs_in_term}
+use Rattle.fof_terms.proofs.OccursFacts.{occurs_in_term-Var, occurs_in-Not, occurs_in-And, occurs_in-Or, occurs_in-Imp, occurs_in-Iff, occurs_in-All, occurs_in-Ex}
 use Rattle.fof_terms.specs.Variables.{has_variable}
-use Rattle.clause_form.specs.Joined.{Memberwise, join_keeps}
-use Rattle.clause_form.specs.Norm.{signed, node, join, quantifier, quantified, quantified-kept, quantified-dropped, norm_of, norm_of-Atom, norm_of-Eq, norm_of-Not, norm_of-And, norm_of-Or, norm_of-Imp, norm_of-Iff, norm_of-All, norm_of-Ex}
+use Rattle.clause_form.proofs.Joined.{Memberwise, join_keeps}
+use Rattle.clause_form.specs.Norm.{signed, node, join, quantifier, quantified, norm_of}
+use Rattle.clause_form.proofs.NormFacts.{quantified-kept, quantified-dropped, norm_of-Atom, norm_of-Eq, norm_of-Not, norm_of-And, norm_of-Or, norm_of-Imp, norm_of-Iff, norm_of-All, norm_of-Ex}
 use Rattle.skolem_fresh.proofs.Entering.{neither, both_false, no_and}
 use Rattle.skolem_fresh.proofs.Occurring.{instance_occurs}
 

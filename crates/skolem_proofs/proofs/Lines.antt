@@ -8,17 +8,17 @@ use Rattle.std.proofs.lemmas.Option.{slice_get-map, slice_get-get_or, slice_get_
 use Rattle.fof_terms.specs.declared.form.Form.{Form, Imp}
 use Rattle.fof_terms.specs.Occurs.{occurs_in}
 use Rattle.fof_terms.specs.Sorts.{SortedTo, Sorted}
-use Rattle.fof_terms.specs.Scoped.{raised}
+use Rattle.fof_terms.proofs.Scoped.{raised}
 use Rattle.fof_terms.specs.Vocabulary.{Vocabulary}
 use Rattle.clause_form.specs.declared.path.Parent.{Parent}
 use Rattle.clause_form.specs.Norm.{norm_of}
-use Rattle.clause_form.specs.NormSize.{norm_small}
+use Rattle.clause_form.proofs.NormSize.{norm_small}
 use Rattle.clause_form.specs.Sizes.{norm_size_of}
 use Rattle.kernel.specs.Statements.{Statements}
 use Rattle.kernel.specs.Proves.{Proves}
-use Rattle.kernel.specs.Building.{by_line, by_imp_e}
+use Rattle.kernel.proofs.Building.{by_line, by_imp_e}
 use Rattle.kernel.specs.Entries.{IsFresh, Admits, with_formula}
-use Rattle.kernel.specs.EntryLaws.{admits_more}
+use Rattle.kernel.proofs.EntryLaws.{admits_more}
 use Rattle.kernel.specs.declared.proof.Proof.{Proof, Line, ImpE}
 use Rattle.kernel.specs.declared.entry.Entry.{Entry}
 use Rattle.kernel.specs.declared.entry.Entry.TheVariants.{Lemma}
@@ -36,7 +36,7 @@ use Rattle.skolem_fresh.proofs.Skolemized.{depth_kept}
 use Rattle.skolem_fresh.proofs.SkolemSteps.{norm_within}
 use Rattle.skolem_proofs.specs.declared.whole.Skolemized.{Skolemized}
 use Rattle.skolem_proofs.specs.Choosing.{AreAbsent, ChooseAndEnd, IsWitnessedBy}
-use Rattle.skolem_proofs.specs.Leading.{LeadsToLine}
+use Rattle.skolem_proofs.specs.code.Leading.{LeadsToLine}
 use Rattle.skolem_proofs.proofs.Lacking.{norm_lacks}
 use Rattle.skolem_proofs.proofs.Standing.{fits_kept, no_larger, are_others}
 

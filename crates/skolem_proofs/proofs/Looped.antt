@@ -13,10 +13,10 @@ use Rattle.skolem_fresh.specs.Choosing.{IsWithin}
 use Rattle.skolem_fresh.specs.SkolemRule.{IsSkolemized, AreSkolemized}
 use Rattle.skolem_fresh.proofs.WalkCode.{taken_snoc, one_size, each_at}
 use Rattle.skolem_fresh.proofs.Walking.{first_of}
-use Rattle.skolem_proofs.specs.Witnessed.{arm, arms, cases, IsWitnessed, AreWitnessed, none, more}
-use Rattle.skolem_proofs.specs.Witnessing.{Goes, MayGo, Went, AllGo, MayAllGo, WentSoFar}
-use Rattle.clause_form.specs.Sizes.{norm_size_of-And}
-use Rattle.derive_kit.specs.Norms.{few_members}
+use Rattle.skolem_proofs.specs.code.Witnessed.{arm, arms, cases, IsWitnessed, AreWitnessed, none, more}
+use Rattle.skolem_proofs.specs.code.Witnessing.{Goes, MayGo, Went, AllGo, MayAllGo, WentSoFar}
+use Rattle.clause_form.proofs.SizesFacts.{norm_size_of-And}
+use Rattle.derive_kit.proofs.NormsFacts.{few_members}
 use Rattle.skolem_proofs.proofs.Walked.{proofs_length, each_arm}
 
 -- One formula after another.

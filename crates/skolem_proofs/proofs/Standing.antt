@@ -6,22 +6,26 @@ use Rattle.std.proofs.lemmas.Bool.Decides.{nat_tests}
 use Rattle.std.proofs.lemmas.List.{append-nil}
 use Rattle.fof_terms.specs.declared.term.Term.{Term}
 use Rattle.fof_terms.specs.declared.form.Form.{Form, And, Or, All}
-use Rattle.fof_terms.specs.Induction.{form_induction}
+use Rattle.fof_terms.proofs.Induction.{form_induction}
 use Rattle.fof_terms.specs.Instance.{instance_of, instance_at, instance_term}
-use Rattle.fof_terms.specs.Occurs.{occurs_in, occurs_in_term, occurs_in-Atom, occurs_in-Eq, occurs_in-Not, occurs_in-And, occurs_in-Or, occurs_in-Imp, occurs_in-Iff, occurs_in-All, occurs_in-Ex}
+use Rattle.fof_terms.specs.Occurs.{occurs_in, occurs_in_term}
+use Rattle.fof_terms.proofs.OccursFacts.{occurs_in-Atom, occurs_in-Eq, occurs_in-Not, occurs_in-And, occurs_in-Or, occurs_in-Imp, occurs_in-Iff, occurs_in-All, occurs_in-Ex}
 use Rattle.fof_terms.specs.Variables.{has_in_term, has_variable}
 use Rattle.fof_terms.specs.Vocabulary.{Vocabulary}
-use Rattle.fof_terms.specs.Laws.{both}
-use Rattle.fof_terms.specs.Sorts.{is_sorted, is_sorted-And, is_sorted-Or, is_sorted-All, is_sorted-Ex}
-use Rattle.fof_terms.specs.Walks.{placing, instance_fits}
+use Rattle.fof_terms.proofs.LiftingLaws.{both}
+use Rattle.fof_terms.specs.Sorts.{is_sorted}
+use Rattle.fof_terms.proofs.SortsFacts.{is_sorted-And, is_sorted-Or, is_sorted-All, is_sorted-Ex}
+use Rattle.fof_terms.proofs.Walks.{placing, instance_fits}
 use Rattle.clause_form.specs.Norm.{norm_of}
-use Rattle.clause_form.specs.SizeLaws.{sum_cons}
-use Rattle.clause_form.specs.Sizes.{norm_size_of, norm_size_of-And, norm_size_of-Or, norm_size_of-All, norm_size_of-Ex}
+use Rattle.clause_form.proofs.SizeLaws.{sum_cons}
+use Rattle.clause_form.specs.Sizes.{norm_size_of}
+use Rattle.clause_form.proofs.SizesFacts.{norm_size_of-And, norm_size_of-Or, norm_size_of-All, norm_size_of-Ex}
 use Rattle.skolem_fresh.specs.declared.just.Use.{Use}
 use Rattle.skolem_fresh.specs.declared.leaves.Leaf.{Leaf}
-use Rattle.skolem_fresh.specs.Leaves.{leaf, leaves_of, leaves_of-Atom, leaves_of-Eq, leaves_of-Not, leaves_of-And, leaves_of-Or, leaves_of-Imp, leaves_of-Iff, leaves_of-All, leaves_of-Ex}
+use Rattle.skolem_fresh.specs.code.Leaves.{leaf, leaves_of}
+use Rattle.skolem_fresh.proofs.LeavesFacts.{leaves_of-Atom, leaves_of-Eq, leaves_of-Not, leaves_of-And, leaves_of-Or, leaves_of-Imp, leaves_of-Iff, leaves_of-All, leaves_of-Ex}
 use Rattle.skolem_fresh.specs.SkolemRule.{HasNorm, IsSkolemized, AreSkolemized, an_atom, an_equation, a_negation, a_conjunction, a_disjunction, for_each, for_some, none, more}
-use Rattle.skolem_fresh.specs.Solid.{IsSolid, AreSolid}
+use Rattle.skolem_fresh.specs.code.Solid.{IsSolid, AreSolid}
 use Rattle.skolem_fresh.specs.Uses.{value_of}
 use Rattle.skolem_fresh.proofs.Entering.{neither, both_false, value_occurs}
 use Rattle.skolem_fresh.proofs.Freely.{one_of}

@@ -9,7 +9,8 @@ use Rattle.fof_terms.specs.Instance.{instance_of, instance_reach}
 use Rattle.fof_terms.specs.Sorts.{binder_depth}
 use Rattle.fof_terms.specs.Vocabulary.{Vocabulary}
 use Rattle.clause_form.specs.Norm.{node}
-use Rattle.clause_form.specs.Sizes.{norm_size_of, norm_size_of-All, norm_size_of-Ex}
+use Rattle.clause_form.specs.Sizes.{norm_size_of}
+use Rattle.clause_form.proofs.SizesFacts.{norm_size_of-All, norm_size_of-Ex}
 use Rattle.kernel.specs.declared.entry.Entry.{Entry}
 use Rattle.kernel.specs.declared.entry.Entry.TheVariants.{Choice}
 use Rattle.kernel.specs.declared.proof.Proof.{Proof, Hyp, AndI, OrE, ImpI, ImpE, AllI, AllE}
@@ -25,8 +26,8 @@ use Rattle.skolem_fresh.proofs.Skolemized.{SkolemizedIn, skolemized_in}
 use Rattle.skolem_fresh.proofs.WalkCode.{node_size, members_within, instance_size}
 use Rattle.skolem_fresh.proofs.Walking.{none_of, node_in, all_in, some_in}
 use Rattle.skolem_fresh.proofs.WholeLines.{few_variables}
-use Rattle.skolem_proofs.specs.Witnessed.{arms, cases, StepShows, IsWitnessed, AreWitnessed, itself, a_conjunction, a_disjunction, for_each, for_some, none, more}
-use Rattle.skolem_proofs.specs.Witnessing.{Goes, MayGo, Went, AllGo, MayAllGo, WentSoFar}
+use Rattle.skolem_proofs.specs.code.Witnessed.{arms, cases, StepShows, IsWitnessed, AreWitnessed, itself, a_conjunction, a_disjunction, for_each, for_some, none, more}
+use Rattle.skolem_proofs.specs.code.Witnessing.{Goes, MayGo, Went, AllGo, MayAllGo, WentSoFar}
 
 -- the first of what is left of a list
 pub first_left : {X : Type 0} (xs : List X) (k : ℕ) (x : X) (tail : List X) → drop k xs ≡ x ∷ tail → (k < length xs) × (slice_get xs k ≡ Some x) × (drop (suc k) xs ≡ tail)

@@ -4,7 +4,7 @@ use Rattle.std.proofs.Common.{ap, sym, subst, ◌∙◌, arith}
 use Rattle.std.proofs.lemmas.List.{append-nil}
 use Rattle.fof_terms.specs.declared.form.Form.{Form, Imp}
 use Rattle.fof_terms.specs.Vocabulary.{Vocabulary}
-use Rattle.clause_form.specs.SizeLaws.{depth_within_size}
+use Rattle.clause_form.proofs.SizeLaws.{depth_within_size}
 use Rattle.clause_form.specs.Sizes.{norm_size_of}
 use Rattle.kernel.specs.Proves.{Proves}
 use Rattle.kernel.specs.declared.entry.Entry.{Entry}
@@ -13,8 +13,8 @@ use Rattle.skolem_fresh.specs.declared.just.Use.{Use}
 use Rattle.skolem_fresh.specs.Choosing.{IsWithin}
 use Rattle.skolem_fresh.specs.SkolemRule.{IsSkolemized}
 use Rattle.skolem_proofs.specs.Choosing.{IsWitnessedBy}
-use Rattle.skolem_proofs.specs.Witnessed.{IsWitnessed}
-use Rattle.skolem_proofs.specs.Witnessing.{Goes, MayGo, Went}
+use Rattle.skolem_proofs.specs.code.Witnessed.{IsWitnessed}
+use Rattle.skolem_proofs.specs.code.Witnessing.{Goes, MayGo, Went}
 use Rattle.skolem_proofs.proofs.Admitted.{enters, told_lacks}
 use Rattle.skolem_proofs.proofs.Implied.{implies, choose_in_turn, wider}
 

@@ -1,4 +1,2 @@
 pub mod Choosing
-pub mod Leading
-pub mod Witnessed
-pub mod Witnessing
+pub mod code

@@ -3,7 +3,7 @@ ghost use Rattle.std.specs.Prelude.{◌≡◌, ◌≤◌, ◌<◌, ◌^◌, IfOk
 ghost use Rattle.fof_terms.specs.declared.form.Form.{And, Or, All};
 ghost use Rattle.fof_terms.specs.declared.term.Term.{Var};
 ghost use Rattle.kernel.specs.declared.proof.Proof.{Hyp, AndI, OrE, ImpI, ImpE, AllI, AllE};
-ghost use Rattle.skolem_proofs.specs.Witnessed.{arm as arm_of, cases as cases_of};
+ghost use Rattle.skolem_proofs.specs.code.Witnessed.{arm as arm_of, cases as cases_of};
 
 use derive_kit::{Part, all_e, all_i, and_e, and_i, hyp, imp_e, imp_i, or_e, or_i};
 use fof_terms::{Form, SortId, Term, copy_all};

@@ -9,7 +9,7 @@ ghost use Rattle.derive_kit.specs.Placed.{SortedSomewhere};
 ghost use Rattle.skolem_fresh.specs.Justified.{ShowsSkolem};
 ghost use Rattle.skolem_fresh.specs.SkolemRule.{forms_of};
 ghost use Rattle.skolem_proofs.specs.Choosing.{ChooseAndEnd};
-ghost use Rattle.skolem_proofs.specs.Leading.{LeadsToLine};
+ghost use Rattle.skolem_proofs.specs.code.Leading.{LeadsToLine};
 
 use crate::whole::{Skolemized, skolem_proof};
 use clause_form::{Parent, norm_signed};

@@ -5,7 +5,7 @@ ghost use Rattle.fof_terms.specs.Instance.{instance_of, instance_reach};
 ghost use Rattle.fof_terms.specs.Vocabulary.{Vocabulary};
 ghost use Rattle.kernel.specs.declared.proof.Proof.{Hyp, ImpI};
 ghost use Rattle.skolem_fresh.specs.Uses.{value_of as value_in};
-ghost use Rattle.skolem_proofs.specs.Witnessing.{MayGo, MayAllGo, IsGone, AreGone};
+ghost use Rattle.skolem_proofs.specs.code.Witnessing.{MayGo, MayAllGo, IsGone, AreGone};
 
 use crate::arms::{arm, conjunction, disjunction, for_each};
 use derive_kit::{Part, hyp, imp_e, imp_i};

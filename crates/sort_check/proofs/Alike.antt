@@ -9,7 +9,7 @@ use Rattle.std.proofs.lemmas.Bool.Decides.{nat_tests}
 use Rattle.std.proofs.lemmas.List.{take_all, length-append}
 use Rattle.std.proofs.lemmas.Map.Keys.{any_passes_from_place}
 use Rattle.std.proofs.lemmas.Option.{slice_get_within}
-use Rattle.fof_terms.specs.Laws.{both}
+use Rattle.fof_terms.proofs.LiftingLaws.{both}
 use Rattle.fof_terms.specs.Vocabulary.{Vocabulary, is_kind}
 use Rattle.fof_terms.specs.declared.signature.Kind.{Kind}
 use Rattle.fof_terms.specs.declared.signature.Kind.TheVariants.{Function, Predicate}
@@ -21,9 +21,10 @@ use Rattle.sort_check.specs.declared.fault.SortRule.{SortRule}
 use Rattle.sort_check.specs.declared.fault.SortRule.TheVariants.{Limit}
 use Rattle.sort_check.specs.Outcomes.{Outcome}
 use Rattle.sort_check.specs.Symbols.{Text, with_symbol}
-use Rattle.sort_check.specs.Texts.{differs, other_at}
+use Rattle.sort_check.specs.Texts.{differs}
+use Rattle.sort_check.specs.code.Texts.{other_at}
 use Rattle.sort_check.proofs.Stepping.{at_ok}
-use Rattle.sort_check.specs.Namesakes.{found, Puts, IsFirst, IsKnown, Knows, unlike_at, noted}
+use Rattle.sort_check.specs.code.Namesakes.{found, Puts, IsFirst, IsKnown, Knows, unlike_at, noted}
 
 -- ---- symbols that do not differ
 

@@ -10,7 +10,8 @@ use Rattle.fof_terms.specs.declared.signature.Symbol.{Symbol}
 use Rattle.sort_check.specs.declared.fault.SortRule.{SortRule}
 use Rattle.sort_check.specs.declared.fault.SortRule.TheVariants.{Limit}
 use Rattle.sort_check.specs.declared.fault.Stop.{Stop}
-use Rattle.sort_check.specs.Outcomes.{Outcome, and_then, Stops}
+use Rattle.sort_check.specs.Outcomes.{Outcome, and_then}
+use Rattle.sort_check.specs.code.Outcomes.{Stops}
 use Rattle.sort_check.specs.Symbols.{Text, with_name}
 use Rattle.sort_check.specs.Texts.{Declared, declared_sort, sort_at, symbol_named, declared_symbol, declaring, typed}
 use Rattle.sort_check.proofs.Parts.{stops_as}

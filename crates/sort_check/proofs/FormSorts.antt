@@ -17,8 +17,9 @@ use Rattle.tptp_base.specs.declared.surface.Quant.{Quant}
 use Rattle.tptp_base.specs.declared.surface.Quant.TheVariants as q
 use Rattle.fof_terms.specs.Vocabulary.{Vocabulary, found_sort}
 use Rattle.fof_terms.specs.Lift.{greatest}
-use Rattle.fof_terms.specs.Sorts.{are_sorts, holds_of, stated_by, sort_of_term, is_sorted, binder_depth, is_sorted-Atom, is_sorted-Eq, is_sorted-Not, is_sorted-And, is_sorted-Or, is_sorted-Imp, is_sorted-Iff, is_sorted-All, is_sorted-Ex, binder_depth-Atom, binder_depth-Eq, binder_depth-Not, binder_depth-And, binder_depth-Or, binder_depth-Imp, binder_depth-Iff, binder_depth-All, binder_depth-Ex}
-use Rattle.fof_terms.specs.SortLaws.{grown_fits}
+use Rattle.fof_terms.specs.Sorts.{are_sorts, holds_of, stated_by, sort_of_term, is_sorted, binder_depth}
+use Rattle.fof_terms.proofs.SortsFacts.{is_sorted-Atom, is_sorted-Eq, is_sorted-Not, is_sorted-And, is_sorted-Or, is_sorted-Imp, is_sorted-Iff, is_sorted-All, is_sorted-Ex, binder_depth-Atom, binder_depth-Eq, binder_depth-Not, binder_depth-And, binder_depth-Or, binder_depth-Imp, binder_depth-Iff, binder_depth-All, binder_depth-Ex}
+use Rattle.fof_terms.proofs.SortLawsFacts.{grown_fits}
 use Rattle.fof_terms.specs.declared.signature.Kind.TheVariants.{Predicate}
 use Rattle.fof_terms.specs.declared.form.Form.{Form, Atom, Eq, Not, And, Or}
 use Rattle.sort_check.specs.declared.fault.SortRule.{SortRule}
@@ -28,7 +29,7 @@ use Rattle.sort_check.specs.declared.terms.Sorted.{Sorted}
 use Rattle.sort_check.specs.Outcomes.{Outcome, and_then, mapped, each}
 use Rattle.sort_check.specs.Symbols.{Text, head, known}
 use Rattle.sort_check.specs.Denotation.{Setting, State, beside, atom, equal, equation, joined, variable_sort, bound_variable, quantified, closed, bound, argument, denoted_term, denoted_form}
-use Rattle.sort_check.specs.Equations.{denoted_form-True, denoted_form-False, denoted_form-Atom, denoted_form-Eq, denoted_form-Neq, denoted_form-Not, denoted_form-And, denoted_form-Or, denoted_form-Binary, denoted_form-Bind}
+use Rattle.sort_check.proofs.Equations.{denoted_form-True, denoted_form-False, denoted_form-Atom, denoted_form-Eq, denoted_form-Neq, denoted_form-Not, denoted_form-And, denoted_form-Or, denoted_form-Binary, denoted_form-Bind}
 use Rattle.sort_check.specs.Sorting.{Extends}
 use Rattle.sort_check.proofs.Inducing.{form_induction}
 use Rattle.sort_check.proofs.Stepping.{at_ok, then_ok, mapped_ok}

@@ -6,7 +6,7 @@ use Rattle.tptp_base.specs.declared.memory.Memory.{Memory}
 use Rattle.tptp_base.specs.declared.item.Role.{Role}
 use Rattle.tptp_base.specs.declared.item.Role.TheVariants as role
 use Rattle.fof_terms.specs.Vocabulary.{Vocabulary}
-use Rattle.fof_terms.specs.Sorts.{is_sorted-Not, binder_depth-Not}
+use Rattle.fof_terms.proofs.SortsFacts.{is_sorted-Not, binder_depth-Not}
 use Rattle.fof_terms.specs.declared.form.Form.{Form, Not}
 use Rattle.sort_check.specs.declared.line.Line.{Line}
 use Rattle.sort_check.specs.declared.line.GivenEntry.{GivenEntry}

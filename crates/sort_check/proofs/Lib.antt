@@ -18,3 +18,5 @@ pub mod Parts
 pub mod Scopes
 pub mod Stepping
 pub mod TermSorts
+pub mod Equations
+pub mod VariableEquations

@@ -22,7 +22,7 @@ use Rattle.tptp_base.specs.declared.item.Item.{Item}
 use Rattle.tptp_base.specs.declared.item.Item.TheVariants as it
 use Rattle.fof_terms.specs.Vocabulary.{Vocabulary, IsDeclared, found_sort, found_symbol}
 use Rattle.fof_terms.specs.Sorts.{is_sorted, binder_depth}
-use Rattle.fof_terms.specs.SortLaws.{grown_sorted}
+use Rattle.fof_terms.proofs.SortLawsFacts.{grown_sorted}
 use Rattle.fof_terms.specs.declared.signature.Symbol.{Symbol}
 use Rattle.fof_terms.specs.declared.form.Form.{Form}
 use Rattle.sort_check.specs.declared.fault.SortRule.{SortRule}
@@ -34,7 +34,7 @@ use Rattle.sort_check.specs.declared.scope.Variable.{Variable}
 use Rattle.sort_check.specs.Outcomes.{Outcome, and_then, mapped, each}
 use Rattle.sort_check.specs.Symbols.{Text, named_sort, with_symbol, known, with_name}
 use Rattle.sort_check.specs.Denotation.{Setting, State, denoted_form, closed, noted, in_turn, variables_of_term, variables_of, without_count, sentence, clause, formula}
-use Rattle.sort_check.specs.VariableEquations.{of_term-Var, of_term-App, of-True, of-False, of-Atom, of-Eq, of-Neq, of-Not, of-And, of-Or, of-Binary, of-Bind}
+use Rattle.sort_check.proofs.VariableEquations.{of_term-Var, of_term-App, of-True, of-False, of-Atom, of-Eq, of-Neq, of-Not, of-And, of-Or, of-Binary, of-Bind}
 use Rattle.sort_check.specs.Texts.{Declared, sort_at, declared_sort, symbol_named, symbol_of, result_named, result_kind, differs, placed, declared_symbol, declaring, typed, typed_body, is_type, at_line, type_item, type_lines, Reading, is_conjecture, is_single, line_of, reading, body_form, line_form, line, line_item, with_line, lines_from, only_vocabulary, denoted, Gives}
 use Rattle.sort_check.specs.Sorting.{IsSentence, AreSorted, Extends}
 use Rattle.sort_check.proofs.Inducing.{term_induction, form_induction}

@@ -16,11 +16,13 @@ use Rattle.sort_check.specs.declared.fault.SortRule.TheVariants.{Limit}
 use Rattle.sort_check.specs.declared.fault.Stop.{Stop}
 use Rattle.sort_check.specs.declared.fault.Stop.TheVariants as stop
 use Rattle.sort_check.specs.declared.scope.Variable.{Variable}
-use Rattle.sort_check.specs.Outcomes.{Outcome, and_then, mapped, each, Stops}
+use Rattle.sort_check.specs.Outcomes.{Outcome, and_then, mapped, each}
+use Rattle.sort_check.specs.code.Outcomes.{Stops}
 use Rattle.sort_check.specs.Reach.{Reach}
 use Rattle.sort_check.specs.Symbols.{Text, head, with_symbol, result_sort}
-use Rattle.sort_check.specs.Denotation.{Setting, State, setting, TermOutcome, argument, denoted_term, made, beside, atom, denoted_form}
-use Rattle.sort_check.specs.Equations.{denoted_term-App, denoted_form-And, denoted_form-Or}
+use Rattle.sort_check.specs.Denotation.{Setting, State, TermOutcome, argument, denoted_term, made, beside, atom, denoted_form}
+use Rattle.sort_check.specs.code.Denotation.{setting}
+use Rattle.sort_check.proofs.Equations.{denoted_term-App, denoted_form-And, denoted_form-Or}
 
 pub full : (s : Symbol) (v : Vocabulary) (limit : LimitName) → limit ≡ Symbols → length v.symbols ≡ 16777216 → with_symbol s v ≡ Err (Limit limit)
 full s v limit l e =

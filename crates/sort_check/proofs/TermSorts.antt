@@ -13,10 +13,11 @@ use Rattle.tptp_base.specs.declared.limit.LimitName.TheVariants.{Symbols}
 use Rattle.tptp_base.specs.declared.surface.STerm.{STerm}
 use Rattle.tptp_base.specs.declared.surface.STerm.TheVariants as tm
 use Rattle.fof_terms.specs.Vocabulary.{Vocabulary, IsDeclared, is_symbol, is_kind, found_symbol}
-use Rattle.fof_terms.specs.Sorts.{is_sort, are_sorts, applied, made_by, sort_of_term, sort_of_term-Var, sort_of_term-App}
-use Rattle.fof_terms.specs.SortLaws.{more_sorts_grow, more_symbols_grow}
-use Rattle.fof_terms.specs.Induction as trees
-use Rattle.fof_terms.specs.Laws.{both, applied_found}
+use Rattle.fof_terms.specs.Sorts.{is_sort, are_sorts, applied, made_by, sort_of_term}
+use Rattle.fof_terms.proofs.SortsFacts.{sort_of_term-Var, sort_of_term-App}
+use Rattle.fof_terms.proofs.SortLawsFacts.{more_sorts_grow, more_symbols_grow}
+use Rattle.fof_terms.proofs.Induction as trees
+use Rattle.fof_terms.proofs.LiftingLaws.{both, applied_found}
 use Rattle.fof_terms.specs.declared.signature.Kind.{Kind}
 use Rattle.fof_terms.specs.declared.signature.Kind.TheVariants.{Function, Predicate}
 use Rattle.fof_terms.specs.declared.signature.Symbol.{Symbol}
@@ -29,7 +30,7 @@ use Rattle.sort_check.specs.Outcomes.{Outcome, mapped, each}
 use Rattle.sort_check.specs.Symbols.{Text, undeclared, with_symbol, is_among, head, head_at, argument_sort, argument_at, result_sort, result_at}
 use Rattle.sort_check.specs.Denotation.{Setting, nearest, or_else, variable_at, fitting, argument, made, denoted_term}
 use Rattle.sort_check.specs.Sorting.{GoesOn, Extends}
-use Rattle.sort_check.specs.Equations.{denoted_term-Var, denoted_term-App}
+use Rattle.sort_check.proofs.Equations.{denoted_term-Var, denoted_term-App}
 use Rattle.sort_check.proofs.Inducing.{term_induction}
 use Rattle.sort_check.proofs.Stepping.{at_ok, then_ok, mapped_ok}
 

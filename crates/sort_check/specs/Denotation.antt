@@ -4,19 +4,14 @@ use Rattle.std.specs.Prelude.{ℕ, ◌+◌, ◌==◌, ◌++◌, ◌||◌, if◌t
 use Rattle.std.specs.List.{list_any}
 use Rattle.std.specs.Str.{bytes_eq}
 use Rattle.tptp_base.specs.declared.surface.STerm.{STerm}
-use Rattle.tptp_base.specs.declared.surface.STerm.TheOpen as st
 use Rattle.tptp_base.specs.declared.surface.STerm.TheFolds.{fold-STerm}
 use Rattle.tptp_base.specs.declared.surface.Surface.{Surface}
-use Rattle.tptp_base.specs.declared.surface.Surface.TheOpen as sf
 use Rattle.tptp_base.specs.declared.surface.Surface.TheFolds.{fold-Surface}
 use Rattle.tptp_base.specs.declared.surface.BoundVar.{BoundVar}
 use Rattle.tptp_base.specs.declared.surface.SortName.{SortName}
 use Rattle.tptp_base.specs.declared.surface.BinOp.{BinOp}
-use Rattle.tptp_base.specs.declared.surface.BinOp.TheVariants as op
 use Rattle.tptp_base.specs.declared.surface.Quant.{Quant}
-use Rattle.tptp_base.specs.declared.surface.Quant.TheVariants as q
 use Rattle.tptp_base.specs.declared.item.Lang.{Lang}
-use Rattle.tptp_base.specs.declared.item.Lang.TheVariants as lang
 use Rattle.fof_terms.specs.Vocabulary.{Vocabulary}
 use Rattle.fof_terms.specs.Sorts.{is_sort}
 use Rattle.fof_terms.specs.declared.signature.Kind.TheVariants.{Function, Predicate}
@@ -27,8 +22,12 @@ use Rattle.sort_check.specs.declared.fault.SortRule.TheVariants.{FreeVariable, W
 use Rattle.sort_check.specs.declared.scope.Variable.{Variable}
 use Rattle.sort_check.specs.declared.terms.Sorted.{Sorted}
 use Rattle.sort_check.specs.Outcomes.{Outcome, and_then, mapped, each}
-use Rattle.sort_check.specs.Reach.{Reach}
 use Rattle.sort_check.specs.Symbols.{Text, head, argument_sort, result_sort, named_sort}
+use Rattle.tptp_base.specs.declared.surface.STerm.TheOpen as st
+use Rattle.tptp_base.specs.declared.surface.Surface.TheOpen as sf
+use Rattle.tptp_base.specs.declared.surface.BinOp.TheVariants as op
+use Rattle.tptp_base.specs.declared.surface.Quant.TheVariants as q
+use Rattle.tptp_base.specs.declared.item.Lang.TheVariants as lang
 
 -- ---- variables in scope, the outermost first
 
@@ -45,9 +44,6 @@ nearest (x ∷ inner) name = or_else (nearest inner name) (if bytes_eq x.name na
 pub record Setting : Type 0 where
   pub declared : List Text
   pub outside : SortRule
-
-abbrev pub setting : List Text → Reach → Setting
-setting declared reach = record { declared = declared; outside = reach.outside }
 
 -- ---- terms, with their sorts
 
@@ -82,9 +78,6 @@ denoted_term here scope = fold-STerm (Vocabulary → TermOutcome) (term_step her
 pub record State : Type 0 where
   pub vocabulary : Vocabulary
   pub bound : ℕ
-
-abbrev pub state : Vocabulary → Reach → State
-state v reach = record { vocabulary = v; bound = reach.bound }
 
 abbrev pub FormOutcome : Type 0
 FormOutcome = Outcome SortRule State Form

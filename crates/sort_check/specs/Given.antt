@@ -2,10 +2,10 @@
 -- and its conjecture negated.
 use Rattle.std.specs.Prelude.{List, [], ◌∷◌, Option, Some, None}
 use Rattle.tptp_base.specs.declared.item.Role.{Role}
-use Rattle.tptp_base.specs.declared.item.Role.TheVariants as role
 use Rattle.fof_terms.specs.declared.form.Form.{Form, Not}
 use Rattle.sort_check.specs.declared.line.Line.{Line}
 use Rattle.sort_check.specs.declared.line.GivenEntry.{GivenEntry}
+use Rattle.tptp_base.specs.declared.item.Role.TheVariants as role
 
 -- the formula that one of this role gives
 abbrev pub given_form : Role → Form → Option Form

@@ -3,10 +3,8 @@ pub mod Symbols
 pub mod Reach
 pub mod Bringing
 pub mod Denotation
-pub mod Equations
-pub mod VariableEquations
 pub mod Texts
 pub mod Given
 pub mod Sorting
-pub mod Namesakes
 pub mod Laws
+pub mod code

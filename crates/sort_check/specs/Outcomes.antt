@@ -1,9 +1,6 @@
 -- What comes of a part of a text: a value and the state behind it, or the first fault. Parts are put together from left
 -- to right, and the first fault is that of the whole.
-use Rattle.std.specs.Prelude.{◌≡◌, ℕ, ◌+◌, List, [], ◌∷◌, Result, Ok, Err}
-use Rattle.sort_check.specs.declared.fault.SortRule.{SortRule}
-use Rattle.sort_check.specs.declared.fault.Stop.{Stop}
-use Rattle.sort_check.specs.declared.fault.Stop.TheVariants as stop
+use Rattle.std.specs.Prelude.{ℕ, ◌+◌, List, [], ◌∷◌, Result, Ok, Err}
 
 -- a value of A and the state behind it, or a fault of E
 abbrev pub Outcome : Type 0 → Type 0 → Type 0 → Type 0
@@ -21,12 +18,3 @@ mapped f (Err e) = Err e
 abbrev pub each : {E S X A : Type 0} → (ℕ → X → S → Outcome E S A) → ℕ → List X → S → Outcome E S (List A)
 each p i [] s = Ok ([], s)
 each p i (x ∷ xs) s = and_then (p i x s) (λ y t. mapped (λ ys. y ∷ ys) (each p (i + 1) xs t))
-
--- what a function ensures: the outcome, unless memory runs out
-abbrev pub Stops : {S A : Type 0} → Outcome SortRule S A → Stop → Type 0
-Stops outcome (stop.Rule rule) = outcome ≡ Err rule
-Stops outcome stop.Memory = Unit {0}
-
-abbrev pub Answers : {S A : Type 0} → Outcome SortRule S A → Result A Stop → S → Type 0
-Answers outcome (Ok x) new = outcome ≡ Ok (x, new)
-Answers outcome (Err e) new = Stops outcome e

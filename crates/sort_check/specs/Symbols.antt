@@ -7,13 +7,13 @@ use Rattle.std.specs.Str.{bytes_eq}
 use Rattle.std.proofs.Math.ListN.{replicate}
 use Rattle.tptp_base.specs.declared.limit.LimitName.TheVariants.{Symbols}
 use Rattle.tptp_base.specs.declared.surface.SortName.{SortName}
-use Rattle.tptp_base.specs.declared.surface.SortName.TheVariants as name
 use Rattle.fof_terms.specs.Vocabulary.{Vocabulary, found_symbol, found_sort}
 use Rattle.fof_terms.specs.declared.signature.Kind.{Kind}
 use Rattle.fof_terms.specs.declared.signature.Symbol.{Symbol}
 use Rattle.sort_check.specs.declared.fault.SortRule.{SortRule}
 use Rattle.sort_check.specs.declared.fault.SortRule.TheVariants.{Arity, UnknownSort, Limit}
 use Rattle.sort_check.specs.Outcomes.{Outcome}
+use Rattle.tptp_base.specs.declared.surface.SortName.TheVariants as name
 
 abbrev pub Text : Type 0
 Text = List ℕ

@@ -6,16 +6,11 @@ use Rattle.std.specs.Str.{bytes_eq}
 use Rattle.std.specs.Cmp.Lexicographic.{pointwise}
 use Rattle.tptp_base.specs.declared.limit.LimitName.TheVariants.{Sorts}
 use Rattle.tptp_base.specs.declared.surface.SortName.{SortName}
-use Rattle.tptp_base.specs.declared.surface.SortName.TheVariants as name
 use Rattle.tptp_base.specs.declared.item.Role.{Role}
-use Rattle.tptp_base.specs.declared.item.Role.TheVariants as role
 use Rattle.tptp_base.specs.declared.item.Shape.{Shape}
-use Rattle.tptp_base.specs.declared.item.Shape.TheVariants as shape
 use Rattle.tptp_base.specs.declared.item.Body.{Body}
-use Rattle.tptp_base.specs.declared.item.Body.TheVariants as body
 use Rattle.tptp_base.specs.declared.item.Annotated.{Annotated}
 use Rattle.tptp_base.specs.declared.item.Item.{Item}
-use Rattle.tptp_base.specs.declared.item.Item.TheVariants as it
 use Rattle.fof_terms.specs.Vocabulary.{Vocabulary, found_symbol, found_sort, is_kind}
 use Rattle.fof_terms.specs.declared.signature.Kind.{Kind}
 use Rattle.fof_terms.specs.declared.signature.Kind.TheVariants.{Function, Predicate}
@@ -24,15 +19,18 @@ use Rattle.fof_terms.specs.declared.form.Form.{Form}
 use Rattle.sort_check.specs.declared.fault.SortRule.{SortRule}
 use Rattle.sort_check.specs.declared.fault.SortRule.TheVariants.{Redeclared, NotTyped, TwoConjectures, Limit}
 use Rattle.sort_check.specs.declared.fault.SortFault.{SortFault}
-use Rattle.sort_check.specs.declared.fault.SortFault.TheVariants as fault
-use Rattle.sort_check.specs.declared.fault.Stop.{Stop}
-use Rattle.sort_check.specs.declared.fault.Stop.TheVariants as stop
 use Rattle.sort_check.specs.declared.line.Line.{Line}
 use Rattle.sort_check.specs.declared.line.TextKind.{TextKind}
-use Rattle.sort_check.specs.declared.line.TextKind.TheVariants as kind
 use Rattle.sort_check.specs.Outcomes.{Outcome, and_then, mapped, each}
 use Rattle.sort_check.specs.Symbols.{Text, with_name, with_symbol, named_sort}
 use Rattle.sort_check.specs.Denotation.{formula}
+use Rattle.tptp_base.specs.declared.surface.SortName.TheVariants as name
+use Rattle.tptp_base.specs.declared.item.Role.TheVariants as role
+use Rattle.tptp_base.specs.declared.item.Shape.TheVariants as shape
+use Rattle.tptp_base.specs.declared.item.Body.TheVariants as body
+use Rattle.tptp_base.specs.declared.item.Item.TheVariants as it
+use Rattle.sort_check.specs.declared.fault.SortFault.TheVariants as fault
+use Rattle.sort_check.specs.declared.line.TextKind.TheVariants as kind
 
 -- ---- type lines
 
@@ -70,10 +68,6 @@ symbol_named word args result v = and_then (each (λ place. named_sort) 0 args v
 -- the second symbol has the name of the first, and another kind, arity or type
 abbrev pub differs : Symbol → Symbol → Bool
 differs s t = bytes_eq t.name s.name && not (is_kind t.kind s.kind && (pointwise nat_eq t.args s.args && t.result == s.result))
-
-abbrev pub other_at : Symbol → Option Symbol → Bool
-other_at s (Some t) = differs s t
-other_at s None = false
 
 abbrev pub placed : Symbol → Option ℕ → Vocabulary → Outcome SortRule Vocabulary ℕ
 placed s (Some number) v = Ok (number, v)
@@ -188,8 +182,3 @@ Faults outcome fault.Memory = Unit {0}
 abbrev pub Gives : {S A : Type 0} → Outcome SortFault S A → Result A SortFault → S → Type 0
 Gives outcome (Ok x) new = outcome ≡ Ok (x, new)
 Gives outcome (Err e) new = Faults outcome e
-
-abbrev pub IsFaultAt : Annotated → Stop → SortFault → Type 0
-IsFaultAt a stop.Memory f = f ≡ fault.Memory
-IsFaultAt a (stop.Rule rule) fault.Memory = Unit {0}
-IsFaultAt a (stop.Rule rule) (fault.Line other place named) = fault.Line other place named ≡ fault.Line rule a.place a.name

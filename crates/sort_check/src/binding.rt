@@ -1,7 +1,9 @@
 // Quantifiers and their variables.
 ghost use Rattle.std.specs.Prelude.{◌≡◌, ◌+◌, ◌≤◌, length, take, drop, IfOk, OnOk};
-ghost use Rattle.sort_check.specs.Outcomes.{Answers, each};
+ghost use Rattle.sort_check.specs.code.Outcomes.{Answers};
+ghost use Rattle.sort_check.specs.Outcomes.{each};
 ghost use Rattle.sort_check.specs.Denotation as spec;
+ghost use Rattle.sort_check.specs.code.Denotation as spec_code;
 
 use crate::fault::Stop;
 use crate::scope::{Scope, Variable};
@@ -17,7 +19,7 @@ pub fn bound_variables(
     scope: &mut Scope,
     variables: &[BoundVar],
 ) -> Result<List<Variable>, Stop>
-    ensures value { Answers (each (λ place. spec.bound_variable) 0 variables.now (spec.state signature.now scope.old)) result (spec.state signature.now scope.new) }
+    ensures value { Answers (each (λ place. spec.bound_variable) 0 variables.now (spec_code.state signature.now scope.old)) result (spec_code.state signature.now scope.new) }
     ensures scope { OnOk result (scope.new ≡ record scope.old { bound = scope.new.bound }) }
     ensures count { IfOk result (λ found. scope.new.bound ≡ scope.old.bound + length found) }
 {
@@ -35,7 +37,7 @@ fn bound_variable(
     scope: &mut Scope,
     variable: &BoundVar,
 ) -> Result<Variable, Stop>
-    ensures value { Answers (spec.bound_variable variable.now (spec.state signature.now scope.old)) result (spec.state signature.now scope.new) }
+    ensures value { Answers (spec.bound_variable variable.now (spec_code.state signature.now scope.old)) result (spec_code.state signature.now scope.new) }
     ensures scope { OnOk result (scope.new ≡ record scope.old { bound = scope.old.bound + 1 }) }
 {
     scope.count()?;

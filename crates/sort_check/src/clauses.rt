@@ -1,6 +1,6 @@
 // What whole formulas denote.
 ghost use Rattle.std.specs.Prelude.{◌≡◌, [], length};
-ghost use Rattle.sort_check.specs.Outcomes.{Answers};
+ghost use Rattle.sort_check.specs.code.Outcomes.{Answers};
 ghost use Rattle.sort_check.specs.Sorting.{Extends};
 ghost use Rattle.sort_check.specs.Denotation as spec;
 

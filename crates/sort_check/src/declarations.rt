@@ -2,12 +2,14 @@
 ghost use Rattle.std.specs.Prelude.{◌≡◌, ◌≤◌, ◌<◌, [], length, slice_get, IfOk, OnOk};
 ghost use Rattle.std.specs.List.{All};
 ghost use Rattle.fof_terms.specs.Vocabulary.{IsDeclared, is_kind as same_kind};
-ghost use Rattle.sort_check.specs.Outcomes.{Answers, each};
+ghost use Rattle.sort_check.specs.code.Outcomes.{Answers};
+ghost use Rattle.sort_check.specs.Outcomes.{each};
 ghost use Rattle.sort_check.specs.Sorting.{Extends};
-ghost use Rattle.sort_check.specs.Namesakes.{Knows};
+ghost use Rattle.sort_check.specs.code.Namesakes.{Knows};
 ghost use Rattle.sort_check.specs.Symbols as symbols;
 ghost use Rattle.sort_check.specs.Symbols.{with_symbol};
 ghost use Rattle.sort_check.specs.Texts as spec;
+ghost use Rattle.sort_check.specs.code.Texts as spec_code;
 
 use crate::fault::{SortRule, Stop};
 use crate::names::Names;
@@ -181,7 +183,7 @@ fn add_known(
 
 /// Whether the symbol of that number has this name, and another kind, arity or type.
 pub fn is_other(signature: &Signature, symbol: &Symbol, number: SymId) -> bool
-    ensures { result ≡ spec.other_at symbol.now (slice_get signature.now.symbols number) }
+    ensures { result ≡ spec_code.other_at symbol.now (slice_get signature.now.symbols number) }
 {
     match signature.symbol(number) {
         Some(other) => differs(symbol, other),

@@ -1,9 +1,10 @@
 // What the formulas of a text denote.
 ghost use Rattle.std.specs.Prelude.{◌≡◌, ◌<◌, ◌≤◌, ◌^◌, length, false, IfOk, OnOk};
-ghost use Rattle.sort_check.specs.Namesakes.{Knows};
-ghost use Rattle.sort_check.specs.Outcomes.{Answers};
+ghost use Rattle.sort_check.specs.code.Namesakes.{Knows};
+ghost use Rattle.sort_check.specs.code.Outcomes.{Answers};
 ghost use Rattle.sort_check.specs.Sorting.{AreSorted, Extends};
 ghost use Rattle.sort_check.specs.Texts as spec;
+ghost use Rattle.sort_check.specs.code.Texts as spec_code;
 
 use crate::clauses::denote_formula;
 use crate::declarations::declare;
@@ -250,7 +251,7 @@ fn line_of(alloc: Global, line: &Annotated, number: u32, form: Form) -> Result<L
 
 // The fault of a line.
 fn fault_at(alloc: Global, line: &Annotated, stop: Stop) -> SortFault
-    ensures { spec.IsFaultAt line.now stop result }
+    ensures { spec_code.IsFaultAt line.now stop result }
 {
     match stop {
         Stop::Rule(rule) => match line.name.copy(alloc) {

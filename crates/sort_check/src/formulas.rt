@@ -1,9 +1,11 @@
 // What formulas denote.
 ghost use Rattle.std.specs.Prelude.{◌≡◌, ◌+◌, ◌≤◌, length, take, drop, map, IfOk, OnOk, Ok, ◌∷◌, []};
 ghost use Rattle.fof_terms.specs.declared.form.Form.{Not as not_of};
-ghost use Rattle.sort_check.specs.Outcomes.{Answers, each, mapped, and_then};
+ghost use Rattle.sort_check.specs.code.Outcomes.{Answers};
+ghost use Rattle.sort_check.specs.Outcomes.{each, mapped, and_then};
 ghost use Rattle.sort_check.specs.Sorting.{Extends};
 ghost use Rattle.sort_check.specs.Denotation as spec;
+ghost use Rattle.sort_check.specs.code.Denotation as spec_code;
 
 use crate::binding::{bound_variables, close_to};
 use crate::fault::{SortRule, Stop};
@@ -17,7 +19,7 @@ use tptp_base::{BinOp, BoundVar, Boxed, List, Memory, Quant, STerm, Surface};
 
 /// What a formula denotes.
 #[cycle(form)]
-#[tactic(auto, using(crate::specs::Equations::form_equations))]
+#[tactic(auto, using(crate::proofs::Equations::form_equations))]
 pub fn denote_form(
     form: &Surface,
     alloc: Global,
@@ -25,7 +27,7 @@ pub fn denote_form(
     signature: &mut Signature,
     scope: &mut Scope,
 ) -> Result<Form, Stop>
-    ensures value { Answers (spec.denoted_form (spec.setting declared.now scope.old) form.now scope.old.variables (spec.state signature.old scope.old)) result (spec.state signature.new scope.new) }
+    ensures value { Answers (spec.denoted_form (spec_code.setting declared.now scope.old) form.now scope.old.variables (spec_code.state signature.old scope.old)) result (spec_code.state signature.new scope.new) }
     ensures scope { OnOk result (scope.new ≡ record scope.old { bound = scope.new.bound }) }
     ensures keeps { Extends signature.old signature.new }
 {
@@ -92,7 +94,7 @@ fn denote_members(
     signature: &mut Signature,
     scope: &mut Scope,
 ) -> Result<List<Form>, Stop>
-    ensures value { Answers (each (λ place a. spec.denoted_form (spec.setting declared.now scope.old) a scope.old.variables) 0 forms.now (spec.state signature.old scope.old)) result (spec.state signature.new scope.new) }
+    ensures value { Answers (each (λ place a. spec.denoted_form (spec_code.setting declared.now scope.old) a scope.old.variables) 0 forms.now (spec_code.state signature.old scope.old)) result (spec_code.state signature.new scope.new) }
     ensures scope { OnOk result (scope.new ≡ record scope.old { bound = scope.new.bound }) }
     ensures keeps { Extends signature.old signature.new }
 {
@@ -114,7 +116,7 @@ fn denote_bound(
     quant: Quant,
     variables: &[BoundVar],
 ) -> Result<Form, Stop>
-    ensures value { Answers (spec.bound (spec.setting declared.now scope.old) quant variables.now body.now scope.old.variables (spec.state signature.old scope.old)) result (spec.state signature.new scope.new) }
+    ensures value { Answers (spec.bound (spec_code.setting declared.now scope.old) quant variables.now body.now scope.old.variables (spec_code.state signature.old scope.old)) result (spec_code.state signature.new scope.new) }
     ensures scope { OnOk result (scope.new ≡ record scope.old { bound = scope.new.bound }) }
     ensures keeps { Extends signature.old signature.new }
 {
@@ -134,7 +136,7 @@ fn denote_atom(
     name: &[u8],
     args: &[STerm],
 ) -> Result<Form, Stop>
-    ensures value { Answers (spec.beside scope.now.bound (spec.atom (spec.setting declared.now scope.now) scope.now.variables name.now args.now signature.old)) result (spec.state signature.new scope.now) }
+    ensures value { Answers (spec.beside scope.now.bound (spec.atom (spec_code.setting declared.now scope.now) scope.now.variables name.now args.now signature.old)) result (spec_code.state signature.new scope.now) }
     ensures keeps { Extends signature.old signature.new }
 {
     let predicate = head(
@@ -158,7 +160,7 @@ fn denote_equation(
     left: &STerm,
     right: &STerm,
 ) -> Result<Form, Stop>
-    ensures value { Answers (spec.beside scope.now.bound (spec.equation (spec.setting declared.now scope.now) scope.now.variables left.now right.now signature.old)) result (spec.state signature.new scope.now) }
+    ensures value { Answers (spec.beside scope.now.bound (spec.equation (spec_code.setting declared.now scope.now) scope.now.variables left.now right.now signature.old)) result (spec_code.state signature.new scope.now) }
     ensures keeps { Extends signature.old signature.new }
 {
     let left = denote_term(left, alloc, declared, signature, scope)?;

@@ -1,7 +1,7 @@
 // Symbols of one name.
 ghost use Rattle.std.specs.Prelude.{◌≡◌, ◌+◌, ◌<◌, [], length, take, slice_get, Some, IfOk, OnOk};
 ghost use Rattle.std.specs.List.{list_any};
-ghost use Rattle.sort_check.specs.Namesakes as spec;
+ghost use Rattle.sort_check.specs.code.Namesakes as spec;
 ghost use Rattle.sort_check.specs.Texts as texts;
 
 use crate::declarations::{differs, is_other};
@@ -25,7 +25,7 @@ pub struct Namesakes {
 
 impl Namesakes {
     // Those of no symbols.
-    #[tactic(auto, unfolding(crate::specs::Namesakes::found))]
+    #[tactic(auto, unfolding(crate::specs::code::Namesakes::found))]
     fn new(alloc: Global) -> Namesakes
         ensures { spec.Knows result [] }
     {
@@ -98,7 +98,7 @@ impl Namesakes {
     }
 
     // What is known of the symbols of a name.
-    #[tactic(auto, unfolding(crate::specs::Namesakes::found))]
+    #[tactic(auto, unfolding(crate::specs::code::Namesakes::found))]
     fn find(&self, name: &[u8]) -> Option<Namesake>
         ensures { result ≡ spec.found self.now name.now }
     {

@@ -3,7 +3,7 @@ ghost use Rattle.std.specs.Prelude.{◌≡◌, IfOk, length};
 ghost use Rattle.std.proofs.Math.ListN.{replicate};
 ghost use Rattle.fof_terms.specs.Sorts.{is_sort};
 ghost use Rattle.fof_terms.specs.Vocabulary.{IsDeclared};
-ghost use Rattle.sort_check.specs.Outcomes.{Answers};
+ghost use Rattle.sort_check.specs.code.Outcomes.{Answers};
 ghost use Rattle.sort_check.specs.Sorting.{Extends};
 ghost use Rattle.sort_check.specs.Symbols as spec;
 

@@ -1,7 +1,9 @@
 // What terms denote.
-ghost use Rattle.sort_check.specs.Outcomes.{Answers, each};
+ghost use Rattle.sort_check.specs.code.Outcomes.{Answers};
+ghost use Rattle.sort_check.specs.Outcomes.{each};
 ghost use Rattle.sort_check.specs.Sorting.{Extends};
 ghost use Rattle.sort_check.specs.Denotation as spec;
+ghost use Rattle.sort_check.specs.code.Denotation as spec_code;
 
 use crate::fault::{SortRule, Stop};
 use crate::names::Names;
@@ -20,7 +22,7 @@ pub struct Sorted {
 
 /// What a term denotes.
 #[cycle(term)]
-#[tactic(auto, using(crate::specs::Equations::term_equations))]
+#[tactic(auto, using(crate::proofs::Equations::term_equations))]
 pub fn denote_term(
     term: &STerm,
     alloc: Global,
@@ -28,7 +30,7 @@ pub fn denote_term(
     signature: &mut Signature,
     scope: &Scope,
 ) -> Result<Sorted, Stop>
-    ensures value { Answers (spec.denoted_term (spec.setting declared.now scope.now) scope.now.variables term.now signature.old) result signature.new }
+    ensures value { Answers (spec.denoted_term (spec_code.setting declared.now scope.now) scope.now.variables term.now signature.old) result signature.new }
     ensures keeps { Extends signature.old signature.new }
 {
     match term {
@@ -75,7 +77,7 @@ pub fn denote_arguments(
     scope: &Scope,
     symbol: SymId,
 ) -> Result<List<Term>, Stop>
-    ensures value { Answers (each (λ place t. spec.argument symbol place (spec.denoted_term (spec.setting declared.now scope.now) scope.now.variables t)) 0 terms.now signature.old) result signature.new }
+    ensures value { Answers (each (λ place t. spec.argument symbol place (spec.denoted_term (spec_code.setting declared.now scope.now) scope.now.variables t)) 0 terms.now signature.old) result signature.new }
     ensures keeps { Extends signature.old signature.new }
 {
     let mut found = List::new(alloc);
@@ -104,7 +106,7 @@ fn denote_argument(
     symbol: SymId,
     place: usize,
 ) -> Result<Term, Stop>
-    ensures value { Answers (spec.argument symbol place (spec.denoted_term (spec.setting declared.now scope.now) scope.now.variables term.now) signature.old) result signature.new }
+    ensures value { Answers (spec.argument symbol place (spec.denoted_term (spec_code.setting declared.now scope.now) scope.now.variables term.now) signature.old) result signature.new }
     ensures keeps { Extends signature.old signature.new }
 {
     let found = denote_term(term, alloc, declared, signature, scope)?;

@@ -13,7 +13,7 @@ const MAX_CLAUSE_VARIABLES: usize = 250;
 
 /// Notes the variables of a formula, as long as there are at most 250.
 #[cycle(variables_of)]
-#[tactic(auto, using(crate::specs::VariableEquations::variables_equations))]
+#[tactic(auto, using(crate::proofs::VariableEquations::variables_equations))]
 pub fn note_variables(
     form: &Surface,
     alloc: Global,
@@ -61,7 +61,7 @@ fn note_in_members(
 
 // Notes the variables of a term.
 #[cycle(variables_of_term)]
-#[tactic(auto, using(crate::specs::VariableEquations::variables_equations))]
+#[tactic(auto, using(crate::proofs::VariableEquations::variables_equations))]
 fn note_in_term(term: &STerm, alloc: Global, found: &mut List<Variable>) -> Result<(), Memory>
     ensures value { OnOk result (found.new ≡ spec.variables_of_term term.now found.old) }
     ensures few { OnOk result (length found.old ≤ 250 → length found.new ≤ 250) }

@@ -13,7 +13,7 @@ use Rattle.clause_proofs.specs.declared.opening.Opened.{Opened}
 use Rattle.clause_proofs.specs.Refuting.{IsGoal, Refutes, body}
 use Rattle.clause_proofs.proofs.BodySorts.{placed}
 use Rattle.split_defs.specs.declared.stages.Stage.{Stage}
-use Rattle.split_defs.specs.SplitProof.{AllArms, AreGoals, EachRefutes, goal_of, nest_tree, stage_clauses, stage_tree, variables_in}
+use Rattle.split_defs.specs.code.SplitProof.{AllArms, AreGoals, EachRefutes, goal_of, nest_tree, stage_clauses, stage_tree, variables_in}
 use Rattle.split_defs.specs.SplitRule.{together}
 use Rattle.split_defs.proofs.OneClause.{from_here, past_all}
 

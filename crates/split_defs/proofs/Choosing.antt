@@ -5,27 +5,32 @@ use Rattle.std.proofs.lemmas.Bool.{le-ltb}
 use Rattle.std.proofs.lemmas.List.Folds.{list_all-map}
 use Rattle.std.proofs.lemmas.List.{length-reverse, append-nil}
 use Rattle.fof_terms.specs.Vocabulary.{Vocabulary}
-use Rattle.fof_terms.specs.Laws.{moves, here, greater}
-use Rattle.fof_terms.specs.Lift.{lifted_term, lifted_term-App}
-use Rattle.fof_terms.specs.Instance.{instance_term, instance_at, instance_of, instance_at-Eq}
-use Rattle.fof_terms.specs.Occurs.{occurs_in, occurs_in_term, list_any-map, occurs_in-Eq, occurs_in-Imp, occurs_in-Ex, occurs_in_term-Var, occurs_in_term-App}
+use Rattle.fof_terms.proofs.LiftingLaws.{moves, here, greater}
+use Rattle.fof_terms.specs.Lift.{lifted_term}
+use Rattle.fof_terms.proofs.LiftFacts.{lifted_term-App}
+use Rattle.fof_terms.specs.Instance.{instance_term, instance_at, instance_of}
+use Rattle.fof_terms.proofs.InstanceFacts.{instance_at-Eq}
+use Rattle.fof_terms.specs.Occurs.{occurs_in, occurs_in_term}
+use Rattle.fof_terms.proofs.OccursFacts.{list_any-map, occurs_in-Eq, occurs_in-Imp, occurs_in-Ex, occurs_in_term-Var, occurs_in_term-App}
 use Rattle.fof_terms.specs.declared.signature.Symbol.{Symbol}
 use Rattle.fof_terms.specs.declared.signature.Kind.{Kind}
 use Rattle.fof_terms.specs.declared.signature.Kind.TheVariants.{Function, Predicate}
 use Rattle.fof_terms.specs.declared.term.Term.{Term, Var, App}
 use Rattle.fof_terms.specs.declared.form.Form.{Form, Eq, Imp, Ex}
-use Rattle.fof_terms.specs.Induction.{term_induction}
-use Rattle.fof_terms.specs.Sorts.{IsScope, SortedTo, Sorted, are_sorts, applied, made_by, sort_of_term, sort_of_term-Var, sort_of_term-App, is_sorted, binder_depth-Eq}
-use Rattle.fof_terms.specs.Scoped.{raised, imp_sorted, ex_sorted, eq_sorted, sorted_of_eq}
-use Rattle.fof_terms.specs.Walks.{same_terms, both_terms, lifting_term, placing_term, staying_term, lifted_sort}
+use Rattle.fof_terms.proofs.Induction.{term_induction}
+use Rattle.fof_terms.specs.Sorts.{IsScope, SortedTo, Sorted, are_sorts, applied, made_by, sort_of_term, is_sorted}
+use Rattle.fof_terms.proofs.SortsFacts.{sort_of_term-Var, sort_of_term-App, binder_depth-Eq}
+use Rattle.fof_terms.proofs.Scoped.{raised, imp_sorted, ex_sorted, eq_sorted, sorted_of_eq}
+use Rattle.fof_terms.proofs.Walks.{same_terms, both_terms, lifting_term, placing_term, staying_term, lifted_sort}
 use Rattle.kernel.specs.Statements.{Statements}
 use Rattle.kernel.specs.Proves.{Proves}
-use Rattle.kernel.specs.Building.{by_imp_e, by_ex_i, by_refl, by_subst}
+use Rattle.kernel.proofs.Building.{by_imp_e, by_ex_i, by_refl, by_subst}
 use Rattle.kernel.specs.Entries.{IsFresh, MayChoose, choice, for_all, variables}
 use Rattle.kernel.specs.declared.proof.Proof.{Proof, ExI, Refl, Subst}
 use Rattle.split_defs.specs.DefinitionRule.{IsValue, Equates}
-use Rattle.split_defs.specs.Renaming.{argument, renamed, renamed_term, renamed_term-Var, renamed_term-App, renamed-Eq, renamed-Imp, renamed-Ex, speaks, speaks_in_term, speaks_in_term-Var, speaks_in_term-App, speaks-Eq, speaks-Imp, speaks-Ex}
-use Rattle.split_defs.specs.Trees.{is_value, value_tree, valued_tree}
+use Rattle.split_defs.specs.code.Renaming.{argument, renamed, renamed_term, speaks, speaks_in_term}
+use Rattle.split_defs.proofs.RenamingFacts.{renamed_term-Var, renamed_term-App, renamed-Eq, renamed-Imp, renamed-Ex, speaks_in_term-Var, speaks_in_term-App, speaks-Eq, speaks-Imp, speaks-Ex}
+use Rattle.split_defs.specs.code.Trees.{is_value, value_tree, valued_tree}
 use Rattle.split_defs.proofs.Filling.{renaming_term, arguments_are}
 use Rattle.split_defs.proofs.RenamedSorts.{renamed_sorted, term_occurs}
 use Rattle.split_defs.proofs.Spoken.{speaks_of_term, and_true}

@@ -3,9 +3,10 @@ use Rattle.std.specs.Prelude.{ℕ, ◌≡◌, ◌+◌, ◌<◌, ◌≤◌, List,
 use Rattle.std.proofs.Common.{ap, sym, subst, ◌∙◌, arith, inl, inr, zero, suc, add-one, append_assoc}
 use Rattle.std.proofs.lemmas.List.{map-append}
 use Rattle.fof_terms.specs.declared.form.Form.{Form, Atom, Iff, Not}
-use Rattle.fof_terms.specs.Moved.{closed_anywhere}
-use Rattle.fof_terms.specs.Scoped.{Sorted, not_sorted, sorted_of_iff}
-use Rattle.fof_terms.specs.Trees.{Iff-injective}
+use Rattle.fof_terms.proofs.Moved.{closed_anywhere}
+use Rattle.fof_terms.specs.Sorts.{Sorted}
+use Rattle.fof_terms.proofs.Scoped.{not_sorted, sorted_of_iff}
+use Rattle.fof_terms.proofs.Trees.{Iff-injective}
 use Rattle.fof_terms.specs.Vocabulary.{Vocabulary}
 use Rattle.clause_form.specs.declared.clause.Clause.{Clause}
 use Rattle.clause_form.specs.declared.path.Parent.{Parent}
@@ -13,18 +14,19 @@ use Rattle.clause_form.specs.ClauseView.{clause_of, closed_by}
 use Rattle.clause_form.specs.Reached.{around}
 use Rattle.clause_rules.specs.Steps.{IsReady}
 use Rattle.kernel.specs.Proves.{Proves}
-use Rattle.kernel.specs.Building.{by_line, by_hyp, by_not_e, by_iff_r}
+use Rattle.kernel.proofs.Building.{by_line, by_hyp, by_not_e, by_iff_r}
 use Rattle.kernel.specs.declared.proof.Proof.{Line, Hyp, NotE, IffR}
-use Rattle.derive_kit.specs.Numbering.{all_around}
+use Rattle.derive_kit.proofs.NumberingFacts.{all_around}
 use Rattle.clause_proofs.specs.declared.opening.Opened.{Opened}
-use Rattle.clause_proofs.specs.Bodies.{HasClause, IsOpening, IsReadyClause}
+use Rattle.clause_proofs.specs.Bodies.{HasClause, IsOpening}
+use Rattle.clause_proofs.specs.code.Bodies.{IsReadyClause}
 use Rattle.clause_proofs.specs.Closed.{all_tree}
 use Rattle.clause_proofs.specs.Refuting.{theory_of, body, injected_tree}
 use Rattle.clause_proofs.proofs.CoveredLiterals.{injected_shows}
 use Rattle.clause_proofs.proofs.LineGoals.{few_sorts, opened_clause}
 use Rattle.clause_proofs.proofs.NormLines.{full, of_theory, parent_at}
 use Rattle.split_defs.specs.declared.stages.Stage.{Stage}
-use Rattle.split_defs.specs.SplitProof.{AreNamed, RefutesClosed, IsStage, AreStages, stage_clauses, name_tree}
+use Rattle.split_defs.specs.code.SplitProof.{AreNamed, RefutesClosed, IsStage, AreStages, stage_clauses, name_tree}
 use Rattle.split_defs.specs.SplitRule.{AllName, Names, name_lit}
 use Rattle.split_defs.proofs.Nesting.{closed_at, all_shown, under_around}
 

@@ -1,7 +1,8 @@
 -- From what stands under the quantifiers to the line.
 use Rattle.std.proofs.Common.{ℕ, ◌≡◌, ◌≤◌, ◌⊎◌, Bool, true, false, ◌∷◌, map, arith, sym, ap, subst, ◌∙◌, inl, inr, Option, Some, None}
-use Rattle.fof_terms.specs.Trees.{Imp-injective, Iff-injective, Eq-injective}
-use Rattle.fof_terms.specs.Sorts.{binder_depth, binder_depth-Imp, binder_depth-Iff, binder_depth-All}
+use Rattle.fof_terms.proofs.Trees.{Imp-injective, Iff-injective, Eq-injective}
+use Rattle.fof_terms.specs.Sorts.{binder_depth}
+use Rattle.fof_terms.proofs.SortsFacts.{binder_depth-Imp, binder_depth-Iff, binder_depth-All}
 use Rattle.fof_terms.specs.declared.term.Term.{Term, Var, App}
 use Rattle.fof_terms.specs.declared.form.Form.{Form, Atom, Eq, Imp, Iff, All}
 use Rattle.fof_terms.specs.declared.form.Form.TheOpen as form
@@ -10,7 +11,8 @@ use Rattle.kernel.specs.Statements.{Statements}
 use Rattle.split_defs.specs.declared.just.SplitJust.{SplitJust}
 use Rattle.split_defs.specs.declared.just.SplitJust.TheVariants.{Definition, Split}
 use Rattle.split_defs.specs.DefinitionRule.{IsMeaning, IsValue, Relates, Equates, DefinesPredicate, DefinesFunction, Defines}
-use Rattle.split_defs.specs.DefinitionSearch.{HeadsAt, ValuesAt, IsFoundDefinition, IsBody}
+use Rattle.split_defs.specs.code.DefinitionSearch.{HeadsAt, ValuesAt, IsBody}
+use Rattle.split_defs.specs.DefinitionSearch.{IsFoundDefinition}
 use Rattle.split_defs.proofs.UnderAll.{one_body}
 
 -- Shapes.

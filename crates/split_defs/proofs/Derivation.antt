@@ -4,30 +4,31 @@ use Rattle.std.specs.Prelude.{◌^◌, Option, Result, IfOk, IfSome}
 use Rattle.std.specs.List.{All as Each}
 use Rattle.std.proofs.lemmas.List.{length-reverse, length-append}
 use Rattle.fof_terms.specs.Vocabulary.{Vocabulary}
-use Rattle.fof_terms.specs.Occurs.{occurs_in, occurs_in_term, occurs_in-Iff, occurs_in-Imp, occurs_in-All, occurs_in-Eq}
+use Rattle.fof_terms.specs.Occurs.{occurs_in, occurs_in_term}
+use Rattle.fof_terms.proofs.OccursFacts.{occurs_in-Iff, occurs_in-Imp, occurs_in-All, occurs_in-Eq}
 use Rattle.fof_terms.specs.declared.signature.Symbol.{Symbol}
 use Rattle.fof_terms.specs.declared.term.Term.{Term, Var, App}
 use Rattle.fof_terms.specs.declared.form.Form.{Form, Atom, Eq, Iff, Ex}
 use Rattle.fof_terms.specs.Lift.{lift_term_reach}
-use Rattle.fof_terms.specs.MoreReaches.{own_reach}
+use Rattle.fof_terms.proofs.MoreReaches.{own_reach}
 use Rattle.fof_terms.specs.Sorts.{IsScope, SortedTo, Sorted, sort_of_term, binder_depth}
-use Rattle.fof_terms.specs.Scoped.{raised, iff_sorted, eq_sorted, ex_sorted, sorted_of_iff, sorted_of_imp, sorted_of_eq}
-use Rattle.fof_terms.specs.Moved.{closed_anywhere}
+use Rattle.fof_terms.proofs.Scoped.{raised, iff_sorted, eq_sorted, ex_sorted, sorted_of_iff, sorted_of_imp, sorted_of_eq}
+use Rattle.fof_terms.proofs.Moved.{closed_anywhere}
 use Rattle.clause_rules.specs.Steps.{IsReady}
 use Rattle.kernel.specs.Statements.{Statements}
 use Rattle.kernel.specs.Proves.{Proves}
-use Rattle.kernel.specs.Building.{by_line}
+use Rattle.kernel.proofs.Building.{by_line}
 use Rattle.kernel.specs.Entries.{Legal, After, MayName, MayChoose, for_all, naming, choice, with_formula}
 use Rattle.kernel.specs.declared.proof.Proof.{Proof, Line}
 use Rattle.kernel.specs.declared.entry.Entry.{Entry}
 use Rattle.kernel.specs.declared.entry.Entry.TheVariants.{Name, Choice, Lemma}
 use Rattle.derive_kit.specs.Derived.{IsDerivedFrom, HasCited, Adds, with_formulas}
-use Rattle.derive_kit.specs.Built.{ok_map}
+use Rattle.derive_kit.proofs.Built.{ok_map}
 use Rattle.derive_kit.specs.Instances.{IsInstance}
 use Rattle.split_defs.specs.DefinitionRule.{IsMeaning, IsValue, Relates, Equates}
-use Rattle.split_defs.specs.DefinitionSearch.{Heads, Values, IsBody, FactOf, RelatesBy}
-use Rattle.split_defs.specs.Renaming.{renamed, renamed_term}
-use Rattle.split_defs.specs.Trees.{all_tree, is_value, valued_tree}
+use Rattle.split_defs.specs.code.DefinitionSearch.{Heads, Values, IsBody, FactOf, RelatesBy}
+use Rattle.split_defs.specs.code.Renaming.{renamed, renamed_term}
+use Rattle.split_defs.specs.code.Trees.{all_tree, is_value, valued_tree}
 use Rattle.split_defs.proofs.Choosing.{chosen, chosen_absent, function_sorts, value_sort, head_sort, is_value_sorted, choice_fits, choosing_is, may_choose, valued_shows}
 use Rattle.split_defs.proofs.Filling.{filled, form_back}
 use Rattle.split_defs.proofs.Headings.{Atom-injective, App-injective}

@@ -7,10 +7,11 @@ use Rattle.std.proofs.lemmas.List.{length-map, length-reverse, reverse-append}
 use Rattle.std.proofs.lemmas.List.Elements.{recursion_from_All}
 use Rattle.fof_terms.specs.declared.term.Term.{Term}
 use Rattle.fof_terms.specs.declared.form.Form.{Form, Or, Not}
-use Rattle.fof_terms.specs.Laws.{closed_stays}
+use Rattle.fof_terms.proofs.LiftingLaws.{closed_stays}
 use Rattle.fof_terms.specs.Scope.{scope_sorts}
 use Rattle.fof_terms.specs.declared.sorting.Scope.{Outside}
-use Rattle.fof_terms.specs.Scoped.{IsScope, Sorted, not_sorted, or_sorted}
+use Rattle.fof_terms.specs.Sorts.{IsScope, Sorted}
+use Rattle.fof_terms.proofs.Scoped.{not_sorted, or_sorted}
 use Rattle.fof_terms.specs.Vocabulary.{Vocabulary}
 use Rattle.clause_form.specs.declared.clause.Lit.{Lit}
 use Rattle.clause_form.specs.declared.clause.Clause.{Clause}
@@ -23,12 +24,13 @@ use Rattle.clause_rules.specs.Steps.{AreCovered, IsJoint, IsReady, images_of_par
 use Rattle.clause_rules.proofs.JointImages.{sorted_further, sorted_apart}
 use Rattle.kernel.specs.Statements.{Statements}
 use Rattle.kernel.specs.Proves.{Proves, all_over}
-use Rattle.kernel.specs.Building.{by_raa}
+use Rattle.kernel.proofs.Building.{by_raa}
 use Rattle.kernel.specs.Rules.{ProveEach}
 use Rattle.kernel.specs.declared.proof.Proof.{Proof, Raa}
 use Rattle.clause_proofs.specs.declared.opening.Opened.{Opened}
 use Rattle.clause_proofs.specs.declared.premises.Premise.{Premise}
-use Rattle.clause_proofs.specs.Bodies.{body_of, IsReadyClause}
+use Rattle.clause_proofs.specs.Bodies.{body_of}
+use Rattle.clause_proofs.specs.code.Bodies.{IsReadyClause}
 use Rattle.clause_proofs.specs.Premises.{IsPremiseOf}
 use Rattle.clause_proofs.specs.Refuting.{theory_of, body, IsGoal, ShowsBody}
 use Rattle.clause_proofs.specs.Shown.{ShowsLine}
@@ -40,7 +42,7 @@ use Rattle.clause_proofs.proofs.Joints.{instances_are}
 use Rattle.clause_proofs.proofs.LineGoals.{Exist, both_exist, few_sorts, own_exist, own_lits, scope_is as reached_scope}
 use Rattle.clause_proofs.proofs.NormLines.{full, of_theory}
 use Rattle.split_defs.specs.declared.stages.Stage.{Stage}
-use Rattle.split_defs.specs.SplitProof.{IsStage, AreStages, AllArms, AreGoals, DeniedAt, stage_clauses, variables_in, goal_of, nest_tree, enclosed_tree}
+use Rattle.split_defs.specs.code.SplitProof.{IsStage, AreStages, AllArms, AreGoals, DeniedAt, stage_clauses, variables_in, goal_of, nest_tree, enclosed_tree}
 use Rattle.split_defs.specs.SplitRule.{together}
 use Rattle.split_defs.proofs.Nesting.{scope_in, hyps_in, scope_is, arms_shown, nest_shown, all_denied}
 use Rattle.split_defs.proofs.OneClause.{together_sorted}

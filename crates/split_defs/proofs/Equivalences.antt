@@ -1,18 +1,18 @@
 -- What relates a head to its meaning follows from their equivalence.
 use Rattle.std.proofs.Common.{ℕ, ◌≡◌, Bool, true, false, List, ◌∷◌, refl, sym, subst, ◌∙◌, inl, inr}
 use Rattle.std.specs.Prelude.{Result, IfOk}
-use Rattle.fof_terms.specs.Trees.{Imp-injective, Iff-injective}
-use Rattle.fof_terms.specs.Scoped.{sorted_of_iff}
+use Rattle.fof_terms.proofs.Trees.{Imp-injective, Iff-injective}
+use Rattle.fof_terms.proofs.Scoped.{sorted_of_iff}
 use Rattle.fof_terms.specs.declared.form.Form.{Form, Imp, Iff}
 use Rattle.kernel.specs.Statements.{Statements}
 use Rattle.kernel.specs.Proves.{Proves}
-use Rattle.kernel.specs.Building.{shown_sorted, by_imp_i, by_imp_e, by_iff_i, by_iff_l, by_iff_r}
+use Rattle.kernel.proofs.Building.{shown_sorted, by_imp_i, by_imp_e, by_iff_i, by_iff_l, by_iff_r}
 use Rattle.kernel.specs.declared.proof.Proof.{Proof, Hyp, ImpI, IffI, IffL, IffR}
-use Rattle.derive_kit.specs.Built.{ok_map}
-use Rattle.derive_kit.specs.Steps.{first, second}
+use Rattle.derive_kit.proofs.Built.{ok_map}
+use Rattle.derive_kit.proofs.StepsFacts.{first, second}
 use Rattle.split_defs.specs.DefinitionRule.{Relates}
-use Rattle.split_defs.specs.DefinitionSearch.{RelatesBy}
-use Rattle.split_defs.specs.Trees.{turned_tree, forth_tree, back_tree}
+use Rattle.split_defs.specs.code.DefinitionSearch.{RelatesBy}
+use Rattle.split_defs.specs.code.Trees.{turned_tree, forth_tree, back_tree}
 use Rattle.split_defs.proofs.DefinitionEnds.{imp_not_iff}
 
 module _ (t : Statements) (v : List ℕ) (h : List Form) (l r : Form) (p : Proof) where

@@ -5,14 +5,15 @@ use Rattle.std.specs.List.{position_or_len, AllByRecursion, IsDistinct}
 use Rattle.std.proofs.lemmas.Bool.Decides.{nat_tests}
 use Rattle.std.proofs.lemmas.Bool.{lt-ltb, le-ltb}
 use Rattle.std.proofs.lemmas.List.Sums.{passes_at_first}
-use Rattle.fof_terms.specs.Laws.{below_or_above, smaller, greater, here, moves}
+use Rattle.fof_terms.proofs.LiftingLaws.{below_or_above, smaller, greater, here, moves}
 use Rattle.fof_terms.specs.Lift.{lifted_term}
 use Rattle.fof_terms.specs.Instance.{instance_term, instance_at}
-use Rattle.fof_terms.specs.Walks.{TermWalk, FormWalk, staying, staying_term, placing, placing_term, both_walks, both_terms, same_terms, same_forms}
+use Rattle.fof_terms.proofs.Walks.{TermWalk, FormWalk, staying, staying_term, placing, placing_term, both_walks, both_terms, same_terms, same_forms}
 use Rattle.fof_terms.specs.declared.term.Term.{Term, Var}
 use Rattle.fof_terms.specs.declared.form.Form.{Form}
 use Rattle.kernel.specs.Entries.{variables}
-use Rattle.split_defs.specs.Renaming.{argument, place_in, renamed, renamed_term, renamed_term-Var, renamed_term-App, renamed-Atom, renamed-Eq, renamed-Not, renamed-And, renamed-Or, renamed-Imp, renamed-Iff, renamed-All, renamed-Ex}
+use Rattle.split_defs.specs.code.Renaming.{argument, place_in, renamed, renamed_term}
+use Rattle.split_defs.proofs.RenamingFacts.{renamed_term-Var, renamed_term-App, renamed-Atom, renamed-Eq, renamed-Not, renamed-And, renamed-Or, renamed-Imp, renamed-Iff, renamed-All, renamed-Ex}
 use Rattle.split_defs.proofs.Distinct.{is_equal, equals_itself}
 
 -- Places.

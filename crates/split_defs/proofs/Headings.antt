@@ -15,10 +15,10 @@ use Rattle.fof_terms.specs.declared.form.Form.TheOpen as form
 use Rattle.fof_terms.specs.declared.form.Form.TheViews.{out-Form, outs-Atom}
 use Rattle.indexmap.specs.IndexSet.{IndexSet}
 use Rattle.kernel.specs.Statements.{Statements}
-use Rattle.split_defs.specs.Arguments.{AreVariables, AreNames}
+use Rattle.split_defs.specs.code.Arguments.{AreVariables, AreNames}
 use Rattle.split_defs.specs.DefinitionRule.{IsNew, IsMeaning, IsValue}
-use Rattle.split_defs.specs.DefinitionSearch.{Heads, Values, HeadsAt, ValuesAt, IsFoundSymbol}
-use Rattle.split_defs.specs.Renaming.{renamed, renamed_term, speaks, speaks_in_term}
+use Rattle.split_defs.specs.code.DefinitionSearch.{Heads, Values, HeadsAt, ValuesAt, IsFoundSymbol}
+use Rattle.split_defs.specs.code.Renaming.{renamed, renamed_term, speaks, speaks_in_term}
 use Rattle.split_defs.proofs.Distinct.{comes_once}
 use Rattle.split_defs.proofs.Spoken.{among_of_form, speaks_of_among, among_of_term, speaks_of_term}
 

@@ -19,3 +19,6 @@ pub mod SplitEnds
 pub mod Spoken
 pub mod UnderAll
 pub mod Unfolding
+pub mod DefinitionRuleFacts
+pub mod RenamingFacts
+pub mod SplitSearchFacts

@@ -2,7 +2,7 @@
 use Rattle.std.proofs.Common.{ℕ, ◌+◌, ◌≡◌, ◌<◌, ◌&&◌, Bool, true, List, [], ◌∷◌, map, arith, zero, suc}
 use Rattle.std.specs.List.{list_all, All as Each}
 use Rattle.fof_terms.specs.Lift.{greatest}
-use Rattle.fof_terms.specs.Laws.{both}
+use Rattle.fof_terms.proofs.LiftingLaws.{both}
 
 pub below_sum : {X : Type 0} (f : X → ℕ) (n b : ℕ) (xs : List X) → n + greatest (map f xs) < b → Each (λ x. n + f x < b) xs
 below_sum f n b [] h k d lt = absurd (omega arith)

@@ -6,13 +6,13 @@ use Rattle.fof_terms.specs.declared.term.Term.{Term}
 use Rattle.fof_terms.specs.declared.form.Form.{Form, Atom, Iff}
 use Rattle.fof_terms.specs.declared.form.Form.TheOpen as form
 use Rattle.fof_terms.specs.declared.form.Form.TheViews.{out-Form, outs-Atom}
-use Rattle.fof_terms.specs.Trees.{Iff-injective}
+use Rattle.fof_terms.proofs.Trees.{Iff-injective}
 use Rattle.clause_form.specs.declared.clause.Lit.{Lit}
 use Rattle.clause_form.specs.declared.clause.Clause.{Clause}
 use Rattle.clause_form.specs.ClauseView.{clause_of}
 use Rattle.clause_form.specs.Covers.{HasOne}
 use Rattle.split_defs.specs.SplitRule.{name_lit, HasName, Names}
-use Rattle.split_defs.specs.SplitSearch.{IsNamed, IsPlaceOfName}
+use Rattle.split_defs.specs.code.SplitSearch.{IsNamed, IsPlaceOfName}
 
 pub atom_parts : (p q : ℕ) (ts us : List Term) → Atom p ts ≡ Atom q us → (p ≡ q) × (ts ≡ us)
 atom_parts p q ts us e = let layers : form.Atom p ts ≡ form.Atom q us = sym (outs-Atom p ts) ∙ ap out-Form e ∙ outs-Atom q us in (cc, cc)

@@ -7,8 +7,8 @@ use Rattle.std.proofs.lemmas.List.{length-map}
 use Rattle.std.proofs.lemmas.List.Elements.{recursion_from_All}
 use Rattle.std.proofs.lemmas.Option.{slice_get-map}
 use Rattle.fof_terms.specs.declared.form.Form.{Form, Atom}
-use Rattle.fof_terms.specs.Scoped.{member_of, sorted_of_iff}
-use Rattle.fof_terms.specs.Trees.{Iff-injective}
+use Rattle.fof_terms.proofs.Scoped.{member_of, sorted_of_iff}
+use Rattle.fof_terms.proofs.Trees.{Iff-injective}
 use Rattle.fof_terms.specs.Vocabulary.{Vocabulary}
 use Rattle.clause_form.specs.declared.clause.Clause.{Clause}
 use Rattle.clause_form.specs.declared.path.Parent.{Parent}
@@ -19,7 +19,8 @@ use Rattle.clause_rules.proofs.Firsts.{one_at}
 use Rattle.clause_rules.proofs.ResolutionLoops.{form_fits}
 use Rattle.split_defs.specs.declared.names.Named.{Named}
 use Rattle.split_defs.specs.SplitRule.{Names, AllName}
-use Rattle.split_defs.specs.SplitSearch.{IsNamed, forms_of}
+use Rattle.split_defs.specs.code.SplitSearch.{IsNamed}
+use Rattle.split_defs.specs.SplitSearch.{forms_of}
 
 -- one clause is named
 same_clause : (e d f : Clause) (a b : Form) → a ≡ b → Names e a d → Names e b f → d ≡ f

@@ -5,19 +5,21 @@ use Rattle.std.proofs.lemmas.List.{length-reverse, append-nil}
 use Rattle.std.proofs.lemmas.Option.{slice_get_within}
 use Rattle.std.proofs.lemmas.Map.Steps.{length-le_from_distinct_below}
 use Rattle.fof_terms.specs.Vocabulary.{Vocabulary}
-use Rattle.fof_terms.specs.Laws.{both}
+use Rattle.fof_terms.proofs.LiftingLaws.{both}
 use Rattle.fof_terms.specs.declared.signature.Symbol.{Symbol}
 use Rattle.fof_terms.specs.declared.signature.Kind.{Kind}
 use Rattle.fof_terms.specs.declared.signature.Kind.TheVariants.{Function, Predicate}
 use Rattle.fof_terms.specs.declared.term.Term.{Var}
 use Rattle.fof_terms.specs.declared.form.Form.{Form, Atom, Iff}
-use Rattle.fof_terms.specs.Sorts.{IsScope, SortedTo, Sorted, is_sort, are_sorts, holds_of, stated_by, sort_of_term, sort_of_term-Var, is_sorted, is_sorted-Atom, is_sorted-Iff}
-use Rattle.fof_terms.specs.Scoped.{member_of, raised, sorted_of_iff}
-use Rattle.fof_terms.specs.Walks.{same_depth}
+use Rattle.fof_terms.specs.Sorts.{IsScope, SortedTo, Sorted, is_sort, are_sorts, holds_of, stated_by, sort_of_term, is_sorted}
+use Rattle.fof_terms.proofs.SortsFacts.{sort_of_term-Var, is_sorted-Atom, is_sorted-Iff}
+use Rattle.fof_terms.proofs.Scoped.{member_of, raised, sorted_of_iff}
+use Rattle.fof_terms.proofs.Walks.{same_depth}
 use Rattle.kernel.specs.Statements.{Statements}
 use Rattle.kernel.specs.Entries.{IsFresh, MayName, naming, for_all, variables}
 use Rattle.split_defs.specs.DefinitionRule.{IsAmong, IsMeaning}
-use Rattle.split_defs.specs.Renaming.{argument, renamed, renamed_term, renamed-Atom, renamed-Iff, speaks, speaks_in_term, speaks_in_term-Var, speaks-Atom, speaks-Iff}
+use Rattle.split_defs.specs.code.Renaming.{argument, renamed, renamed_term, speaks, speaks_in_term}
+use Rattle.split_defs.proofs.RenamingFacts.{renamed-Atom, renamed-Iff, speaks_in_term-Var, speaks-Atom, speaks-Iff}
 use Rattle.split_defs.proofs.Distinct.{is_equal, equals_itself, either}
 use Rattle.split_defs.proofs.Filling.{renaming, arguments_are, argument_at}
 use Rattle.split_defs.proofs.RenamedSorts.{renamed_sorted, form_occurs}

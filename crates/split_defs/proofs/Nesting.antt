@@ -5,32 +5,35 @@ use Rattle.std.proofs.Common.{ap, sym, subst, ◌∙◌, arith, append_assoc, le
 use Rattle.std.proofs.lemmas.List.{reverse-append, map-append}
 use Rattle.std.proofs.lemmas.Option.{slice_get-map}
 use Rattle.fof_terms.specs.declared.form.Form.{Form, Or, Not}
-use Rattle.fof_terms.specs.Laws.{closed_stays}
-use Rattle.fof_terms.specs.Lift.{lifted, lifted-Or, lifted-Not}
-use Rattle.fof_terms.specs.Moved.{closed_anywhere}
-use Rattle.fof_terms.specs.Scoped.{IsScope, Sorted, sorted_of_all}
+use Rattle.fof_terms.proofs.LiftingLaws.{closed_stays}
+use Rattle.fof_terms.specs.Lift.{lifted}
+use Rattle.fof_terms.proofs.LiftFacts.{lifted-Or, lifted-Not}
+use Rattle.fof_terms.proofs.Moved.{closed_anywhere}
+use Rattle.fof_terms.specs.Sorts.{IsScope, Sorted}
+use Rattle.fof_terms.proofs.Scoped.{sorted_of_all}
 use Rattle.fof_terms.specs.Vocabulary.{Vocabulary}
 use Rattle.clause_form.specs.declared.clause.Lit.{Lit}
 use Rattle.clause_form.specs.declared.path.Parent.{Parent}
 use Rattle.clause_form.specs.ClauseView.{closed_by, form_of_lit}
 use Rattle.clause_form.specs.Covers.{lit_apart}
-use Rattle.clause_form.specs.Reached.{around, around_length, lit_moved}
+use Rattle.clause_form.specs.Reached.{around}
+use Rattle.clause_form.proofs.ReachedFacts.{around_length, lit_moved}
 use Rattle.clause_rules.specs.Steps.{IsReady}
 use Rattle.kernel.specs.Statements.{Statements}
 use Rattle.kernel.specs.Proves.{Proves, over, all_over}
-use Rattle.kernel.specs.Building.{by_all_i, by_raa}
+use Rattle.kernel.proofs.Building.{by_all_i, by_raa}
 use Rattle.kernel.specs.Rules.{ProveEach}
 use Rattle.kernel.specs.declared.proof.Proof.{Proof, Raa}
-use Rattle.derive_kit.specs.Built.{cut_shows}
+use Rattle.derive_kit.proofs.Built.{cut_shows}
 use Rattle.derive_kit.specs.Derived.{AreOfTheory}
-use Rattle.derive_kit.specs.Numbering.{all_around, head_around, twice_form}
+use Rattle.derive_kit.proofs.NumberingFacts.{all_around, head_around, twice_form}
 use Rattle.clause_proofs.specs.declared.opening.Opened.{Opened}
 use Rattle.clause_proofs.specs.Bodies.{body_of}
 use Rattle.clause_proofs.specs.Closed.{all_tree}
 use Rattle.clause_proofs.specs.Refuting.{theory_of, body}
 use Rattle.clause_proofs.proofs.NormLines.{full}
 use Rattle.split_defs.specs.declared.stages.Stage.{Stage}
-use Rattle.split_defs.specs.SplitProof.{AreStages, stage_clauses, nest_tree, goal_of, variables_in, EachRefutes, AllArms, DeniedAt}
+use Rattle.split_defs.specs.code.SplitProof.{AreStages, stage_clauses, nest_tree, goal_of, variables_in, EachRefutes, AllArms, DeniedAt}
 use Rattle.split_defs.specs.SplitRule.{together}
 use Rattle.split_defs.proofs.UnderAll.{turn}
 

@@ -15,7 +15,7 @@ use Rattle.split_defs.specs.declared.covering.Covered.{Covered}
 use Rattle.split_defs.specs.declared.just.SplitJust.{SplitJust}
 use Rattle.split_defs.specs.declared.just.SplitJust.TheVariants.{Split}
 use Rattle.split_defs.specs.SplitRule.{AllName, unfolded}
-use Rattle.split_defs.specs.SplitSearch.{CoversForm, NoCover, IsCovering, NoCoverAt, IsCoveredAmong, IsFoundSplit, IsFoundFor}
+use Rattle.split_defs.specs.code.SplitSearch.{CoversForm, NoCover, IsCovering, NoCoverAt, IsCoveredAmong, IsFoundSplit, IsFoundFor}
 use Rattle.split_defs.proofs.NamedParents.{named_once}
 
 module _ (v : Vocabulary) (whole : Clause) where

@@ -2,13 +2,15 @@
 use Rattle.std.proofs.Common.{ℕ, ◌≡◌, ◌≤◌, ◌+◌, ◌-◌, ◌||◌, ◌&&◌, Bool, true, false, List, [], ◌∷◌, nat_eq, nat_lt, arith, refl, sym, subst, inl, inr}
 use Rattle.std.specs.List.{list_any, list_all, AllByRecursion}
 use Rattle.std.proofs.lemmas.Bool.{lt-ltb, le-ltb}
-use Rattle.fof_terms.specs.Laws.{both, below_or_above}
-use Rattle.fof_terms.specs.Induction.{term_induction, form_induction}
-use Rattle.fof_terms.specs.Variables.{has_in_term, has_variable, has_in_term-Var, has_in_term-App, has_variable-Atom, has_variable-Eq, has_variable-Not, has_variable-And, has_variable-Or, has_variable-Imp, has_variable-Iff, has_variable-All, has_variable-Ex}
+use Rattle.fof_terms.proofs.LiftingLaws.{both, below_or_above}
+use Rattle.fof_terms.proofs.Induction.{term_induction, form_induction}
+use Rattle.fof_terms.specs.Variables.{has_in_term, has_variable}
+use Rattle.fof_terms.proofs.VariablesFacts.{has_in_term-Var, has_in_term-App, has_variable-Atom, has_variable-Eq, has_variable-Not, has_variable-And, has_variable-Or, has_variable-Imp, has_variable-Iff, has_variable-All, has_variable-Ex}
 use Rattle.fof_terms.specs.declared.term.Term.{Term, Var}
 use Rattle.fof_terms.specs.declared.form.Form.{Form}
 use Rattle.split_defs.specs.DefinitionRule.{IsAmong}
-use Rattle.split_defs.specs.Renaming.{speaks, speaks_in_term, speaks_in_term-Var, speaks_in_term-App, speaks-Atom, speaks-Eq, speaks-Not, speaks-And, speaks-Or, speaks-Imp, speaks-Iff, speaks-All, speaks-Ex}
+use Rattle.split_defs.specs.code.Renaming.{speaks, speaks_in_term}
+use Rattle.split_defs.proofs.RenamingFacts.{speaks_in_term-Var, speaks_in_term-App, speaks-Atom, speaks-Eq, speaks-Not, speaks-And, speaks-Or, speaks-Imp, speaks-Iff, speaks-All, speaks-Ex}
 use Rattle.split_defs.proofs.Distinct.{is_equal, equals_itself, either}
 
 pub either_left : (a b : Bool) → a ≡ true → (a || b) ≡ true

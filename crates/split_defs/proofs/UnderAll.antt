@@ -5,19 +5,22 @@ use Rattle.std.proofs.lemmas.List.{reverse-append}
 use Rattle.fof_terms.specs.Vocabulary.{Vocabulary}
 use Rattle.fof_terms.specs.declared.term.Term.{Term, Var}
 use Rattle.fof_terms.specs.declared.form.Form.{Form, All}
-use Rattle.fof_terms.specs.Instance.{instance_at, instance_at-All}
-use Rattle.fof_terms.specs.Sorts.{sort_of_term, sort_of_term-Var, binder_depth, binder_depth-All}
-use Rattle.fof_terms.specs.Scoped.{SortedTo, Sorted, raised, all_sorted, sorted_of_all}
-use Rattle.fof_terms.specs.Trees.{All-injective}
+use Rattle.fof_terms.specs.Instance.{instance_at}
+use Rattle.fof_terms.proofs.InstanceFacts.{instance_at-All}
+use Rattle.fof_terms.specs.Sorts.{sort_of_term, binder_depth}
+use Rattle.fof_terms.proofs.SortsFacts.{sort_of_term-Var, binder_depth-All}
+use Rattle.fof_terms.specs.Sorts.{SortedTo, Sorted}
+use Rattle.fof_terms.proofs.Scoped.{raised, all_sorted, sorted_of_all}
+use Rattle.fof_terms.proofs.Trees.{All-injective}
 use Rattle.kernel.specs.Statements.{Statements}
 use Rattle.kernel.specs.Proves.{Proves}
-use Rattle.kernel.specs.Building.{by_all_i}
+use Rattle.kernel.proofs.Building.{by_all_i}
 use Rattle.kernel.specs.Entries.{for_all}
 use Rattle.kernel.specs.declared.proof.Proof.{Proof, AllI}
-use Rattle.derive_kit.specs.Built.{ok_map}
+use Rattle.derive_kit.proofs.Built.{ok_map}
 use Rattle.derive_kit.specs.Instances.{IsInstance}
-use Rattle.split_defs.specs.DefinitionSearch.{IsBody}
-use Rattle.split_defs.specs.Trees.{all_tree}
+use Rattle.split_defs.specs.code.DefinitionSearch.{IsBody}
+use Rattle.split_defs.specs.code.Trees.{all_tree}
 use Rattle.split_defs.proofs.Filling.{filled}
 
 pub turn : {X : Type 0} (x : X) (xs : List X) → reverse (x ∷ xs) ≡ reverse xs ++ x ∷ []

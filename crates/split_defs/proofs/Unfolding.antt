@@ -17,16 +17,18 @@ use Rattle.kernel.specs.Statements.{Statements}
 use Rattle.kernel.specs.Proves.{Proves}
 use Rattle.kernel.specs.declared.proof.Proof.{Proof}
 use Rattle.kernel.specs.declared.entry.Entry.TheVariants.{Lemma}
-use Rattle.derive_kit.specs.Derived.{AreOfTheory, IsDerivedFrom, derived_by_lemma, numbers_of}
+use Rattle.derive_kit.specs.Derived.{AreOfTheory, IsDerivedFrom, numbers_of}
+use Rattle.derive_kit.proofs.DerivedFacts.{derived_by_lemma}
 use Rattle.clause_proofs.specs.declared.opening.Opened.{Opened}
-use Rattle.clause_proofs.specs.Bodies.{IsOpening, IsReadyClause}
+use Rattle.clause_proofs.specs.Bodies.{IsOpening}
+use Rattle.clause_proofs.specs.code.Bodies.{IsReadyClause}
 use Rattle.clause_proofs.specs.Refuting.{theory_of}
 use Rattle.clause_proofs.specs.Shown.{ShowsLine}
 use Rattle.clause_proofs.proofs.Factors.{one_joint_here}
 use Rattle.clause_proofs.proofs.LineGoals.{opened_clause}
 use Rattle.clause_proofs.proofs.NormLines.{parent_ready}
 use Rattle.split_defs.specs.declared.stages.Stage.{Stage}
-use Rattle.split_defs.specs.SplitProof.{AreNamed, stage_clauses}
+use Rattle.split_defs.specs.code.SplitProof.{AreNamed, stage_clauses}
 use Rattle.split_defs.specs.SplitRule.{Names, SplitsAt, together, unfolded}
 use Rattle.split_defs.specs.SplitSearch.{forms_of}
 use Rattle.split_defs.proofs.Contraries.{are_named, named_at}

@@ -1,7 +1,7 @@
 //! Distinct variables as the arguments of a symbol.
 ghost use Rattle.std.specs.Prelude.{◌≡◌, List, map, Some, IfOk, nat_eq};
 ghost use Rattle.fof_terms.specs.declared.term.Term.{Var};
-ghost use Rattle.split_defs.specs.Arguments.{AreNames};
+ghost use Rattle.split_defs.specs.code.Arguments.{AreNames};
 
 use fof_terms::Term;
 use indexmap::IndexSet;

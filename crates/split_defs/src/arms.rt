@@ -4,7 +4,7 @@ ghost use Rattle.fof_terms.specs.Scope.{scope_sorts};
 ghost use Rattle.clause_proofs.specs.Refuting.{IsGoal, body};
 ghost use Rattle.clause_rules.specs.Settled.{IsFit};
 ghost use Rattle.kernel.specs.declared.proof.Proof.{Proof as Deduction};
-ghost use Rattle.split_defs.specs.SplitProof.{AllArms, AreGoals, EachRefutes, goal_of as moved_goal, variables_in};
+ghost use Rattle.split_defs.specs.code.SplitProof.{AllArms, AreGoals, EachRefutes, goal_of as moved_goal, variables_in};
 
 use crate::stages::Stage;
 use clause_form::Clause;

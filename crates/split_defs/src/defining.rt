@@ -7,9 +7,9 @@ ghost use Rattle.clause_rules.specs.Steps.{IsReady};
 ghost use Rattle.kernel.specs.declared.entry.Entry.TheVariants.{Name, Lemma};
 ghost use Rattle.derive_kit.specs.Derived.{IsDerivedFrom};
 ghost use Rattle.split_defs.specs.DefinitionRule.{IsMeaning, Relates};
-ghost use Rattle.split_defs.specs.DefinitionSearch.{Heads, IsBody, FactOf, RelatesBy};
-ghost use Rattle.split_defs.specs.Renaming.{renamed};
-ghost use Rattle.split_defs.specs.Trees.{all_tree, turned_tree, forth_tree, back_tree, under_fact};
+ghost use Rattle.split_defs.specs.code.DefinitionSearch.{Heads, IsBody, FactOf, RelatesBy};
+ghost use Rattle.split_defs.specs.code.Renaming.{renamed};
+ghost use Rattle.split_defs.specs.code.Trees.{all_tree, turned_tree, forth_tree, back_tree, under_fact};
 
 use crate::arguments::names_of;
 use crate::renaming::rename;

@@ -4,7 +4,8 @@ ghost use Rattle.fof_terms.specs.Sorts.{binder_depth};
 ghost use Rattle.fof_terms.specs.declared.form.Form.{Form as Formula};
 ghost use Rattle.clause_rules.specs.Steps.{IsReady};
 ghost use Rattle.split_defs.specs.DefinitionRule.{IsNew, Defines};
-ghost use Rattle.split_defs.specs.DefinitionSearch.{Heads, Values, HeadsAt, ValuesAt, IsFoundSymbol, IsFoundDefinition, IsBody};
+ghost use Rattle.split_defs.specs.code.DefinitionSearch.{Heads, Values, HeadsAt, ValuesAt, IsFoundSymbol, IsBody};
+ghost use Rattle.split_defs.specs.DefinitionSearch.{IsFoundDefinition};
 
 use crate::arguments::names_of;
 use crate::just::SplitJust;

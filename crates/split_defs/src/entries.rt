@@ -4,7 +4,7 @@ ghost use Rattle.fof_terms.specs.declared.form.Form.{Iff, Imp, Eq as Equation};
 ghost use Rattle.clause_rules.specs.Steps.{IsReady};
 ghost use Rattle.derive_kit.specs.Derived.{IsDerivedFrom};
 ghost use Rattle.split_defs.specs.DefinitionRule.{Defines};
-ghost use Rattle.split_defs.specs.DefinitionSearch.{HeadsAt, ValuesAt, IsBody};
+ghost use Rattle.split_defs.specs.code.DefinitionSearch.{HeadsAt, ValuesAt, IsBody};
 
 use crate::defining::predicate_entries;
 use crate::definition::body_of;

@@ -2,7 +2,8 @@
 ghost use Rattle.std.specs.Prelude.{◌≡◌, ◌↔◌, ◌+◌, ◌<◌, ◌++◌, ◌∷◌, [], ℕ, length, IfOk, IsTrue};
 ghost use Rattle.fof_terms.specs.declared.form.Form.{Atom as Stated};
 ghost use Rattle.split_defs.specs.SplitRule.{name_lit, AllName, HasName};
-ghost use Rattle.split_defs.specs.SplitSearch.{IsNamed, IsPlaceOfName, forms_of};
+ghost use Rattle.split_defs.specs.code.SplitSearch.{IsNamed, IsPlaceOfName};
+ghost use Rattle.split_defs.specs.SplitSearch.{forms_of};
 
 use clause_form::{AtomOf, Clause, Lit, Parent, as_clause};
 use fof_terms::{Form, SymId};

@@ -5,7 +5,7 @@ ghost use Rattle.clause_rules.specs.Settled.{IsFit};
 ghost use Rattle.fof_terms.specs.declared.form.Form.{Form as Formula, Or};
 ghost use Rattle.fof_terms.specs.Scope.{scope_sorts};
 ghost use Rattle.clause_form.specs.Covers.{AreSorted, CoversBy, scope_of};
-ghost use Rattle.clause_proofs.specs.Bodies.{IsReadyClause};
+ghost use Rattle.clause_proofs.specs.code.Bodies.{IsReadyClause};
 ghost use Rattle.clause_proofs.specs.Refuting.{IsGoal, ShowsBody, body, theory_of};
 ghost use Rattle.clause_proofs.specs.Shown.{ShowsLine};
 ghost use Rattle.clause_rules.specs.Steps.{AreCovered, AreReady, IsJoint, IsReady, images_of_parents};
@@ -13,7 +13,7 @@ ghost use Rattle.derive_kit.specs.Derived.{AreOfTheory, IsDerivedFrom, numbers_o
 ghost use Rattle.kernel.specs.Proves.{Proves};
 ghost use Rattle.kernel.specs.declared.entry.Entry.TheVariants.{Lemma};
 ghost use Rattle.split_defs.specs.declared.just.SplitJust.TheVariants.{Split};
-ghost use Rattle.split_defs.specs.SplitProof.{AreGoals, AreStages, DeniedAt, enclosed_tree, nest_tree, stage_clauses, stage_tree};
+ghost use Rattle.split_defs.specs.code.SplitProof.{AreGoals, AreStages, DeniedAt, enclosed_tree, nest_tree, stage_clauses, stage_tree};
 ghost use Rattle.split_defs.specs.SplitRule.{together as clauses_together};
 ghost use Rattle.split_defs.specs.SplitSearch.{ShowsSplit, forms_of};
 

@@ -4,7 +4,7 @@ ghost use Rattle.std.specs.List.{list_all};
 ghost use Rattle.fof_terms.specs.Lift.{greatest};
 ghost use Rattle.fof_terms.specs.Sorts.{binder_depth};
 ghost use Rattle.fof_terms.specs.declared.term.Term.{Var};
-ghost use Rattle.split_defs.specs.Renaming.{renamed, renamed_term, speaks, speaks_in_term};
+ghost use Rattle.split_defs.specs.code.Renaming.{renamed, renamed_term, speaks, speaks_in_term};
 
 use fof_terms::{Form, Term};
 use indexmap::IndexSet;
@@ -12,7 +12,7 @@ use std::alloc::Global;
 use tptp_base::{Boxed, List, Memory};
 
 // The new number of a variable that is one of these or is bound.
-#[tactic(auto, using(crate::specs::Renaming::renamed_equations, crate::specs::Renaming::speaks_equations))]
+#[tactic(auto, using(crate::proofs::RenamingFacts::renamed_equations, crate::proofs::RenamingFacts::speaks_equations))]
 fn new_number(names: &IndexSet<u32>, distance: u32, depth: u32) -> u32
     requires among { speaks_in_term names.now.keys depth (Var distance) ≡ true }
     requires room { length names.now.keys + depth < 2 ^ 32 }
@@ -28,7 +28,7 @@ fn new_number(names: &IndexSet<u32>, distance: u32, depth: u32) -> u32
 }
 
 /// The term over the arguments that these variables are, the last of which is number 0, so many binders within.
-#[tactic(auto, using(crate::specs::Renaming::renamed_equations, crate::specs::Renaming::speaks_equations))]
+#[tactic(auto, using(crate::proofs::RenamingFacts::renamed_equations, crate::proofs::RenamingFacts::speaks_equations))]
 #[cycle(rename_term)]
 pub fn rename_term(
     alloc: Global,
@@ -49,7 +49,7 @@ pub fn rename_term(
     }
 }
 
-#[tactic(auto, using(crate::specs::Renaming::renamed_equations, crate::specs::Renaming::speaks_equations))]
+#[tactic(auto, using(crate::proofs::RenamingFacts::renamed_equations, crate::proofs::RenamingFacts::speaks_equations))]
 #[cycle(rename_term)]
 fn rename_terms(
     alloc: Global,
@@ -69,7 +69,7 @@ fn rename_terms(
 }
 
 /// The formula over the arguments that these variables are, the last of which is number 0, so many binders within.
-#[tactic(auto, using(crate::specs::Renaming::renamed_equations, crate::specs::Renaming::speaks_equations))]
+#[tactic(auto, using(crate::proofs::RenamingFacts::renamed_equations, crate::proofs::RenamingFacts::speaks_equations))]
 #[cycle(rename)]
 pub fn rename(alloc: Global, names: &IndexSet<u32>, form: &Form, depth: u32) -> Result<Form, Memory>
     requires among { speaks names.now.keys depth form.now ≡ true }
@@ -107,7 +107,7 @@ pub fn rename(alloc: Global, names: &IndexSet<u32>, form: &Form, depth: u32) -> 
     }
 }
 
-#[tactic(auto, using(crate::specs::Renaming::renamed_equations))]
+#[tactic(auto, using(crate::proofs::RenamingFacts::renamed_equations))]
 #[cycle(rename)]
 fn rename_box(
     alloc: Global,
@@ -122,7 +122,7 @@ fn rename_box(
     Ok(Boxed::new(alloc, rename(alloc, names, form, depth)?)?)
 }
 
-#[tactic(auto, using(crate::specs::Renaming::renamed_equations))]
+#[tactic(auto, using(crate::proofs::RenamingFacts::renamed_equations))]
 #[cycle(rename)]
 fn rename_all(
     alloc: Global,

@@ -3,13 +3,13 @@ ghost use Rattle.std.specs.Prelude.{◌≡◌, ◌+◌, ◌<◌, ◌^◌, map};
 ghost use Rattle.std.specs.List.{list_all};
 ghost use Rattle.fof_terms.specs.Lift.{greatest};
 ghost use Rattle.fof_terms.specs.Sorts.{binder_depth};
-ghost use Rattle.split_defs.specs.Renaming.{speaks, speaks_in_term};
+ghost use Rattle.split_defs.specs.code.Renaming.{speaks, speaks_in_term};
 
 use fof_terms::{Form, Term};
 use indexmap::IndexSet;
 
 /// Whether the free variables of the term are among these, so many binders within.
-#[tactic(auto, using(crate::specs::Renaming::speaks_equations))]
+#[tactic(auto, using(crate::proofs::RenamingFacts::speaks_equations))]
 #[cycle(term_speaks)]
 pub fn term_speaks(names: &IndexSet<u32>, term: &Term, depth: u32) -> bool
     ensures { result ≡ speaks_in_term names.now.keys depth term.now }
@@ -20,7 +20,7 @@ pub fn term_speaks(names: &IndexSet<u32>, term: &Term, depth: u32) -> bool
     }
 }
 
-#[tactic(auto, using(crate::specs::Renaming::speaks_equations))]
+#[tactic(auto, using(crate::proofs::RenamingFacts::speaks_equations))]
 #[cycle(term_speaks)]
 fn terms_speak(names: &IndexSet<u32>, terms: &[Term], depth: u32) -> bool
     ensures { result ≡ list_all (speaks_in_term names.now.keys depth) terms.now }
@@ -34,7 +34,7 @@ fn terms_speak(names: &IndexSet<u32>, terms: &[Term], depth: u32) -> bool
 }
 
 /// Whether the free variables of the formula are among these, so many binders within.
-#[tactic(auto, using(crate::specs::Renaming::speaks_equations))]
+#[tactic(auto, using(crate::proofs::RenamingFacts::speaks_equations))]
 #[cycle(form_speaks)]
 pub fn form_speaks(names: &IndexSet<u32>, form: &Form, depth: u32) -> bool
     requires { depth + binder_depth form.now < 2 ^ 32 }
@@ -53,7 +53,7 @@ pub fn form_speaks(names: &IndexSet<u32>, form: &Form, depth: u32) -> bool
     }
 }
 
-#[tactic(auto, using(crate::specs::Renaming::speaks_equations))]
+#[tactic(auto, using(crate::proofs::RenamingFacts::speaks_equations))]
 #[cycle(form_speaks)]
 fn forms_speak(names: &IndexSet<u32>, forms: &[Form], depth: u32) -> bool
     requires { depth + greatest (map binder_depth forms.now) < 2 ^ 32 }

@@ -4,7 +4,8 @@ ghost use Rattle.std.specs.List.{AllByRecursion};
 ghost use Rattle.clause_rules.specs.Settled.{IsFit};
 ghost use Rattle.clause_rules.specs.Steps.{AreReady, IsReady};
 ghost use Rattle.split_defs.specs.SplitRule.{IsSplitStep, unfolded as unfolded_line};
-ghost use Rattle.split_defs.specs.SplitSearch.{IsFoundFor, ShowsSplit, forms_of};
+ghost use Rattle.split_defs.specs.code.SplitSearch.{IsFoundFor};
+ghost use Rattle.split_defs.specs.SplitSearch.{ShowsSplit, forms_of};
 
 use crate::covering::{Covered, covered_among};
 use crate::just::SplitJust;

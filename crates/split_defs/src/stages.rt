@@ -3,9 +3,9 @@ ghost use Rattle.std.specs.Prelude.{◌≡◌, ◌<◌, ◌^◌, ◌∷◌, [], 
 ghost use Rattle.fof_terms.specs.declared.form.Form.{Atom as Stated};
 ghost use Rattle.clause_form.specs.declared.clause.Clause.{Clause as Disjunction};
 ghost use Rattle.clause_form.specs.declared.path.Parent.{Parent as Given};
-ghost use Rattle.clause_proofs.specs.Bodies.{IsReadyClause};
+ghost use Rattle.clause_proofs.specs.code.Bodies.{IsReadyClause};
 ghost use Rattle.clause_rules.specs.Steps.{AreReady, IsReady};
-ghost use Rattle.split_defs.specs.SplitProof.{AreNamed, AreStages, IsStage, name_tree, stage_clauses};
+ghost use Rattle.split_defs.specs.code.SplitProof.{AreNamed, AreStages, IsStage, name_tree, stage_clauses};
 ghost use Rattle.split_defs.specs.SplitRule.{HasName, Names, name_lit};
 ghost use Rattle.split_defs.specs.SplitSearch.{forms_of};
 

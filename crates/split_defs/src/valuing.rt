@@ -7,9 +7,9 @@ ghost use Rattle.clause_rules.specs.Steps.{IsReady};
 ghost use Rattle.kernel.specs.declared.entry.Entry.TheVariants.{Choice, Lemma};
 ghost use Rattle.derive_kit.specs.Derived.{IsDerivedFrom};
 ghost use Rattle.split_defs.specs.DefinitionRule.{IsValue, Equates};
-ghost use Rattle.split_defs.specs.DefinitionSearch.{Values, IsBody};
-ghost use Rattle.split_defs.specs.Renaming.{renamed_term};
-ghost use Rattle.split_defs.specs.Trees.{is_value, valued_tree, value_tree};
+ghost use Rattle.split_defs.specs.code.DefinitionSearch.{Values, IsBody};
+ghost use Rattle.split_defs.specs.code.Renaming.{renamed_term};
+ghost use Rattle.split_defs.specs.code.Trees.{is_value, valued_tree, value_tree};
 
 use crate::arguments::names_of;
 use crate::defining::{at_arguments, under_all};

@@ -1,7 +1,7 @@
 -- The readers of bodies and annotations are exact and find all that is derived.
 use Rattle.std.proofs.Common.{◌≡◌, Bool, true, false, ℕ, ◌+◌, List, [], ◌∷◌, Option, Some, refl, sym, ◌∙◌, ap, subst, arith}
 use Rattle.first_fault.specs.Nesting.{plain}
-use Rattle.first_fault.specs.Reading.{and_then, next, expect, opened}
+use Rattle.first_fault.specs.code.Reading.{and_then, next, expect, opened}
 use Rattle.first_fault.proofs.Exact.{Exact, Inhabited, exact_stop}
 use Rattle.first_fault.proofs.Found.{Found}
 use Rattle.first_fault.proofs.Good.{Good, GoodAt, After, after, Only, only, Both, both, widen, good_as, good_both, good_choice, good_map, good_expect, behind_token, unmapped, always}
@@ -25,12 +25,12 @@ use Rattle.tptp_grammar.specs.GeneralTerms as t
 use Rattle.tptp_grammar.specs.GeneralTerms.{IsGeneralTerm, IsGeneralList}
 use Rattle.tptp_grammar.specs.Items as g
 use Rattle.tptp_grammar.specs.Items.{IsBody, IsEnd}
-use Rattle.tptp_grammar.specs.ReadTerms.{is_mark}
-use Rattle.tptp_grammar.specs.ReadTypes.{typing}
-use Rattle.tptp_grammar.specs.ReadFormulas.{formula}
-use Rattle.tptp_grammar.specs.ReadClauses.{clause}
-use Rattle.tptp_grammar.specs.ReadGeneral.{general, nesting}
-use Rattle.tptp_grammar.specs.ReadItems.{is_typing, body_of, body, ended, Annotations, info_at, info, no_info, with_info, sourced_at, sourced, no_annotations, annotations_at, annotations}
+use Rattle.tptp_grammar.specs.code.ReadTerms.{is_mark}
+use Rattle.tptp_grammar.specs.code.ReadTypes.{typing}
+use Rattle.tptp_grammar.specs.code.ReadFormulas.{formula}
+use Rattle.tptp_grammar.specs.code.ReadClauses.{clause}
+use Rattle.tptp_grammar.specs.code.ReadGeneral.{general, nesting}
+use Rattle.tptp_grammar.specs.code.ReadItems.{is_typing, body_of, body, ended, Annotations, info_at, info, no_info, with_info, sourced_at, sourced, no_annotations, annotations_at, annotations}
 use Rattle.tptp_grammar.proofs.Marks.{is_kind, ends_literals, ends_formula, good_behind}
 use Rattle.tptp_grammar.proofs.ExactTypings.{ends_shape, good_typing}
 use Rattle.tptp_grammar.proofs.ExactFormulas.{good_formula}

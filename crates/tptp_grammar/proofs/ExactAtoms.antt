@@ -1,8 +1,9 @@
 -- The readers of atoms and inequations are exact and find all that is derived.
 use Rattle.std.proofs.Common.{◌≡◌, Bool, true, false, ℕ, ◌+◌, ◌≤◌, ◌<◌, List, [], ◌∷◌, length, Option, Some, Ok, Err, inl, refl, sym, ◌∙◌, ap, subst, codes, arith}
 use Rattle.std.specs.Str.{bytes_eq}
-use Rattle.first_fault.specs.Nesting.{plain, done, before}
-use Rattle.first_fault.specs.Reading.{Unexpected, Reader, and_then, next}
+use Rattle.first_fault.specs.Nesting.{plain}
+use Rattle.first_fault.proofs.NestingFacts.{done, before}
+use Rattle.first_fault.specs.code.Reading.{Unexpected, Reader, and_then, next}
 use Rattle.first_fault.proofs.Exact.{Exact, Inhabited, exact_after, exact_done, exact_stop, exact_token}
 use Rattle.first_fault.proofs.Found.{Found, found_as, found_after}
 use Rattle.first_fault.proofs.Good.{Good, Both, both, widen, good_both, good_choice}
@@ -18,7 +19,7 @@ use Rattle.tptp_base.specs.declared.surface.Surface.TheVariants as fm
 use Rattle.tptp_grammar.specs.Tokens.{Text, Tokens, word}
 use Rattle.tptp_grammar.specs.Terms as g
 use Rattle.tptp_grammar.specs.Terms.{IsTerm, IsApplied, IsAtom, IsInequation}
-use Rattle.tptp_grammar.specs.ReadTerms.{term, atom_of, equated_at, equated, compared_at, compared, constant, atom_at, atom, basic_at, basic}
+use Rattle.tptp_grammar.specs.code.ReadTerms.{term, atom_of, equated_at, equated, compared_at, compared, constant, atom_at, atom, basic_at, basic}
 use Rattle.tptp_grammar.proofs.Marks.{text_is, ends_term, ends_atom, ends_unit, atom_ends_term, unit_ends_atom}
 use Rattle.tptp_grammar.proofs.ExactTerms.{moves_term, moves_applied, good_term}
 

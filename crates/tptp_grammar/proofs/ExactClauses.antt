@@ -1,7 +1,8 @@
 -- The readers of clauses are exact and find all that is derived.
 use Rattle.std.proofs.Common.{◌≡◌, true, ℕ, zero, suc, ◌+◌, ◌<◌, List, [], ◌∷◌, length, Option, Some, Ok, inl, refl, arith}
-use Rattle.first_fault.specs.Nesting.{plain, done}
-use Rattle.first_fault.specs.Reading.{Reader, and_then, next, closed, separated}
+use Rattle.first_fault.specs.Nesting.{plain}
+use Rattle.first_fault.proofs.NestingFacts.{done}
+use Rattle.first_fault.specs.code.Reading.{Reader, and_then, next, closed, separated}
 use Rattle.first_fault.specs.Rules.{Listed, last, more}
 use Rattle.first_fault.proofs.Exact.{Exact, Inhabited, exact_done}
 use Rattle.first_fault.proofs.Found.{Found, found_as}
@@ -16,8 +17,8 @@ use Rattle.tptp_grammar.specs.Terms as t
 use Rattle.tptp_grammar.specs.Terms.{IsAtom}
 use Rattle.tptp_grammar.specs.Clauses as g
 use Rattle.tptp_grammar.specs.Clauses.{IsLiteral, IsClause}
-use Rattle.tptp_grammar.specs.ReadTerms.{is_mark, atom, basic}
-use Rattle.tptp_grammar.specs.ReadClauses.{atom_open, negated_at, negated, negative, literal_at, literal, literals_at, literals, clause_at, clause_by, clause_open, clause}
+use Rattle.tptp_grammar.specs.code.ReadTerms.{is_mark, atom, basic}
+use Rattle.tptp_grammar.specs.code.ReadClauses.{atom_open, negated_at, negated, negative, literal_at, literal, literals_at, literals, clause_at, clause_by, clause_open, clause}
 use Rattle.tptp_grammar.proofs.Marks.{ends_atom, ends_unit, unit_ends_atom, ends_literals, literals_end_unit, good_in, good_list}
 use Rattle.tptp_grammar.proofs.ExactAtoms.{IsBasic, of_atom, of_inequation, upper, lower, quoted, BasicHead, term_head, dollar, head_of_atom, head_of_inequation, moves_atom, moves_inequation, some_atom, good_atom, good_basic}
 

@@ -2,7 +2,7 @@
 use Rattle.std.proofs.Common.{◌≡◌, Bool, true, false, if◌then◌else◌, ℕ, zero, suc, ◌+◌, List, [], ◌∷◌, Option, Some, None, Err, refl, sym, ◌∙◌, ap, subst, codes, arith}
 use Rattle.std.specs.Str.{bytes_eq}
 use Rattle.first_fault.specs.Nesting.{plain}
-use Rattle.first_fault.specs.Reading.{Unexpected, mapped, next, closed}
+use Rattle.first_fault.specs.code.Reading.{Unexpected, mapped, next, closed}
 use Rattle.first_fault.proofs.Exact.{Exact, Inhabited, exact_stop}
 use Rattle.first_fault.proofs.Found.{Found}
 use Rattle.first_fault.proofs.Good.{Good, GoodAt, After, after, widen, good_as, good_choice, behind_token, over_token, unmapped, always}
@@ -24,10 +24,10 @@ use Rattle.tptp_grammar.specs.Formulas as f
 use Rattle.tptp_grammar.specs.Clauses as c
 use Rattle.tptp_grammar.specs.GeneralTerms as g
 use Rattle.tptp_grammar.specs.GeneralTerms.{IsFormulaOf, IsGeneralData}
-use Rattle.tptp_grammar.specs.ReadTerms.{is_mark, term}
-use Rattle.tptp_grammar.specs.ReadFormulas.{formula}
-use Rattle.tptp_grammar.specs.ReadClauses.{clause}
-use Rattle.tptp_grammar.specs.ReadGeneral.{formula_of, formula_open, formula_in_at, formula_in, term_open, term_in_at, term_in, embedded, formula_data_at, formula_data}
+use Rattle.tptp_grammar.specs.code.ReadTerms.{is_mark, term}
+use Rattle.tptp_grammar.specs.code.ReadFormulas.{formula}
+use Rattle.tptp_grammar.specs.code.ReadClauses.{clause}
+use Rattle.tptp_grammar.specs.code.ReadGeneral.{formula_of, formula_open, formula_in_at, formula_in, term_open, term_in_at, term_in, embedded, formula_data_at, formula_data}
 use Rattle.tptp_grammar.proofs.Marks.{text_is, closes, ends_term, ends_literals, ends_formula, good_in}
 use Rattle.tptp_grammar.proofs.ExactTerms.{good_term}
 use Rattle.tptp_grammar.proofs.ExactFormulas.{good_formula}

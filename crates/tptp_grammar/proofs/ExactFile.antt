@@ -1,7 +1,8 @@
 -- What the reader of all tokens answers: the items that are spelled, or the first fault.
 use Rattle.std.proofs.Common.{◌≡◌, true, false, if◌then◌else◌, ℕ, zero, suc, ◌-◌, List, [], ◌∷◌, ◌++◌, length, Ok, Err, ◌⊎◌, inl, inr, refl, sym, ◌∙◌, ap, subst, length-append, arith}
-use Rattle.first_fault.specs.Nesting.{plain, Within, WithinTo, done, before, FirstOver}
-use Rattle.first_fault.specs.Reading.{Cause, TooDeep}
+use Rattle.first_fault.specs.Nesting.{plain, Within, FirstOver}
+use Rattle.first_fault.proofs.NestingFacts.{WithinTo, done, before}
+use Rattle.first_fault.specs.code.Reading.{Cause, TooDeep}
 use Rattle.first_fault.proofs.Exact.{plain-append}
 use Rattle.first_fault.proofs.Found.{Found, over_join}
 use Rattle.first_fault.proofs.Separated.{length-plain}
@@ -15,8 +16,8 @@ use Rattle.tptp_grammar.specs.Items as g
 use Rattle.tptp_grammar.specs.Items.{IsItem}
 use Rattle.tptp_grammar.specs.Solid.{Placed, is_comment, solid}
 use Rattle.tptp_grammar.specs.Files.{Through, last_token, dropped, token, IsFile, end_of_file, comment, input}
-use Rattle.tptp_grammar.specs.ReadItems.{item}
-use Rattle.tptp_grammar.specs.ReadFile.{with_item, followed, file_from, file}
+use Rattle.tptp_grammar.specs.code.ReadItems.{item}
+use Rattle.tptp_grammar.specs.code.ReadFile.{with_item, followed, file_from, file}
 use Rattle.tptp_grammar.proofs.ExactItems.{good_item}
 
 -- ---- lists without their comments

@@ -1,7 +1,8 @@
 -- The readers of formulas are exact and find all that is derived.
 use Rattle.std.proofs.Common.{◌≡◌, Bool, true, ℕ, zero, suc, ◌+◌, ◌-◌, ◌≤◌, ◌<◌, List, [], ◌∷◌, length, Option, Some, Ok, Err, ◌⊎◌, inl, inr, refl, sym, ◌∙◌, ap, arith}
-use Rattle.first_fault.specs.Nesting.{plain, done}
-use Rattle.first_fault.specs.Reading.{TooDeep, Reader, mapped, next, closed, separated}
+use Rattle.first_fault.specs.Nesting.{plain}
+use Rattle.first_fault.proofs.NestingFacts.{done}
+use Rattle.first_fault.specs.code.Reading.{TooDeep, Reader, mapped, next, closed, separated}
 use Rattle.first_fault.specs.Rules.{Listed, last, more}
 use Rattle.first_fault.proofs.Exact.{Exact, Inhabited, Can, exact_done, exact_stop}
 use Rattle.first_fault.proofs.Found.{Found, found_as}
@@ -21,8 +22,8 @@ use Rattle.tptp_grammar.specs.Tokens.{Tokens, operator, quantifier}
 use Rattle.tptp_grammar.specs.Terms as t
 use Rattle.tptp_grammar.specs.Formulas as g
 use Rattle.tptp_grammar.specs.Formulas.{under, IsUnit, IsFormula, AreUnits}
-use Rattle.tptp_grammar.specs.ReadTerms.{is_mark, basic}
-use Rattle.tptp_grammar.specs.ReadFormulas.{bracket, joined_at, joined, formula_by, bound, scope_at, scope, quantified, unit_at, unit_by, deeper, unit, formula}
+use Rattle.tptp_grammar.specs.code.ReadTerms.{is_mark, basic}
+use Rattle.tptp_grammar.specs.code.ReadFormulas.{bracket, joined_at, joined, formula_by, bound, scope_at, scope, quantified, unit_at, unit_by, deeper, unit, formula}
 use Rattle.tptp_grammar.proofs.Marks.{ends_unit, ends_formula, formula_ends_unit, formula_ends_units, separates, good_in, good_list}
 use Rattle.tptp_grammar.proofs.ExactAtoms.{IsBasic, of_atom, of_inequation, upper, lower, quoted, BasicHead, term_head, dollar, head_of_atom, head_of_inequation, moves_atom, moves_inequation, some_atom, good_basic}
 use Rattle.tptp_grammar.proofs.ExactVariables.{IsBracket, good_bracket, moves_bound_variables, some_in_bracket}

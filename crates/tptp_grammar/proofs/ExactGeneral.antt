@@ -1,7 +1,8 @@
 -- The readers of general terms are exact and find all that is derived.
 use Rattle.std.proofs.Common.{◌≡◌, Bool, true, false, ℕ, zero, suc, ◌+◌, ◌≤◌, ◌<◌, List, [], ◌∷◌, length, Option, Some, Ok, inl, refl, ap, arith}
-use Rattle.first_fault.specs.Nesting.{plain, done, before}
-use Rattle.first_fault.specs.Reading.{Reader, and_then, next, closed, separated}
+use Rattle.first_fault.specs.Nesting.{plain}
+use Rattle.first_fault.proofs.NestingFacts.{done, before}
+use Rattle.first_fault.specs.code.Reading.{Reader, and_then, next, closed, separated}
 use Rattle.first_fault.specs.Rules.{Listed, last, more}
 use Rattle.first_fault.proofs.Exact.{Exact, Inhabited, exact_map, exact_done, exact_stop, exact_token}
 use Rattle.first_fault.proofs.Found.{Found, found_as, found_map}
@@ -17,8 +18,8 @@ use Rattle.tptp_base.specs.declared.item.GTerm.TheVariants as gt
 use Rattle.tptp_grammar.specs.Tokens.{Text, Tokens, word}
 use Rattle.tptp_grammar.specs.GeneralTerms as g
 use Rattle.tptp_grammar.specs.GeneralTerms.{IsFormulaOf, IsGeneralData, IsGeneralTerm, IsGeneralList, AreGeneralTerms}
-use Rattle.tptp_grammar.specs.ReadTerms.{is_mark, same_mark}
-use Rattle.tptp_grammar.specs.ReadGeneral.{embedded, Nesting, general_applied_at, general_applied, general_data_at, general_data_by, paired_at, paired, general_at, general_by, listed_at, listed, nesting, general}
+use Rattle.tptp_grammar.specs.code.ReadTerms.{is_mark, same_mark}
+use Rattle.tptp_grammar.specs.code.ReadGeneral.{embedded, Nesting, general_applied_at, general_applied, general_data_at, general_data_by, paired_at, paired, general_at, general_by, listed_at, listed, nesting, general}
 use Rattle.tptp_grammar.proofs.Marks.{closes, closes_list, sees_mark, good_in, good_list}
 use Rattle.tptp_grammar.proofs.ExactTerms.{moves_term}
 use Rattle.tptp_grammar.proofs.ExactFormulas.{moves_formula}

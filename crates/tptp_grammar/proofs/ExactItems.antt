@@ -1,8 +1,9 @@
 -- The readers of annotated formulas, includes and items are exact and find all that is derived.
 use Rattle.std.proofs.Common.{◌≡◌, Bool, true, false, if◌then◌else◌, ℕ, ◌+◌, List, [], ◌∷◌, Option, Some, None, Err, inl, refl, sym, ◌∙◌, ap, subst, codes, arith}
 use Rattle.std.specs.Str.{bytes_eq}
-use Rattle.first_fault.specs.Nesting.{plain, done, before}
-use Rattle.first_fault.specs.Reading.{Unexpected, and_then, next, closed, opened, separated}
+use Rattle.first_fault.specs.Nesting.{plain}
+use Rattle.first_fault.proofs.NestingFacts.{done, before}
+use Rattle.first_fault.specs.code.Reading.{Unexpected, and_then, next, closed, opened, separated}
 use Rattle.first_fault.specs.Rules.{Listed}
 use Rattle.first_fault.proofs.Exact.{Exact, Inhabited, exact_stop, exact_token}
 use Rattle.first_fault.proofs.Found.{Found}
@@ -20,8 +21,8 @@ use Rattle.tptp_base.specs.declared.item.Item.{Item}
 use Rattle.tptp_grammar.specs.Tokens.{Text, Tokens, lang_text}
 use Rattle.tptp_grammar.specs.Items as g
 use Rattle.tptp_grammar.specs.Items.{IsName, IsBody, IsSelection, IsItem}
-use Rattle.tptp_grammar.specs.ReadTerms.{is_mark, same_mark}
-use Rattle.tptp_grammar.specs.ReadItems.{name, role, lang_of, body, ended, Annotations, annotations, annotated_of, finished, bodied, with_role, named, annotated, file_name_at, file_name, name_list, selected, selection_at, selection, include_of, from_file, included, include, worded, item_at, item}
+use Rattle.tptp_grammar.specs.code.ReadTerms.{is_mark, same_mark}
+use Rattle.tptp_grammar.specs.code.ReadItems.{name, role, lang_of, body, ended, Annotations, annotations, annotated_of, finished, bodied, with_role, named, annotated, file_name_at, file_name, name_list, selected, selection_at, selection, include_of, from_file, included, include, worded, item_at, item}
 use Rattle.tptp_grammar.proofs.Marks.{text_is, closes_list, sees_mark, good_in, good_behind, good_list}
 use Rattle.tptp_grammar.proofs.ExactNames.{IsRole, good_name, good_role, moves_name, role_word}
 use Rattle.tptp_grammar.proofs.ExactAnnotations.{Ended, IsAnnotations, and_source, ended_so, ends_body, good_annotations, good_body, good_ended, of_annotations, some_ended, to_annotations, without_source}

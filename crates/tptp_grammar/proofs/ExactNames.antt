@@ -1,8 +1,9 @@
 -- The readers of names and roles are exact and find all that is derived.
 use Rattle.std.proofs.Common.{◌≡◌, Bool, true, false, if◌then◌else◌, ℕ, ◌<◌, List, [], ◌∷◌, length, Option, Some, None, Ok, Err, inl, refl, sym, ◌∙◌, ap, subst, arith}
 use Rattle.std.specs.Str.{bytes_eq}
-use Rattle.first_fault.specs.Nesting.{plain, done, before}
-use Rattle.first_fault.specs.Reading.{Unexpected, next}
+use Rattle.first_fault.specs.Nesting.{plain}
+use Rattle.first_fault.proofs.NestingFacts.{done, before}
+use Rattle.first_fault.specs.code.Reading.{Unexpected, next}
 use Rattle.first_fault.proofs.Exact.{Exact, Inhabited, exact_stop, exact_token}
 use Rattle.first_fault.proofs.Found.{Found}
 use Rattle.first_fault.proofs.Good.{Good, good_choice, always}
@@ -15,7 +16,7 @@ use Rattle.tptp_base.specs.declared.item.Role.TheVariants as rl
 use Rattle.tptp_grammar.specs.Tokens.{Text, Tokens, word, role_text}
 use Rattle.tptp_grammar.specs.Items as g
 use Rattle.tptp_grammar.specs.Items.{is_integer, IsName}
-use Rattle.tptp_grammar.specs.ReadItems.{name_at, name, all_roles, role_among, role_of, given_role, role_at, role}
+use Rattle.tptp_grammar.specs.code.ReadItems.{name_at, name, all_roles, role_among, role_of, given_role, role_at, role}
 use Rattle.tptp_grammar.proofs.Marks.{text_is}
 
 -- ---- names

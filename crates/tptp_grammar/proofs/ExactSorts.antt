@@ -1,8 +1,9 @@
 -- The readers of sorts and maps are exact and find all that is derived.
 use Rattle.std.proofs.Common.{◌≡◌, Bool, true, false, ℕ, zero, suc, ◌+◌, ◌≤◌, ◌<◌, List, [], ◌∷◌, length, Option, Some, Ok, Err, inl, refl, sym, ap, subst, codes, arith}
 use Rattle.std.specs.Str.{bytes_eq}
-use Rattle.first_fault.specs.Nesting.{plain, done, before}
-use Rattle.first_fault.specs.Reading.{Unexpected, Reader, and_then, next, closed, opened, separated}
+use Rattle.first_fault.specs.Nesting.{plain}
+use Rattle.first_fault.proofs.NestingFacts.{done, before}
+use Rattle.first_fault.specs.code.Reading.{Unexpected, Reader, and_then, next, closed, opened, separated}
 use Rattle.first_fault.specs.Rules.{Listed}
 use Rattle.first_fault.proofs.Exact.{Exact, Inhabited, exact_stop, exact_token}
 use Rattle.first_fault.proofs.Found.{Found, found_as}
@@ -17,8 +18,8 @@ use Rattle.tptp_base.specs.declared.item.Shape.TheVariants as sh
 use Rattle.tptp_grammar.specs.Tokens.{Text, Tokens, word}
 use Rattle.tptp_grammar.specs.Types as g
 use Rattle.tptp_grammar.specs.Types.{IsArgumentSort, IsResultSort, IsMap}
-use Rattle.tptp_grammar.specs.ReadTerms.{is_mark, same_mark}
-use Rattle.tptp_grammar.specs.ReadTypes.{argument_sort_at, argument_sort, result_sort_at, result_sort, map_from, inside_from_at, inside_from, inside_at, inside, mapping_at, mapping_by, map_open}
+use Rattle.tptp_grammar.specs.code.ReadTerms.{is_mark, same_mark}
+use Rattle.tptp_grammar.specs.code.ReadTypes.{argument_sort_at, argument_sort, result_sort_at, result_sort, map_from, inside_from_at, inside_from, inside_at, inside, mapping_at, mapping_by, map_open}
 use Rattle.tptp_grammar.proofs.Marks.{text_is, closes, sees_mark, good_in, good_behind, good_list}
 
 -- ---- sorts

@@ -1,7 +1,8 @@
 -- The readers of terms are exact and find all that is derived.
 use Rattle.std.proofs.Common.{◌≡◌, true, false, ℕ, zero, suc, ◌+◌, ◌≤◌, ◌<◌, List, [], ◌∷◌, length, Option, Some, Ok, inl, refl, ap, arith}
-use Rattle.first_fault.specs.Nesting.{plain, done, before}
-use Rattle.first_fault.specs.Reading.{Reader, closed, separated, next}
+use Rattle.first_fault.specs.Nesting.{plain}
+use Rattle.first_fault.proofs.NestingFacts.{done, before}
+use Rattle.first_fault.specs.code.Reading.{Reader, closed, separated, next}
 use Rattle.first_fault.specs.Rules.{Listed, last, more}
 use Rattle.first_fault.proofs.Exact.{Exact, Inhabited, exact_map, exact_done, exact_stop, exact_token}
 use Rattle.first_fault.proofs.Found.{Found, found_map}
@@ -14,7 +15,7 @@ use Rattle.tptp_base.specs.declared.surface.STerm.TheVariants as tm
 use Rattle.tptp_grammar.specs.Tokens.{Text, Tokens, word}
 use Rattle.tptp_grammar.specs.Terms as g
 use Rattle.tptp_grammar.specs.Terms.{IsTerm, IsApplied, AreTerms}
-use Rattle.tptp_grammar.specs.ReadTerms.{is_mark, same_mark, applied_at, applied, term_at, term_by, arguments, term}
+use Rattle.tptp_grammar.specs.code.ReadTerms.{is_mark, same_mark, applied_at, applied, term_at, term_by, arguments, term}
 use Rattle.tptp_grammar.proofs.Marks.{ends_term, closes, sees_mark, good_in, good_list}
 
 -- ---- each takes a token

@@ -1,8 +1,9 @@
 -- The readers of shapes and type lines are exact and find all that is derived.
 use Rattle.std.proofs.Common.{◌≡◌, Bool, true, false, ℕ, zero, suc, ◌+◌, ◌≤◌, List, [], ◌∷◌, Option, Some, Ok, inl, refl, sym, ap, subst, codes, arith}
 use Rattle.std.specs.Str.{bytes_eq}
-use Rattle.first_fault.specs.Nesting.{plain, done, before}
-use Rattle.first_fault.specs.Reading.{Reader, next, closed, opened}
+use Rattle.first_fault.specs.Nesting.{plain}
+use Rattle.first_fault.proofs.NestingFacts.{done, before}
+use Rattle.first_fault.specs.code.Reading.{Reader, next, closed, opened}
 use Rattle.first_fault.proofs.Exact.{Exact, Inhabited, exact_done, exact_stop, exact_token}
 use Rattle.first_fault.proofs.Found.{Found, found_as}
 use Rattle.first_fault.proofs.Good.{Good, GoodAt, After, after, Both, both, widen, alike, good_both, good_choice, good_map, behind_token, over_token, unmapped, always}
@@ -17,8 +18,8 @@ use Rattle.tptp_base.specs.declared.item.Typing.{Typing}
 use Rattle.tptp_grammar.specs.Tokens.{Text, Tokens, word}
 use Rattle.tptp_grammar.specs.Types as g
 use Rattle.tptp_grammar.specs.Types.{IsArgumentSort, IsShape, IsTyping}
-use Rattle.tptp_grammar.specs.ReadTerms.{is_mark}
-use Rattle.tptp_grammar.specs.ReadTypes.{argument_sort, map_from, map_open, after_sort_at, after_sort, from_sort, shape_at, shape, typing_of, typed, typing_at, typing_by, typing_open, typing}
+use Rattle.tptp_grammar.specs.code.ReadTerms.{is_mark}
+use Rattle.tptp_grammar.specs.code.ReadTypes.{argument_sort, map_from, map_open, after_sort_at, after_sort, from_sort, shape_at, shape, typing_of, typed, typing_at, typing_by, typing_open, typing}
 use Rattle.tptp_grammar.proofs.Marks.{text_is, good_in, good_behind}
 use Rattle.tptp_grammar.proofs.ExactSorts.{MapFrom, OpenMap, SortHead, arrow, good_argument_sort, good_map_from, good_map_open, head_of_sort, in_map, in_product, individual, lower, of_open, quoted}
 

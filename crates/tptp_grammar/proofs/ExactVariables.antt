@@ -1,7 +1,8 @@
 -- The readers of bound variables are exact and find all that is derived.
 use Rattle.std.proofs.Common.{◌≡◌, Bool, true, false, ℕ, zero, suc, ◌+◌, ◌≤◌, ◌<◌, List, [], ◌∷◌, length, Option, Some, None, Ok, inl, refl, arith}
-use Rattle.first_fault.specs.Nesting.{plain, done}
-use Rattle.first_fault.specs.Reading.{next, closed, separated}
+use Rattle.first_fault.specs.Nesting.{plain}
+use Rattle.first_fault.proofs.NestingFacts.{done}
+use Rattle.first_fault.specs.code.Reading.{next, closed, separated}
 use Rattle.first_fault.specs.Rules.{Listed, last, more}
 use Rattle.first_fault.proofs.Exact.{Exact, Inhabited, exact_done, exact_stop}
 use Rattle.first_fault.proofs.Found.{Found, found_as}
@@ -14,9 +15,9 @@ use Rattle.tptp_grammar.specs.Tokens.{Text, Tokens}
 use Rattle.tptp_grammar.specs.Types.{IsArgumentSort}
 use Rattle.tptp_grammar.specs.Formulas as g
 use Rattle.tptp_grammar.specs.Formulas.{IsBoundVariable, AreBoundVariables}
-use Rattle.tptp_grammar.specs.ReadTerms.{is_mark, same_mark}
-use Rattle.tptp_grammar.specs.ReadTypes.{argument_sort}
-use Rattle.tptp_grammar.specs.ReadFormulas.{bound_of, sorted_at, sorted, bound_variable_at, bound_variable, bound_variables, bracket_at, bracket}
+use Rattle.tptp_grammar.specs.code.ReadTerms.{is_mark, same_mark}
+use Rattle.tptp_grammar.specs.code.ReadTypes.{argument_sort}
+use Rattle.tptp_grammar.specs.code.ReadFormulas.{bound_of, sorted_at, sorted, bound_variable_at, bound_variable, bound_variables, bracket_at, bracket}
 use Rattle.tptp_grammar.proofs.Marks.{closes_list, sees_mark, good_in, good_list}
 use Rattle.tptp_grammar.proofs.ExactSorts.{moves_argument_sort, good_argument_sort}
 

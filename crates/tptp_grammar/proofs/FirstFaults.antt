@@ -1,7 +1,7 @@
 -- What the reader of all tokens answers comes with a derivation, or with a way to go on from before the fault.
 use Rattle.std.proofs.Common.{◌≡◌, Bool, true, false, if◌then◌else◌, ℕ, zero, suc, ◌≤◌, ◌<◌, List, [], ◌∷◌, ◌++◌, length, Ok, Err, refl, sym, ◌∙◌, ap, subst, append_assoc, append-nil, length-append, arith}
 use Rattle.first_fault.specs.Nesting.{Nested, plain, Within}
-use Rattle.first_fault.specs.Reading.{Cause, Unexpected, TooDeep, Outcome, next}
+use Rattle.first_fault.specs.code.Reading.{Cause, Unexpected, TooDeep, Outcome, next}
 use Rattle.first_fault.proofs.Exact.{Exact, Over, within-append, plain-append, by_next}
 use Rattle.tptp_lexer.specs.declared.token.Token.{Token}
 use Rattle.tptp_lexer.specs.declared.token.Token.TheVariants.{Comment}
@@ -13,8 +13,8 @@ use Rattle.tptp_grammar.specs.Items as g
 use Rattle.tptp_grammar.specs.Items.{IsItem}
 use Rattle.tptp_grammar.specs.Solid.{Placed, is_comment, is_remark, solid, BeginsSolid}
 use Rattle.tptp_grammar.specs.Files.{token, IsFile, end_of_file, comment, input, SpellsWithin}
-use Rattle.tptp_grammar.specs.ReadItems.{item}
-use Rattle.tptp_grammar.specs.ReadFile.{FileOutcome, with_item, file}
+use Rattle.tptp_grammar.specs.code.ReadItems.{item}
+use Rattle.tptp_grammar.specs.code.ReadFile.{FileOutcome, with_item, file}
 use Rattle.tptp_grammar.proofs.SolidItems.{SolidTo, none, one, of_item}
 use Rattle.tptp_grammar.proofs.ExactItems.{good_item}
 use Rattle.tptp_grammar.proofs.ExactFile.{Ends, comment_text, solid_kept, solid_ends, through_of, item_read, item_fails, started_comment}

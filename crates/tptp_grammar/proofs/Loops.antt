@@ -1,6 +1,6 @@
 -- What the loops over lists do at each turn.
 use Rattle.std.proofs.Common.{◌≡◌, Bool, true, ℕ, List, Err, arith}
-use Rattle.first_fault.specs.Reading.{Cause, Unexpected, TooDeep, Outcome, Reader, sees, after_seen, separated}
+use Rattle.first_fault.specs.code.Reading.{Cause, Unexpected, TooDeep, Outcome, Reader, sees, after_seen, separated}
 use Rattle.first_fault.proofs.Loops.{Steps, steps, members, turn_fails}
 use Rattle.first_fault.proofs.Separated.{separated_err}
 use Rattle.tptp_lexer.specs.declared.token.Token.{Token}
@@ -8,19 +8,19 @@ use Rattle.tptp_lexer.specs.declared.token.Mark.{Mark}
 use Rattle.tptp_lexer.specs.declared.token.Mark.TheVariants as m
 use Rattle.tptp_grammar.specs.declared.stop.Stop.{Stop}
 use Rattle.tptp_grammar.specs.declared.stop.Stop.TheVariants as stop
-use Rattle.tptp_grammar.specs.Outcomes.{Fails}
+use Rattle.tptp_grammar.specs.code.Outcomes.{Fails}
 use Rattle.tptp_grammar.specs.Terms.{IsTerm}
-use Rattle.tptp_grammar.specs.ReadTerms.{is_mark, term}
+use Rattle.tptp_grammar.specs.code.ReadTerms.{is_mark, term}
 use Rattle.tptp_grammar.specs.Types.{IsArgumentSort}
 use Rattle.tptp_grammar.specs.Clauses.{IsLiteral}
 use Rattle.tptp_grammar.specs.Formulas.{IsBoundVariable, IsUnit}
 use Rattle.tptp_grammar.specs.GeneralTerms.{IsGeneralTerm}
 use Rattle.tptp_grammar.specs.Items.{IsName}
-use Rattle.tptp_grammar.specs.ReadTypes.{argument_sort}
-use Rattle.tptp_grammar.specs.ReadClauses.{literal}
-use Rattle.tptp_grammar.specs.ReadFormulas.{bound_variable, unit}
-use Rattle.tptp_grammar.specs.ReadGeneral.{general}
-use Rattle.tptp_grammar.specs.ReadItems.{name}
+use Rattle.tptp_grammar.specs.code.ReadTypes.{argument_sort}
+use Rattle.tptp_grammar.specs.code.ReadClauses.{literal}
+use Rattle.tptp_grammar.specs.code.ReadFormulas.{bound_variable, unit}
+use Rattle.tptp_grammar.specs.code.ReadGeneral.{general}
+use Rattle.tptp_grammar.specs.code.ReadItems.{name}
 use Rattle.tptp_grammar.proofs.ExactTerms.{moves_term, good_term}
 use Rattle.tptp_grammar.proofs.ExactSorts.{moves_argument_sort, good_argument_sort}
 use Rattle.tptp_grammar.proofs.ExactClauses.{moves_literal, good_literal}

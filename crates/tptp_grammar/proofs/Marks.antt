@@ -3,7 +3,7 @@ use Rattle.std.proofs.Common.{◌≡◌, ℕ, ◌≤◌, ◌∷◌, Bool, true, 
 use Rattle.std.proofs.lemmas.Slice.Eq.{bytes_eq-Decides}
 use Rattle.std.specs.Str.{bytes_eq}
 use denote.Enum.Bare.{same_true}
-use Rattle.first_fault.specs.Reading.{Reader, closed, separated, opened}
+use Rattle.first_fault.specs.code.Reading.{Reader, closed, separated, opened}
 use Rattle.first_fault.specs.Rules.{Rule, Listed}
 use Rattle.first_fault.proofs.Good.{IsKind, Good, After, good_closed, good_opened}
 use Rattle.first_fault.proofs.Separated.{Moves, sees_next, good_listed}
@@ -13,7 +13,7 @@ use Rattle.tptp_lexer.specs.declared.token.Token.TheVariants.{Lower, Quoted, Upp
 use Rattle.tptp_lexer.specs.declared.token.Mark.{Mark}
 use Rattle.tptp_lexer.specs.declared.token.Mark.TheVariants as m
 use Rattle.tptp_grammar.specs.Tokens.{Text}
-use Rattle.tptp_grammar.specs.ReadTerms.{same_mark, is_mark}
+use Rattle.tptp_grammar.specs.code.ReadTerms.{same_mark, is_mark}
 
 mark_itself : (mark : Mark) → is_mark mark (Sign mark) ≡ true
 unfolding same_mark

@@ -1,6 +1,6 @@
 -- What the readers do at a token that takes some of the nesting that is left.
 use Rattle.std.proofs.Common.{◌≡◌, Bool, ℕ, zero, suc, ◌-◌, ◌≤◌, ◌<◌, List, [], ◌∷◌, length, Result, Ok, Err, refl, sym, ◌∙◌, ap, subst, arith}
-use Rattle.first_fault.specs.Reading.{TooDeep, Reader, Outcome, mapped, tail, closed, separated}
+use Rattle.first_fault.specs.code.Reading.{TooDeep, Reader, Outcome, mapped, tail, closed, separated}
 use Rattle.first_fault.proofs.Exact.{Exact, IsRead}
 use Rattle.tptp_lexer.specs.declared.token.Token.{Token}
 use Rattle.tptp_lexer.specs.declared.token.Mark.TheVariants as m
@@ -8,11 +8,11 @@ use Rattle.tptp_base.specs.declared.surface.BoundVar.{BoundVar}
 use Rattle.tptp_base.specs.declared.item.GTerm.{GTerm}
 use Rattle.tptp_base.specs.declared.item.GTerm.TheVariants as gt
 use Rattle.tptp_grammar.specs.declared.stop.Stop.{Stop}
-use Rattle.tptp_grammar.specs.Outcomes.{Reads}
-use Rattle.tptp_grammar.specs.ReadTerms.{is_mark}
-use Rattle.tptp_grammar.specs.ReadTypes.{inside, mapping, map_open, typing, typing_open}
-use Rattle.tptp_grammar.specs.ReadFormulas.{bracket, deeper, unit, formula_by, formula, parenthesis}
-use Rattle.tptp_grammar.specs.ReadGeneral.{general, nesting, listed, general_arguments, general_bracketed, general_pair}
+use Rattle.tptp_grammar.specs.code.Outcomes.{Reads}
+use Rattle.tptp_grammar.specs.code.ReadTerms.{is_mark}
+use Rattle.tptp_grammar.specs.code.ReadTypes.{inside, mapping, map_open, typing, typing_open}
+use Rattle.tptp_grammar.specs.code.ReadFormulas.{bracket, deeper, unit, formula_by, formula, parenthesis}
+use Rattle.tptp_grammar.specs.code.ReadGeneral.{general, nesting, listed, general_arguments, general_bracketed, general_pair}
 use Rattle.tptp_grammar.proofs.ExactFormulas.{deeper_is, deeper_none}
 use Rattle.tptp_grammar.proofs.ExactVariables.{good_bracket, some_in_bracket, IsBracket}
 

@@ -1,6 +1,6 @@
 -- Tokens have an answer, and only one.
 use Rattle.std.proofs.Common.{◌≡◌, Bool, true, false, if◌then◌else◌, List, [], ◌∷◌, ◌++◌, length, Option, Some, None, Result, Ok, Err, ◌⊎◌, inl, inr, refl, sym, ◌∙◌, ap, subst, append_assoc}
-use Rattle.first_fault.specs.Reading.{Cause, Unexpected, TooDeep}
+use Rattle.first_fault.specs.code.Reading.{Cause, Unexpected, TooDeep}
 use Rattle.tptp_lexer.specs.declared.token.Token.{Token}
 use Rattle.tptp_base.specs.declared.place.Place.{Place}
 use Rattle.tptp_base.specs.declared.item.Item.{Item}
@@ -10,8 +10,9 @@ use Rattle.tptp_grammar.specs.declared.fault.GrammarFault.TheVariants as fault
 use Rattle.tptp_grammar.specs.Solid.{Placed}
 use Rattle.tptp_grammar.specs.Files.{IsFile, IsPossible, IsPossibleWithin}
 use Rattle.tptp_grammar.specs.Faults.{max_nesting, is_outside, IsUnfinished}
-use Rattle.tptp_grammar.specs.ReadFile.{FileOutcome, file}
+use Rattle.tptp_grammar.specs.code.ReadFile.{FileOutcome, file}
 use Rattle.tptp_grammar.specs.Answers as a
+use Rattle.tptp_grammar.specs.code.Answers as a_code
 use Rattle.tptp_grammar.specs.Laws.{IsOne, HasAnswer}
 use Rattle.tptp_grammar.proofs.Whole.{ok_says, fault_says, one_list}
 use Rattle.tptp_grammar.proofs.Stuck.{Stuck, same_stuck, possible_within, possible_so, not_possible, deep_stuck}
@@ -19,7 +20,7 @@ use Rattle.tptp_grammar.proofs.Stuck.{Stuck, same_stuck, possible_within, possib
 module _ (tokens : List Placed) (end : Place) where
   -- the fault of an impossible token
   abbrev refusal : Placed → GrammarFault
-  refusal entry = a.refusal_at (Some entry) end
+  refusal entry = a_code.refusal_at (Some entry) end
 
   -- a fault at the token at which the list can't be gone on from
   record Spot (f : GrammarFault) : Type 0 where
@@ -115,21 +116,21 @@ module _ (tokens : List Placed) (end : Place) where
   outside_not true place e = cc
   outside_not false place e = cc
 
-  refusal_not : (o : Option Placed) → a.refusal_at o end ≡ fault.Memory → ⊥
+  refusal_not : (o : Option Placed) → a_code.refusal_at o end ≡ fault.Memory → ⊥
   refusal_not None e = cc
   refusal_not (Some entry) e = outside_not (is_outside entry.0) entry.1 e
 
-  depth_not : (o : Option Placed) → a.depth_at o end ≡ fault.Memory → ⊥
+  depth_not : (o : Option Placed) → a_code.depth_at o end ≡ fault.Memory → ⊥
   depth_not None e = cc
   depth_not (Some entry) e = cc
 
   by_fault : (c : Cause) (left : List Token) → file max_nesting tokens ≡ Err (c, left) → HasAnswer tokens end
   by_fault Unexpected left e =
-      let o = a.entry_at (length left) tokens in
-      (Err (a.refusal_at o end), no_memory (a.refusal_at o end) (refusal_not o), fault_says tokens end stop.Unexpected (length left) (left, refl, e))
+      let o = a_code.entry_at (length left) tokens in
+      (Err (a_code.refusal_at o end), no_memory (a_code.refusal_at o end) (refusal_not o), fault_says tokens end stop.Unexpected (length left) (left, refl, e))
   by_fault TooDeep left e =
-      let o = a.entry_at (length left) tokens in
-      (Err (a.depth_at o end), no_memory (a.depth_at o end) (depth_not o), fault_says tokens end stop.TooDeep (length left) (left, refl, e))
+      let o = a_code.entry_at (length left) tokens in
+      (Err (a_code.depth_at o end), no_memory (a_code.depth_at o end) (depth_not o), fault_says tokens end stop.TooDeep (length left) (left, refl, e))
 
   by_outcome : (o : FileOutcome) → file max_nesting tokens ≡ o → HasAnswer tokens end
   by_outcome (Ok items) e = (Ok items, λ never. (cc), ok_says tokens items e)

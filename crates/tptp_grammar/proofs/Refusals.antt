@@ -3,8 +3,8 @@ use Rattle.std.proofs.Common.{◌≡◌, Result, Ok, Err, sym, subst}
 use Rattle.std.specs.Prelude.{IfErr}
 use Rattle.std.specs.Result.{IsErrAnd}
 use Rattle.tptp_grammar.specs.declared.reading.Refusal.{Refusal}
-use Rattle.tptp_grammar.specs.ReadFile.{FileOutcome}
-use Rattle.tptp_grammar.specs.Answers.{Stopped}
+use Rattle.tptp_grammar.specs.code.ReadFile.{FileOutcome}
+use Rattle.tptp_grammar.specs.code.Answers.{Stopped}
 
 pub handed_on : {A : Type 0} (o : FileOutcome) (res : Result A Refusal) (r : Refusal) → IsErrAnd res (λ e. e ≡ r) → Stopped o r.stop r.left → IfErr res (λ e. Stopped o e.stop e.left)
 handed_on o (Ok x) r h k = tt

@@ -3,7 +3,7 @@
 use Rattle.std.proofs.Common.{◌≡◌, Bool, true, false, if◌then◌else◌, ℕ, suc, ◌+◌, ◌≤◌, ◌<◌, List, [], ◌∷◌, ◌++◌, length, Ok, Err, ◌⊎◌, inl, inr, refl, sym, ◌∙◌, ap, subst, append_assoc, append-nil, length-append, arith}
 use Rattle.std.proofs.lemmas.List.{append_cancel_left}
 use Rattle.first_fault.specs.Nesting.{Nested, plain, Within, FirstOver, here, behind}
-use Rattle.first_fault.specs.Reading.{TooDeep, next}
+use Rattle.first_fault.specs.code.Reading.{TooDeep, next}
 use Rattle.first_fault.proofs.Exact.{plain-append}
 use Rattle.first_fault.proofs.Separated.{length-plain}
 use Rattle.tptp_lexer.specs.declared.token.Token.{Token}
@@ -11,7 +11,7 @@ use Rattle.tptp_base.specs.declared.item.Item.{Item}
 use Rattle.tptp_grammar.specs.Tokens.{Tokens}
 use Rattle.tptp_grammar.specs.Solid.{Placed, is_comment, is_remark, solid, BeginsSolid}
 use Rattle.tptp_grammar.specs.Files.{IsFile, SpellsWithin, IsPossible, IsPossibleWithin}
-use Rattle.tptp_grammar.specs.ReadFile.{FileOutcome, file}
+use Rattle.tptp_grammar.specs.code.ReadFile.{FileOutcome, file}
 use Rattle.tptp_grammar.proofs.ExactFile.{solid_kept, solid_file, found_file}
 use Rattle.tptp_grammar.proofs.FirstFaults.{FileFault, FileSays, file_says}
 use Rattle.tptp_grammar.proofs.Whole.{solid_longer}

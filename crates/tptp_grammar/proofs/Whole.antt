@@ -3,7 +3,7 @@ use Rattle.std.proofs.Common.{◌≡◌, ◌==◌, ◌&&◌, not, Bool, true, fa
 use Rattle.std.proofs.Math.Seq.{drop-append_seam}
 use Rattle.std.proofs.lemmas.Bool.Decides.{nat_tests}
 use Rattle.first_fault.specs.Nesting.{plain, Within, FirstOver, here, behind}
-use Rattle.first_fault.specs.Reading.{Cause, Unexpected, TooDeep, Outcome, next}
+use Rattle.first_fault.specs.code.Reading.{Cause, Unexpected, TooDeep, Outcome, next}
 use Rattle.first_fault.proofs.Exact.{Exact, IsRead}
 use Rattle.tptp_lexer.specs.declared.token.Token.{Token}
 use Rattle.tptp_lexer.specs.declared.token.Token.TheVariants.{Comment}
@@ -18,10 +18,11 @@ use Rattle.tptp_grammar.specs.Items.{IsItem}
 use Rattle.tptp_grammar.specs.Solid.{Placed, is_comment, is_remark, solid, BeginsSolid}
 use Rattle.tptp_grammar.specs.Files.{IsFile, Spells, SpellsWithin, IsPossible, IsPossibleWithin}
 use Rattle.tptp_grammar.specs.Faults.{max_nesting, is_outside, IsImpossible, IsUnfinished, IsDeep}
-use Rattle.tptp_grammar.specs.Outcomes.{Fails}
-use Rattle.tptp_grammar.specs.ReadItems.{item}
-use Rattle.tptp_grammar.specs.ReadFile.{FileOutcome, with_item, followed, started, file_from, file}
+use Rattle.tptp_grammar.specs.code.Outcomes.{Fails}
+use Rattle.tptp_grammar.specs.code.ReadItems.{item}
+use Rattle.tptp_grammar.specs.code.ReadFile.{FileOutcome, with_item, followed, started, file_from, file}
 use Rattle.tptp_grammar.specs.Answers as a
+use Rattle.tptp_grammar.specs.code.Answers as a_code
 use Rattle.tptp_grammar.proofs.ExactItems.{good_item}
 use Rattle.tptp_grammar.proofs.ExactFile.{solid_kept, solid_dropped, comment_text, found_file}
 use Rattle.tptp_grammar.proofs.FirstFaults.{FileFault, FileSays, file_says, some_item}
@@ -93,19 +94,19 @@ module _ (all : List Placed) (found : List Item) (left : ℕ) (entry : Placed) (
   pub kept_token : is_comment entry.0 ≡ false → Kept all found (left - 1) ts cursor
   kept_token e = let k : left ≡ suc (left - 1) = omega (arith, some) in skipped (left - 1) k false e
 
-starts_item : (t : Token) (place : Place) (old : List Token) (i : Item) (left : ℕ) (new : List Token) → is_comment t ≡ false → a.Starts max_nesting t place old i left new → (item max_nesting place old ≡ Ok (i, new)) × (suc (left + length new) ≡ length old)
+starts_item : (t : Token) (place : Place) (old : List Token) (i : Item) (left : ℕ) (new : List Token) → is_comment t ≡ false → a_code.Starts max_nesting t place old i left new → (item max_nesting place old ≡ Ok (i, new)) × (suc (left + length new) ≡ length old)
 starts_item (Comment text) place old i left new e h = cc
 starts_item t place old i left new e h = h
 
-starts_comment : (t : Token) (place : Place) (old : List Token) (i : Item) (left : ℕ) (new : List Token) (text : Text) → t ≡ Comment text → a.Starts max_nesting t place old i left new → (i ≡ it.Comment text) × (left ≡ 0) × (new ≡ old)
-starts_comment t place old i left new text e h = subst (λ u. a.Starts max_nesting u place old i left new) e h
+starts_comment : (t : Token) (place : Place) (old : List Token) (i : Item) (left : ℕ) (new : List Token) (text : Text) → t ≡ Comment text → a_code.Starts max_nesting t place old i left new → (i ≡ it.Comment text) × (left ≡ 0) × (new ≡ old)
+starts_comment t place old i left new text e h = subst (λ u. a_code.Starts max_nesting u place old i left new) e h
 
-fails_item : (t : Token) (place : Place) (old : List Token) (s : Stop) (left : ℕ) (new : List Token) → is_comment t ≡ false → a.StartFails max_nesting t place old s left new → Fails (item max_nesting place old) s new × (left ≡ length new)
+fails_item : (t : Token) (place : Place) (old : List Token) (s : Stop) (left : ℕ) (new : List Token) → is_comment t ≡ false → a_code.StartFails max_nesting t place old s left new → Fails (item max_nesting place old) s new × (left ≡ length new)
 fails_item (Comment text) place old s left new e h = cc
 fails_item t place old s left new e h = h
 
-fails_comment : (t : Token) (place : Place) (old : List Token) (s : Stop) (left : ℕ) (new : List Token) (text : Text) → t ≡ Comment text → a.StartFails max_nesting t place old s left new → s ≡ stop.Memory
-fails_comment t place old s left new text e h = subst (λ u. a.StartFails max_nesting u place old s left new) e h
+fails_comment : (t : Token) (place : Place) (old : List Token) (s : Stop) (left : ℕ) (new : List Token) (text : Text) → t ≡ Comment text → a_code.StartFails max_nesting t place old s left new → s ≡ stop.Memory
+fails_comment t place old s left new text e h = subst (λ u. a_code.StartFails max_nesting u place old s left new) e h
 
 from_item : (t : Token) (place : Place) (ts : List Placed) → is_comment t ≡ false → file_from max_nesting zero ((t, place) ∷ ts) ≡ followed (item max_nesting place (t ∷ solid ts)) (λ left. file_from max_nesting left ts) (length (solid ts))
 from_item (Comment text) place ts e = cc
@@ -118,7 +119,7 @@ module _ (all : List Placed) (found : List Item) (entry : Placed) (ts us : List 
   cursor_is : is_comment entry.0 ≡ false → cursor ≡ entry.0 ∷ solid ts
   cursor_is e = h.0 ∙ ap solid is ∙ solid_kept entry.0 entry.1 ts e
 
-  start_at : (b : Bool) → is_comment entry.0 ≡ b → (i : Item) (left : ℕ) (new : List Token) → a.Starts max_nesting entry.0 entry.1 cursor i left new → Kept all (found ++ (i ∷ [])) left ts new
+  start_at : (b : Bool) → is_comment entry.0 ≡ b → (i : Item) (left : ℕ) (new : List Token) → a_code.Starts max_nesting entry.0 entry.1 cursor i left new → Kept all (found ++ (i ∷ [])) left ts new
   start_at true e i left new k =
       let c = comment_text entry.0 e in
       let s = starts_comment entry.0 entry.1 cursor i left new c.0 c.1 k in (
@@ -137,32 +138,32 @@ module _ (all : List Placed) (found : List Item) (entry : Placed) (ts us : List 
       )
 
   -- between items
-  pub kept_start : (i : Item) (left : ℕ) (new : List Token) → a.Starts max_nesting entry.0 entry.1 cursor i left new → Kept all (found ++ (i ∷ [])) left ts new
+  pub kept_start : (i : Item) (left : ℕ) (new : List Token) → a_code.Starts max_nesting entry.0 entry.1 cursor i left new → Kept all (found ++ (i ∷ [])) left ts new
   kept_start i left new k = start_at (is_comment entry.0) refl i left new k
 
-  stopped_by : (s : Stop) (left : ℕ) (new : List Token) → is_comment entry.0 ≡ false → Fails (item max_nesting entry.1 (entry.0 ∷ solid ts)) s new → left ≡ length new → a.Stopped (file max_nesting all) s left
+  stopped_by : (s : Stop) (left : ℕ) (new : List Token) → is_comment entry.0 ≡ false → Fails (item max_nesting entry.1 (entry.0 ∷ solid ts)) s new → left ≡ length new → a_code.Stopped (file max_nesting all) s left
   stopped_by stop.Memory left new e k n = tt
   stopped_by stop.Unexpected left new e k n = (new, sym n, whole ∙ ap (with_items found) (from_item entry.0 entry.1 ts e) ∙ ap (λ o. with_items found (followed o (λ m. file_from max_nesting m ts) (length (solid ts)))) k)
   stopped_by stop.TooDeep left new e k n = (new, sym n, whole ∙ ap (with_items found) (from_item entry.0 entry.1 ts e) ∙ ap (λ o. with_items found (followed o (λ m. file_from max_nesting m ts) (length (solid ts)))) k)
 
-  no_memory : (s : Stop) (left : ℕ) → s ≡ stop.Memory → a.Stopped (file max_nesting all) s left
-  no_memory s left e = subst (λ q. a.Stopped (file max_nesting all) q left) (sym e) tt
+  no_memory : (s : Stop) (left : ℕ) → s ≡ stop.Memory → a_code.Stopped (file max_nesting all) s left
+  no_memory s left e = subst (λ q. a_code.Stopped (file max_nesting all) q left) (sym e) tt
 
-  stop_at : (b : Bool) → is_comment entry.0 ≡ b → (s : Stop) (left : ℕ) (new : List Token) → a.StartFails max_nesting entry.0 entry.1 cursor s left new → a.Stopped (file max_nesting all) s left
+  stop_at : (b : Bool) → is_comment entry.0 ≡ b → (s : Stop) (left : ℕ) (new : List Token) → a_code.StartFails max_nesting entry.0 entry.1 cursor s left new → a_code.Stopped (file max_nesting all) s left
   stop_at true e s left new k = let c = comment_text entry.0 e in no_memory s left (fails_comment entry.0 entry.1 cursor s left new c.0 c.1 k)
   stop_at false e s left new k =
       let f = fails_item entry.0 entry.1 cursor s left new e k in stopped_by s left new e (subst (λ l. Fails (item max_nesting entry.1 l) s new) (cursor_is e) f.0) f.1
 
-  pub stops : (s : Stop) (left : ℕ) (new : List Token) → a.StartFails max_nesting entry.0 entry.1 cursor s left new → a.Stopped (file max_nesting all) s left
+  pub stops : (s : Stop) (left : ℕ) (new : List Token) → a_code.StartFails max_nesting entry.0 entry.1 cursor s left new → a_code.Stopped (file max_nesting all) s left
   stops s left new k = stop_at (is_comment entry.0) refl s left new k
 
-pub out_of_memory : (all : List Placed) (s : Stop) (left : ℕ) → s ≡ stop.Memory → a.Stopped (file max_nesting all) s left
-out_of_memory all s left e = subst (λ q. a.Stopped (file max_nesting all) q left) (sym e) tt
+pub out_of_memory : (all : List Placed) (s : Stop) (left : ℕ) → s ≡ stop.Memory → a_code.Stopped (file max_nesting all) s left
+out_of_memory all s left e = subst (λ q. a_code.Stopped (file max_nesting all) q left) (sym e) tt
 
 -- ---- where the fault stands
 
-entry_by : (b : Bool) (left : ℕ) (entry : Placed) (rest : List Placed) → not (is_remark entry) && (length (solid (entry ∷ rest)) == left) ≡ b → a.entry_at left (entry ∷ rest) ≡ (if b then Some entry else a.entry_at left rest)
-entry_by b left entry rest e = ap (λ c. if c then Some entry else a.entry_at left rest) e
+entry_by : (b : Bool) (left : ℕ) (entry : Placed) (rest : List Placed) → not (is_remark entry) && (length (solid (entry ∷ rest)) == left) ≡ b → a_code.entry_at left (entry ∷ rest) ≡ (if b then Some entry else a_code.entry_at left rest)
+entry_by b left entry rest e = ap (λ c. if c then Some entry else a_code.entry_at left rest) e
 
 longer_at : (b : Bool) (c : Placed) (us : List Token) (n : ℕ) → n ≤ length us → n ≤ length (if b then us else c.0 ∷ us)
 longer_at true c us n le = le
@@ -189,7 +190,7 @@ not_here false c rest left e le =
 is_here : (c : Placed) (rest : List Placed) (left : ℕ) → is_remark c ≡ false → length (solid (c ∷ rest)) ≡ left → (not (is_remark c) && (length (solid (c ∷ rest)) == left)) ≡ true
 is_here c rest left e k = ap (λ b. not b && (length (solid (c ∷ rest)) == left)) e ∙ same_number (length (solid (c ∷ rest))) left k
 
-pub entry_found : (front rest : List Placed) (left : ℕ) → BeginsSolid rest → length (solid rest) ≡ left → a.entry_at left (front ++ rest) ≡ next rest
+pub entry_found : (front rest : List Placed) (left : ℕ) → BeginsSolid rest → length (solid rest) ≡ left → a_code.entry_at left (front ++ rest) ≡ next rest
 entry_found [] [] left h e = refl
 entry_found [] (c ∷ rest) left h e = entry_by true left c rest (is_here c rest left h e)
 entry_found (c ∷ front) rest left h e = entry_by false left c (front ++ rest) (not_here (is_remark c) c (front ++ rest) left refl (omega (arith, e, solid_longer front rest))) ∙ entry_found front rest left h e
@@ -247,11 +248,11 @@ module _ (raw : List Placed) (end : Place) where
         let whole : raw ≡ h.front = h.text ∙ ap (λ l. h.front ++ l) is ∙ append-nil h.front in
         record { possible = subst (IsPossibleWithin max_nesting) (sym whole) possible_front; nothing = λ items s. spelled_not_unexpected max_nesting items raw s.0 s.1 left e }
 
-    unexpected_by : (rest : List Placed) → h.rest ≡ rest → a.FaultIs raw end (a.refusal_at (next rest) end)
+    unexpected_by : (rest : List Placed) → h.rest ≡ rest → a.FaultIs raw end (a_code.refusal_at (next rest) end)
     unexpected_by [] is = (refl, end_by is)
     unexpected_by (x ∷ others) is = outside_by x others is (is_outside x.0) refl
 
-  deep_by : (left : List Token) → (h : FileFault max_nesting raw TooDeep left) → a.FaultIs raw end (a.depth_at (next h.rest) end)
+  deep_by : (left : List Token) → (h : FileFault max_nesting raw TooDeep left) → a.FaultIs raw end (a_code.depth_at (next h.rest) end)
   deep_by left h =
       let o = h.over in
       let deep : IsDeep max_nesting raw o.place = record {
@@ -269,19 +270,19 @@ module _ (raw : List Placed) (end : Place) where
         within = h.within;
         deep = o.deep;
       } in
-      subst (λ r. a.FaultIs raw end (a.depth_at (next r) end)) (sym o.rest_is) deep
+      subst (λ r. a.FaultIs raw end (a_code.depth_at (next r) end)) (sym o.rest_is) deep
 
-  entry_is : (cause : Cause) (left : List Token) (n : ℕ) → length left ≡ n → (h : FileFault max_nesting raw cause left) → a.entry_at n raw ≡ next h.rest
-  entry_is cause left n e h = ap (a.entry_at n) h.text ∙ entry_found h.front h.rest n h.begins (ap length h.left_is ∙ e)
+  entry_is : (cause : Cause) (left : List Token) (n : ℕ) → length left ≡ n → (h : FileFault max_nesting raw cause left) → a_code.entry_at n raw ≡ next h.rest
+  entry_is cause left n e h = ap (a_code.entry_at n) h.text ∙ entry_found h.front h.rest n h.begins (ap length h.left_is ∙ e)
 
-  pub fault_says : (s : Stop) (n : ℕ) → a.Stopped (file max_nesting raw) s n → a.FaultIs raw end (a.fault_of s (a.entry_at n raw) end)
+  pub fault_says : (s : Stop) (n : ℕ) → a_code.Stopped (file max_nesting raw) s n → a.FaultIs raw end (a_code.fault_of s (a_code.entry_at n raw) end)
   fault_says stop.Memory n h = tt
   fault_says stop.Unexpected n (left, k, e) =
       let f : FileFault max_nesting raw Unexpected left = subst (FileSays max_nesting raw) e (file_says max_nesting raw) in
-      subst (λ o. a.FaultIs raw end (a.refusal_at o end)) (sym (entry_is Unexpected left n k f)) (unexpected_by left e f f.rest refl)
+      subst (λ o. a.FaultIs raw end (a_code.refusal_at o end)) (sym (entry_is Unexpected left n k f)) (unexpected_by left e f f.rest refl)
   fault_says stop.TooDeep n (left, k, e) =
       let f : FileFault max_nesting raw TooDeep left = subst (FileSays max_nesting raw) e (file_says max_nesting raw) in
-      subst (λ o. a.FaultIs raw end (a.depth_at o end)) (sym (entry_is TooDeep left n k f)) (deep_by left f)
+      subst (λ o. a.FaultIs raw end (a_code.depth_at o end)) (sym (entry_is TooDeep left n k f)) (deep_by left f)
 
   -- ---- what is spelled
 
@@ -291,7 +292,7 @@ module _ (raw : List Placed) (end : Place) where
   not_refused : (items : List Item) (f : Cause × List Token) → SpellsWithin max_nesting items raw → file max_nesting raw ≡ Err f → ⊥
   not_refused items f s e = let same : ◌≡◌ {A = FileOutcome} (Ok items) (Err f) = sym (within_read max_nesting items raw s.0 s.1 s.2) ∙ e in cc
 
-  pub only_memory : (items : List Item) → SpellsWithin max_nesting items raw → (s : Stop) (n : ℕ) → a.Stopped (file max_nesting raw) s n → a.fault_of s (a.entry_at n raw) end ≡ fault.Memory
+  pub only_memory : (items : List Item) → SpellsWithin max_nesting items raw → (s : Stop) (n : ℕ) → a_code.Stopped (file max_nesting raw) s n → a_code.fault_of s (a_code.entry_at n raw) end ≡ fault.Memory
   only_memory items k stop.Memory n h = refl
   only_memory items k stop.Unexpected n (left, i, e) = absurd (not_refused items (Unexpected, left) k e)
   only_memory items k stop.TooDeep n (left, i, e) = absurd (not_refused items (TooDeep, left) k e)
@@ -299,14 +300,14 @@ module _ (raw : List Placed) (end : Place) where
   pub deep_not_found : (items found : List Item) (us over : Tokens) → IsFile items raw us → FirstOver max_nesting us over → file max_nesting raw ≡ Ok found → ⊥
   deep_not_found items found us over d k e = let r = deep_refused max_nesting items raw us d over k in let same : ◌≡◌ {A = FileOutcome} (Ok found) (Err (TooDeep, plain r.0)) = sym e ∙ r.1 in cc
 
-  depth_is : (o : Option Placed) → a.FaultIsDeep (a.depth_at o end)
+  depth_is : (o : Option Placed) → a.FaultIsDeep (a_code.depth_at o end)
   depth_is None = tt
   depth_is (Some x) = tt
 
-  pub deep_fault : (items : List Item) (us over : Tokens) → IsFile items raw us → FirstOver max_nesting us over → (s : Stop) (n : ℕ) → a.Stopped (file max_nesting raw) s n → a.FaultIsDeep (a.fault_of s (a.entry_at n raw) end)
+  pub deep_fault : (items : List Item) (us over : Tokens) → IsFile items raw us → FirstOver max_nesting us over → (s : Stop) (n : ℕ) → a_code.Stopped (file max_nesting raw) s n → a.FaultIsDeep (a_code.fault_of s (a_code.entry_at n raw) end)
   deep_fault items us over d k stop.Memory n h = tt
   deep_fault items us over d k stop.Unexpected n (left, i, e) = absurd (spelled_not_unexpected max_nesting items raw us d left e)
-  deep_fault items us over d k stop.TooDeep n (left, i, e) = depth_is (a.entry_at n raw)
+  deep_fault items us over d k stop.TooDeep n (left, i, e) = depth_is (a_code.entry_at n raw)
 
 -- ---- the tokens spell at most one list
 

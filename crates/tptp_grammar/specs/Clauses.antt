@@ -2,11 +2,11 @@
 use Rattle.std.specs.Prelude.{ℕ, suc, List, ◌∷◌}
 use Rattle.first_fault.specs.Rules.{Listed}
 use Rattle.tptp_lexer.specs.declared.token.Token.TheVariants.{Mark as Sign}
-use Rattle.tptp_lexer.specs.declared.token.Mark.TheVariants as m
 use Rattle.tptp_base.specs.declared.surface.Surface.{Surface}
-use Rattle.tptp_base.specs.declared.surface.Surface.TheVariants as fm
 use Rattle.tptp_grammar.specs.Tokens.{Tokens}
 use Rattle.tptp_grammar.specs.Terms.{IsAtom, IsInequation}
+use Rattle.tptp_lexer.specs.declared.token.Mark.TheVariants as m
+use Rattle.tptp_base.specs.declared.surface.Surface.TheVariants as fm
 
 -- <cnf_literal> ::= <fof_atomic_formula> | ~ <fof_atomic_formula> | ~ (<fof_atomic_formula>) | <fof_infix_unary>
 pub data IsLiteral : ℕ → Surface → Tokens → Tokens → Type 0 where

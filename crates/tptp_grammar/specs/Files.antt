@@ -5,10 +5,10 @@ use Rattle.tptp_lexer.specs.declared.token.Token.{Token}
 use Rattle.tptp_lexer.specs.declared.token.Token.TheVariants.{Comment}
 use Rattle.tptp_base.specs.declared.place.Place.{Place}
 use Rattle.tptp_base.specs.declared.item.Item.{Item}
-use Rattle.tptp_base.specs.declared.item.Item.TheVariants as item
 use Rattle.tptp_grammar.specs.Tokens.{Text, Tokens}
 use Rattle.tptp_grammar.specs.Items.{IsItem}
 use Rattle.tptp_grammar.specs.Solid.{Placed, is_comment, solid}
+use Rattle.tptp_base.specs.declared.item.Item.TheVariants as item
 
 -- The first list, without its comments and through a token that is none, is the third list through its last token
 -- before the fourth. The second list is what follows that token.

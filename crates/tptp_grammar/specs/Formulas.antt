@@ -3,16 +3,16 @@ use Rattle.std.specs.Prelude.{◌≡◌, ℕ, suc, Bool, true, List, [], ◌∷�
 use Rattle.first_fault.specs.Rules.{Listed}
 use Rattle.tptp_lexer.specs.declared.token.Token.TheVariants.{Upper, Mark as Sign}
 use Rattle.tptp_lexer.specs.declared.token.Mark.{Mark}
-use Rattle.tptp_lexer.specs.declared.token.Mark.TheVariants as m
 use Rattle.tptp_base.specs.declared.surface.SortName.{SortName}
 use Rattle.tptp_base.specs.declared.surface.BoundVar.{BoundVar}
 use Rattle.tptp_base.specs.declared.surface.BinOp.{BinOp}
 use Rattle.tptp_base.specs.declared.surface.Quant.{Quant}
 use Rattle.tptp_base.specs.declared.surface.Surface.{Surface}
-use Rattle.tptp_base.specs.declared.surface.Surface.TheVariants as fm
 use Rattle.tptp_grammar.specs.Tokens.{Text, Tokens, operator, quantifier}
 use Rattle.tptp_grammar.specs.Terms.{IsAtom, IsInequation}
 use Rattle.tptp_grammar.specs.Types.{IsArgumentSort}
+use Rattle.tptp_lexer.specs.declared.token.Mark.TheVariants as m
+use Rattle.tptp_base.specs.declared.surface.Surface.TheVariants as fm
 
 -- <tff_variable> ::= <tff_typed_variable> | <variable>
 -- <tff_typed_variable> ::= <variable> : <tff_atomic_type>

@@ -2,17 +2,17 @@
 use Rattle.std.specs.Prelude.{◌≡◌, ℕ, suc, true, false, List, [], ◌∷◌, Some, codes}
 use Rattle.tptp_lexer.specs.declared.token.Token.{Token}
 use Rattle.tptp_lexer.specs.declared.token.Token.TheVariants.{Upper, Dollar, Number, Distinct, Mark as Sign}
-use Rattle.tptp_lexer.specs.declared.token.Mark.TheVariants as m
 use Rattle.tptp_base.specs.declared.surface.STerm.{STerm}
 use Rattle.tptp_base.specs.declared.surface.Surface.{Surface}
 use Rattle.tptp_base.specs.declared.item.Lang.{Lang}
-use Rattle.tptp_base.specs.declared.item.Lang.TheVariants as lang
 use Rattle.tptp_base.specs.declared.item.GTerm.{GTerm}
-use Rattle.tptp_base.specs.declared.item.GTerm.TheVariants as gt
 use Rattle.tptp_grammar.specs.Tokens.{Text, Tokens, word, embedded_text}
 use Rattle.tptp_grammar.specs.Terms.{IsTerm}
 use Rattle.tptp_grammar.specs.Formulas.{IsFormula}
 use Rattle.tptp_grammar.specs.Clauses.{IsClause}
+use Rattle.tptp_lexer.specs.declared.token.Mark.TheVariants as m
+use Rattle.tptp_base.specs.declared.item.Lang.TheVariants as lang
+use Rattle.tptp_base.specs.declared.item.GTerm.TheVariants as gt
 
 -- the formula of a language
 abbrev pub IsFormulaOf : Lang → ℕ → Surface → Tokens → Tokens → Type 0

@@ -5,26 +5,26 @@ use Rattle.std.specs.Char.{is_ascii_digit}
 use Rattle.first_fault.specs.Rules.{Listed}
 use Rattle.tptp_lexer.specs.declared.token.Token.{Token}
 use Rattle.tptp_lexer.specs.declared.token.Token.TheVariants.{Lower, Quoted, Number, Mark as Sign}
-use Rattle.tptp_lexer.specs.declared.token.Mark.TheVariants as m
 use Rattle.tptp_base.specs.declared.place.Place.{Place}
 use Rattle.tptp_base.specs.declared.surface.Surface.{Surface}
 use Rattle.tptp_base.specs.declared.name.Name.{Name}
-use Rattle.tptp_base.specs.declared.name.Name.TheVariants as nm
 use Rattle.tptp_base.specs.declared.item.Lang.{Lang}
-use Rattle.tptp_base.specs.declared.item.Lang.TheVariants as lang
 use Rattle.tptp_base.specs.declared.item.Role.{Role}
-use Rattle.tptp_base.specs.declared.item.Role.TheVariants as role
 use Rattle.tptp_base.specs.declared.item.Typing.{Typing}
 use Rattle.tptp_base.specs.declared.item.Body.{Body}
-use Rattle.tptp_base.specs.declared.item.Body.TheVariants as body
 use Rattle.tptp_base.specs.declared.item.GTerm.{GTerm}
 use Rattle.tptp_base.specs.declared.item.Item.{Item}
-use Rattle.tptp_base.specs.declared.item.Item.TheVariants as item
 use Rattle.tptp_grammar.specs.Tokens.{Text, Tokens, word, lang_text, role_text}
 use Rattle.tptp_grammar.specs.Formulas.{IsFormula}
 use Rattle.tptp_grammar.specs.Clauses.{IsClause}
 use Rattle.tptp_grammar.specs.Types.{IsTyping}
 use Rattle.tptp_grammar.specs.GeneralTerms.{IsGeneralTerm, IsGeneralList}
+use Rattle.tptp_lexer.specs.declared.token.Mark.TheVariants as m
+use Rattle.tptp_base.specs.declared.name.Name.TheVariants as nm
+use Rattle.tptp_base.specs.declared.item.Lang.TheVariants as lang
+use Rattle.tptp_base.specs.declared.item.Role.TheVariants as role
+use Rattle.tptp_base.specs.declared.item.Body.TheVariants as body
+use Rattle.tptp_base.specs.declared.item.Item.TheVariants as item
 
 abbrev pub are_digits : Text → Bool
 are_digits [] = false

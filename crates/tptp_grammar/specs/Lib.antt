@@ -6,15 +6,8 @@ pub mod Clauses
 pub mod GeneralTerms
 pub mod Items
 pub mod Files
-pub mod Outcomes
 pub mod Solid
-pub mod ReadTerms
-pub mod ReadTypes
-pub mod ReadFormulas
-pub mod ReadClauses
-pub mod ReadGeneral
 pub mod Faults
-pub mod ReadItems
-pub mod ReadFile
 pub mod Answers
 pub mod Laws
+pub mod code

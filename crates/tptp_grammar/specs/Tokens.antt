@@ -4,14 +4,14 @@ use Rattle.first_fault.specs.Nesting.{Nested}
 use Rattle.tptp_lexer.specs.declared.token.Token.{Token}
 use Rattle.tptp_lexer.specs.declared.token.Token.TheVariants.{Lower, Quoted}
 use Rattle.tptp_lexer.specs.declared.token.Mark.{Mark}
-use Rattle.tptp_lexer.specs.declared.token.Mark.TheVariants as m
 use Rattle.tptp_base.specs.declared.surface.BinOp.{BinOp}
-use Rattle.tptp_base.specs.declared.surface.BinOp.TheVariants as op
 use Rattle.tptp_base.specs.declared.surface.Quant.{Quant}
-use Rattle.tptp_base.specs.declared.surface.Quant.TheVariants as q
 use Rattle.tptp_base.specs.declared.item.Lang.{Lang}
-use Rattle.tptp_base.specs.declared.item.Lang.TheVariants as lang
 use Rattle.tptp_base.specs.declared.item.Role.{Role}
+use Rattle.tptp_lexer.specs.declared.token.Mark.TheVariants as m
+use Rattle.tptp_base.specs.declared.surface.BinOp.TheVariants as op
+use Rattle.tptp_base.specs.declared.surface.Quant.TheVariants as q
+use Rattle.tptp_base.specs.declared.item.Lang.TheVariants as lang
 use Rattle.tptp_base.specs.declared.item.Role.TheVariants as role
 
 abbrev pub Text : Type 0

@@ -3,13 +3,13 @@ use Rattle.std.specs.Prelude.{◌≡◌, ℕ, suc, List, [], ◌∷◌, Some, co
 use Rattle.first_fault.specs.Rules.{Listed}
 use Rattle.tptp_lexer.specs.declared.token.Token.{Token}
 use Rattle.tptp_lexer.specs.declared.token.Token.TheVariants.{Dollar, Mark as Sign}
-use Rattle.tptp_lexer.specs.declared.token.Mark.TheVariants as m
 use Rattle.tptp_base.specs.declared.surface.SortName.{SortName}
-use Rattle.tptp_base.specs.declared.surface.SortName.TheVariants as sort
 use Rattle.tptp_base.specs.declared.item.Shape.{Shape}
-use Rattle.tptp_base.specs.declared.item.Shape.TheVariants as shape
 use Rattle.tptp_base.specs.declared.item.Typing.{Typing}
 use Rattle.tptp_grammar.specs.Tokens.{Text, Tokens, word}
+use Rattle.tptp_lexer.specs.declared.token.Mark.TheVariants as m
+use Rattle.tptp_base.specs.declared.surface.SortName.TheVariants as sort
+use Rattle.tptp_base.specs.declared.item.Shape.TheVariants as shape
 
 -- <tff_atomic_type> ::= <type_constant> | <defined_type>, of which $i is the one for arguments
 pub data IsArgumentSort : ℕ → SortName → Tokens → Tokens → Type 0 where

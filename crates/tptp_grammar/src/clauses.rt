@@ -1,10 +1,10 @@
 // The productions of clauses, one function for each. `room` is the nesting that is left.
 ghost use Rattle.std.specs.Prelude.{◌∷◌};
-ghost use Rattle.first_fault.specs.Reading.{separated, closed, mapped, tail};
+ghost use Rattle.first_fault.specs.code.Reading.{separated, closed, mapped, tail};
 ghost use Rattle.tptp_base.specs.declared.surface.Surface.TheVariants as fm;
-ghost use Rattle.tptp_grammar.specs.ReadTerms.{is_mark};
-ghost use Rattle.tptp_grammar.specs.ReadClauses as spec;
-ghost use Rattle.tptp_grammar.specs.Outcomes.{Reads};
+ghost use Rattle.tptp_grammar.specs.code.ReadTerms.{is_mark};
+ghost use Rattle.tptp_grammar.specs.code.ReadClauses as spec;
+ghost use Rattle.tptp_grammar.specs.code.Outcomes.{Reads};
 
 use crate::cursor::Cursor;
 use crate::lists::{in_front, short_list};
@@ -15,7 +15,7 @@ use tptp_base::{Boxed, List, Surface};
 use tptp_lexer::{Mark, Token};
 
 // An atom in parentheses.
-#[tactic(auto, unfolding(crate::specs::ReadClauses::atom_open))]
+#[tactic(auto, unfolding(crate::specs::code::ReadClauses::atom_open))]
 fn atom_open(alloc: Global, tokens: &mut Cursor<'_>, room: usize) -> Result<Surface, Stop>
     ensures { Reads (spec.atom_open room tokens.old) result tokens.new }
 {
@@ -29,7 +29,7 @@ fn atom_open(alloc: Global, tokens: &mut Cursor<'_>, room: usize) -> Result<Surf
 }
 
 // What follows the sign of a negative literal.
-#[tactic(auto, unfolding(crate::specs::ReadClauses::negated))]
+#[tactic(auto, unfolding(crate::specs::code::ReadClauses::negated))]
 fn negated(alloc: Global, tokens: &mut Cursor<'_>, room: usize) -> Result<Surface, Stop>
     ensures { Reads (spec.negated room tokens.old) result tokens.new }
 {
@@ -40,7 +40,7 @@ fn negated(alloc: Global, tokens: &mut Cursor<'_>, room: usize) -> Result<Surfac
 }
 
 // A negative literal.
-#[tactic(auto, unfolding(crate::specs::ReadClauses::negative))]
+#[tactic(auto, unfolding(crate::specs::code::ReadClauses::negative))]
 fn negative(alloc: Global, tokens: &mut Cursor<'_>, room: usize) -> Result<Surface, Stop>
     ensures { Reads (spec.negative room tokens.old) result tokens.new }
 {
@@ -53,7 +53,7 @@ fn negative(alloc: Global, tokens: &mut Cursor<'_>, room: usize) -> Result<Surfa
 }
 
 // A literal.
-#[tactic(auto, unfolding(crate::specs::ReadClauses::literal))]
+#[tactic(auto, unfolding(crate::specs::code::ReadClauses::literal))]
 fn literal(alloc: Global, tokens: &mut Cursor<'_>, room: usize) -> Result<Surface, Stop>
     ensures { Reads (spec.literal room tokens.old) result tokens.new }
 {
@@ -90,7 +90,7 @@ fn disjunction(
 }
 
 // What follows the first literal.
-#[tactic(auto, unfolding(crate::specs::ReadClauses::literals))]
+#[tactic(auto, unfolding(crate::specs::code::ReadClauses::literals))]
 fn literals(
     alloc: Global,
     tokens: &mut Cursor<'_>,
@@ -107,7 +107,7 @@ fn literals(
 
 /// A clause.
 #[cycle(clause)]
-#[tactic(auto, unfolding(crate::specs::ReadClauses::clause, crate::specs::ReadClauses::clause_by))]
+#[tactic(auto, unfolding(crate::specs::code::ReadClauses::clause, crate::specs::code::ReadClauses::clause_by))]
 pub fn clause(alloc: Global, tokens: &mut Cursor<'_>, room: usize) -> Result<Surface, Stop>
     ensures { Reads (spec.clause room tokens.old) result tokens.new }
 {
@@ -122,7 +122,7 @@ pub fn clause(alloc: Global, tokens: &mut Cursor<'_>, room: usize) -> Result<Sur
 
 // A clause in parentheses.
 #[cycle(clause)]
-#[tactic(auto, unfolding(crate::specs::ReadClauses::clause_open, crate::specs::ReadClauses::clause))]
+#[tactic(auto, unfolding(crate::specs::code::ReadClauses::clause_open, crate::specs::code::ReadClauses::clause))]
 fn clause_open(alloc: Global, tokens: &mut Cursor<'_>, room: usize) -> Result<Surface, Stop>
     ensures { Reads (spec.clause_open room tokens.old) result tokens.new }
 {

@@ -1,11 +1,11 @@
 // A place in a list of tokens.
 ghost use Rattle.std.specs.Prelude.{◌≡◌, length};
 ghost use Rattle.std.specs.Option.{option_copied};
-ghost use Rattle.first_fault.specs.Reading.{next, tail, expect, sees, after_seen};
+ghost use Rattle.first_fault.specs.code.Reading.{next, tail, expect, sees, after_seen};
 ghost use Rattle.tptp_grammar.specs.Solid as solids;
 ghost use Rattle.tptp_grammar.specs.Solid.{solid, BeginsSolid};
-ghost use Rattle.tptp_grammar.specs.ReadTerms as spec;
-ghost use Rattle.tptp_grammar.specs.Outcomes.{Reads};
+ghost use Rattle.tptp_grammar.specs.code.ReadTerms as spec;
+ghost use Rattle.tptp_grammar.specs.code.Outcomes.{Reads};
 
 use crate::stop::Stop;
 use std::marker::Model;
@@ -102,7 +102,7 @@ impl<'a> Cursor<'a> {
     }
 }
 
-#[tactic(auto, unfolding(crate::specs::ReadTerms::same_mark))]
+#[tactic(auto, unfolding(crate::specs::code::ReadTerms::same_mark))]
 fn same_mark(a: Mark, b: Mark) -> bool
     ensures { result ≡ spec.same_mark a b }
 {

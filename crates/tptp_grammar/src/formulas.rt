@@ -1,11 +1,11 @@
 // The productions of formulas, one function for each. `room` is the nesting that is left; bound variables may have
 // sorts where the formula is `typed`.
 ghost use Rattle.std.specs.Prelude.{◌≤◌, ◌-◌, ◌∷◌, length, Some, None, if◌then◌else◌};
-ghost use Rattle.first_fault.specs.Reading.{separated, closed, mapped, tail};
+ghost use Rattle.first_fault.specs.code.Reading.{separated, closed, mapped, tail};
 ghost use Rattle.tptp_base.specs.declared.surface.Surface.TheVariants as fm;
-ghost use Rattle.tptp_grammar.specs.ReadTerms.{is_mark};
-ghost use Rattle.tptp_grammar.specs.ReadFormulas as spec;
-ghost use Rattle.tptp_grammar.specs.Outcomes.{Reads};
+ghost use Rattle.tptp_grammar.specs.code.ReadTerms.{is_mark};
+ghost use Rattle.tptp_grammar.specs.code.ReadFormulas as spec;
+ghost use Rattle.tptp_grammar.specs.code.Outcomes.{Reads};
 
 use crate::cursor::Cursor;
 use crate::lists::{in_front, short_list};
@@ -17,7 +17,7 @@ use tptp_base::{BinOp, BoundVar, Boxed, List, Quant, Surface, Text};
 use tptp_lexer::{Mark, Token};
 
 // What follows a bound variable.
-#[tactic(auto, unfolding(crate::specs::ReadFormulas::sorted))]
+#[tactic(auto, unfolding(crate::specs::code::ReadFormulas::sorted))]
 fn sorted(
     alloc: Global,
     tokens: &mut Cursor<'_>,
@@ -45,7 +45,7 @@ fn sorted(
 }
 
 // A bound variable.
-#[tactic(auto, unfolding(crate::specs::ReadFormulas::bound_variable))]
+#[tactic(auto, unfolding(crate::specs::code::ReadFormulas::bound_variable))]
 fn bound_variable(alloc: Global, tokens: &mut Cursor<'_>, typed: bool) -> Result<BoundVar, Stop>
     ensures { Reads (spec.bound_variable typed tokens.old) result tokens.new }
 {
@@ -75,7 +75,7 @@ fn variable_list(
 }
 
 // The bound variables from their bracket on.
-#[tactic(auto, unfolding(crate::specs::ReadFormulas::bound_variables))]
+#[tactic(auto, unfolding(crate::specs::code::ReadFormulas::bound_variables))]
 fn bound_variables(
     alloc: Global,
     tokens: &mut Cursor<'_>,
@@ -94,7 +94,7 @@ fn bound_variables(
 }
 
 // The bound variables.
-#[tactic(auto, unfolding(crate::specs::ReadFormulas::bracket))]
+#[tactic(auto, unfolding(crate::specs::code::ReadFormulas::bracket))]
 fn bracket(
     alloc: Global,
     tokens: &mut Cursor<'_>,
@@ -157,7 +157,7 @@ fn inner(alloc: Global, tokens: &mut Cursor<'_>, typed: bool, room: usize) -> Re
 
 // What follows the bound variables.
 #[cycle(formula)]
-#[tactic(auto, unfolding(crate::specs::ReadFormulas::scope))]
+#[tactic(auto, unfolding(crate::specs::code::ReadFormulas::scope))]
 fn scope(
     alloc: Global,
     tokens: &mut Cursor<'_>,
@@ -180,7 +180,7 @@ fn scope(
 
 // Bound variables and their scope.
 #[cycle(formula)]
-#[tactic(auto, unfolding(crate::specs::ReadFormulas::quantified))]
+#[tactic(auto, unfolding(crate::specs::code::ReadFormulas::quantified))]
 fn quantified(
     alloc: Global,
     tokens: &mut Cursor<'_>,
@@ -210,7 +210,7 @@ fn negation(
 
 // A formula that needs no parentheses as a part of another.
 #[cycle(formula)]
-#[tactic(auto, unfolding(crate::specs::ReadFormulas::unit, crate::specs::ReadFormulas::unit_by))]
+#[tactic(auto, unfolding(crate::specs::code::ReadFormulas::unit, crate::specs::code::ReadFormulas::unit_by))]
 fn unit(alloc: Global, tokens: &mut Cursor<'_>, typed: bool, room: usize) -> Result<Surface, Stop>
     ensures { Reads (spec.unit typed room tokens.old) result tokens.new }
 {
@@ -299,7 +299,7 @@ fn conjunction(
 
 // What follows the first unit of a formula.
 #[cycle(formula)]
-#[tactic(auto, unfolding(crate::specs::ReadFormulas::joined))]
+#[tactic(auto, unfolding(crate::specs::code::ReadFormulas::joined))]
 fn joined(
     alloc: Global,
     tokens: &mut Cursor<'_>,
@@ -326,7 +326,7 @@ fn joined(
 
 /// A formula.
 #[cycle(formula)]
-#[tactic(auto, unfolding(crate::specs::ReadFormulas::formula, crate::specs::ReadFormulas::formula_by))]
+#[tactic(auto, unfolding(crate::specs::code::ReadFormulas::formula, crate::specs::code::ReadFormulas::formula_by))]
 pub fn formula(
     alloc: Global,
     tokens: &mut Cursor<'_>,

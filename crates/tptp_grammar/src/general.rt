@@ -1,10 +1,10 @@
 // The productions of general terms, one function for each. `room` is the nesting that is left.
 ghost use Rattle.std.specs.Prelude.{◌≡◌};
-ghost use Rattle.first_fault.specs.Reading.{separated, closed, mapped};
+ghost use Rattle.first_fault.specs.code.Reading.{separated, closed, mapped};
 ghost use Rattle.tptp_base.specs.declared.item.GTerm.TheVariants as gt;
-ghost use Rattle.tptp_grammar.specs.ReadTerms.{is_mark};
-ghost use Rattle.tptp_grammar.specs.ReadGeneral as spec;
-ghost use Rattle.tptp_grammar.specs.Outcomes.{Reads};
+ghost use Rattle.tptp_grammar.specs.code.ReadTerms.{is_mark};
+ghost use Rattle.tptp_grammar.specs.code.ReadGeneral as spec;
+ghost use Rattle.tptp_grammar.specs.code.Outcomes.{Reads};
 
 use crate::clauses::clause;
 use crate::cursor::Cursor;
@@ -33,7 +33,7 @@ fn formula_of(
 }
 
 // The same in parentheses.
-#[tactic(auto, unfolding(crate::specs::ReadGeneral::formula_open))]
+#[tactic(auto, unfolding(crate::specs::code::ReadGeneral::formula_open))]
 fn formula_open(
     alloc: Global,
     tokens: &mut Cursor<'_>,
@@ -51,7 +51,7 @@ fn formula_open(
     Ok(found.into_inner())
 }
 
-#[tactic(auto, unfolding(crate::specs::ReadGeneral::formula_in))]
+#[tactic(auto, unfolding(crate::specs::code::ReadGeneral::formula_in))]
 fn formula_in(
     alloc: Global,
     tokens: &mut Cursor<'_>,
@@ -67,7 +67,7 @@ fn formula_in(
 }
 
 // A term in parentheses.
-#[tactic(auto, unfolding(crate::specs::ReadGeneral::term_open))]
+#[tactic(auto, unfolding(crate::specs::code::ReadGeneral::term_open))]
 fn term_open(alloc: Global, tokens: &mut Cursor<'_>, room: usize) -> Result<STerm, Stop>
     ensures { Reads (spec.term_open room tokens.old) result tokens.new }
 {
@@ -80,7 +80,7 @@ fn term_open(alloc: Global, tokens: &mut Cursor<'_>, room: usize) -> Result<STer
     Ok(found)
 }
 
-#[tactic(auto, unfolding(crate::specs::ReadGeneral::term_in))]
+#[tactic(auto, unfolding(crate::specs::code::ReadGeneral::term_in))]
 fn term_in(alloc: Global, tokens: &mut Cursor<'_>, room: usize) -> Result<STerm, Stop>
     ensures { Reads (spec.term_in room tokens.old) result tokens.new }
 {
@@ -91,7 +91,7 @@ fn term_in(alloc: Global, tokens: &mut Cursor<'_>, room: usize) -> Result<STerm,
 }
 
 // The language of the formulas that the word embeds.
-#[tactic(auto, unfolding(crate::specs::ReadGeneral::embedded))]
+#[tactic(auto, unfolding(crate::specs::code::ReadGeneral::embedded))]
 fn embedded(word: &[u8]) -> Option<Lang>
     ensures { result ≡ spec.embedded word.now }
 {
@@ -124,7 +124,7 @@ fn term_data(
 }
 
 // A formula or a term that the word embeds.
-#[tactic(auto, unfolding(crate::specs::ReadGeneral::formula_data))]
+#[tactic(auto, unfolding(crate::specs::code::ReadGeneral::formula_data))]
 fn formula_data(
     alloc: Global,
     tokens: &mut Cursor<'_>,
@@ -180,7 +180,7 @@ fn general_list(alloc: Global, tokens: &mut Cursor<'_>, room: usize) -> Result<L
 
 // What follows an opening bracket.
 #[cycle(general)]
-#[tactic(auto, unfolding(crate::specs::ReadGeneral::listed))]
+#[tactic(auto, unfolding(crate::specs::code::ReadGeneral::listed))]
 fn listed(alloc: Global, tokens: &mut Cursor<'_>, room: usize) -> Result<List<GTerm>, Stop>
     ensures { Reads (spec.listed (spec.general room) tokens.old) result tokens.new }
 {
@@ -242,7 +242,7 @@ fn right_side(
 
 // What follows a word.
 #[cycle(general)]
-#[tactic(auto, unfolding(crate::specs::ReadGeneral::general_applied))]
+#[tactic(auto, unfolding(crate::specs::code::ReadGeneral::general_applied))]
 fn applied(alloc: Global, tokens: &mut Cursor<'_>, room: usize, name: &Text) -> Result<GTerm, Stop>
     ensures { Reads (spec.general_applied (spec.nesting room) name.now tokens.old) result tokens.new }
 {
@@ -257,7 +257,7 @@ fn applied(alloc: Global, tokens: &mut Cursor<'_>, room: usize, name: &Text) -> 
 
 // A general term that may be the left side of a pair.
 #[cycle(general)]
-#[tactic(auto, unfolding(crate::specs::ReadGeneral::general_data_by))]
+#[tactic(auto, unfolding(crate::specs::code::ReadGeneral::general_data_by))]
 fn data_term(alloc: Global, tokens: &mut Cursor<'_>, room: usize) -> Result<GTerm, Stop>
     ensures { Reads (spec.general_data_by room (spec.nesting room) tokens.old) result tokens.new }
 {
@@ -289,7 +289,7 @@ fn data_term(alloc: Global, tokens: &mut Cursor<'_>, room: usize) -> Result<GTer
 
 // What follows a general term that may be the left side of a pair.
 #[cycle(general)]
-#[tactic(auto, unfolding(crate::specs::ReadGeneral::paired))]
+#[tactic(auto, unfolding(crate::specs::code::ReadGeneral::paired))]
 fn paired(
     alloc: Global,
     tokens: &mut Cursor<'_>,
@@ -306,7 +306,7 @@ fn paired(
 
 /// A general term.
 #[cycle(general)]
-#[tactic(auto, unfolding(crate::specs::ReadGeneral::general, crate::specs::ReadGeneral::general_by))]
+#[tactic(auto, unfolding(crate::specs::code::ReadGeneral::general, crate::specs::code::ReadGeneral::general_by))]
 pub fn general(alloc: Global, tokens: &mut Cursor<'_>, room: usize) -> Result<GTerm, Stop>
     ensures { Reads (spec.general room tokens.old) result tokens.new }
 {

@@ -1,10 +1,10 @@
 // The productions of annotated formulas and includes, one function for each. `room` is the nesting that is left.
 ghost use Rattle.std.specs.Prelude.{◌≡◌};
-ghost use Rattle.first_fault.specs.Reading.{separated, opened, expect};
+ghost use Rattle.first_fault.specs.code.Reading.{separated, opened, expect};
 ghost use Rattle.tptp_grammar.specs.Items as items;
-ghost use Rattle.tptp_grammar.specs.ReadTerms.{is_mark};
-ghost use Rattle.tptp_grammar.specs.ReadItems as spec;
-ghost use Rattle.tptp_grammar.specs.Outcomes.{Reads};
+ghost use Rattle.tptp_grammar.specs.code.ReadTerms.{is_mark};
+ghost use Rattle.tptp_grammar.specs.code.ReadItems as spec;
+ghost use Rattle.tptp_grammar.specs.code.Outcomes.{Reads};
 
 use crate::clauses::clause;
 use crate::cursor::Cursor;
@@ -21,7 +21,7 @@ use tptp_base::{
 use tptp_lexer::{Mark, Token};
 
 // The name of a formula.
-#[tactic(auto, unfolding(crate::specs::ReadItems::name))]
+#[tactic(auto, unfolding(crate::specs::code::ReadItems::name))]
 fn name(alloc: Global, tokens: &mut Cursor<'_>) -> Result<Name, Stop>
     ensures { Reads (spec.name tokens.old) result tokens.new }
 {
@@ -47,7 +47,7 @@ fn name(alloc: Global, tokens: &mut Cursor<'_>) -> Result<Name, Stop>
 }
 
 // A role.
-#[tactic(auto, unfolding(crate::specs::ReadItems::role))]
+#[tactic(auto, unfolding(crate::specs::code::ReadItems::role))]
 fn role(tokens: &mut Cursor<'_>) -> Result<Role, Stop>
     ensures { Reads (spec.role tokens.old) result tokens.new }
 {
@@ -74,7 +74,7 @@ fn typed_body(alloc: Global, tokens: &mut Cursor<'_>, role: Role, room: usize) -
 }
 
 // The body of an annotated formula.
-#[tactic(auto, unfolding(crate::specs::ReadItems::body))]
+#[tactic(auto, unfolding(crate::specs::code::ReadItems::body))]
 fn body(
     alloc: Global,
     tokens: &mut Cursor<'_>,
@@ -100,7 +100,7 @@ fn ended(tokens: &mut Cursor<'_>) -> Result<(), Stop>
 }
 
 // The useful information.
-#[tactic(auto, unfolding(crate::specs::ReadItems::info))]
+#[tactic(auto, unfolding(crate::specs::code::ReadItems::info))]
 fn info(alloc: Global, tokens: &mut Cursor<'_>, room: usize) -> Result<List<GTerm>, Stop>
     ensures { Reads (spec.info room tokens.old) result tokens.new }
 {
@@ -113,7 +113,7 @@ fn info(alloc: Global, tokens: &mut Cursor<'_>, room: usize) -> Result<List<GTer
 type Annotations = (Option<GTerm>, Option<List<GTerm>>);
 
 // What follows the source.
-#[tactic(auto, unfolding(crate::specs::ReadItems::sourced, crate::specs::ReadItems::ended))]
+#[tactic(auto, unfolding(crate::specs::code::ReadItems::sourced, crate::specs::code::ReadItems::ended))]
 fn sourced(
     alloc: Global,
     tokens: &mut Cursor<'_>,
@@ -137,7 +137,7 @@ fn sourced(
 }
 
 // What follows the body.
-#[tactic(auto, unfolding(crate::specs::ReadItems::annotations, crate::specs::ReadItems::ended))]
+#[tactic(auto, unfolding(crate::specs::code::ReadItems::annotations, crate::specs::code::ReadItems::ended))]
 fn annotations(alloc: Global, tokens: &mut Cursor<'_>, room: usize) -> Result<Annotations, Stop>
     ensures { Reads (spec.annotations room tokens.old) result tokens.new }
 {
@@ -155,7 +155,7 @@ fn annotations(alloc: Global, tokens: &mut Cursor<'_>, room: usize) -> Result<An
 }
 
 // An annotated formula from what follows its body on.
-#[tactic(auto, unfolding(crate::specs::ReadItems::finished))]
+#[tactic(auto, unfolding(crate::specs::code::ReadItems::finished))]
 fn finished(
     alloc: Global,
     tokens: &mut Cursor<'_>,
@@ -182,7 +182,7 @@ fn finished(
 }
 
 // An annotated formula from its body on.
-#[tactic(auto, unfolding(crate::specs::ReadItems::bodied))]
+#[tactic(auto, unfolding(crate::specs::code::ReadItems::bodied))]
 fn bodied(
     alloc: Global,
     tokens: &mut Cursor<'_>,
@@ -199,7 +199,7 @@ fn bodied(
 }
 
 // An annotated formula from its role on.
-#[tactic(auto, unfolding(crate::specs::ReadItems::with_role))]
+#[tactic(auto, unfolding(crate::specs::code::ReadItems::with_role))]
 fn with_role(
     alloc: Global,
     tokens: &mut Cursor<'_>,
@@ -216,7 +216,7 @@ fn with_role(
 }
 
 // An annotated formula from its name on.
-#[tactic(auto, unfolding(crate::specs::ReadItems::named))]
+#[tactic(auto, unfolding(crate::specs::code::ReadItems::named))]
 fn named(
     alloc: Global,
     tokens: &mut Cursor<'_>,
@@ -232,7 +232,7 @@ fn named(
 }
 
 // What follows the language.
-#[tactic(auto, unfolding(crate::specs::ReadItems::annotated))]
+#[tactic(auto, unfolding(crate::specs::code::ReadItems::annotated))]
 fn annotated(
     alloc: Global,
     tokens: &mut Cursor<'_>,
@@ -247,7 +247,7 @@ fn annotated(
 }
 
 // The name of an included file.
-#[tactic(auto, unfolding(crate::specs::ReadItems::file_name))]
+#[tactic(auto, unfolding(crate::specs::code::ReadItems::file_name))]
 fn file_name(alloc: Global, tokens: &mut Cursor<'_>) -> Result<Text, Stop>
     ensures { Reads (spec.file_name tokens.old) result tokens.new }
 {
@@ -273,7 +273,7 @@ fn names(alloc: Global, tokens: &mut Cursor<'_>) -> Result<List<Name>, Stop>
 }
 
 // The selected names in their brackets.
-#[tactic(auto, unfolding(crate::specs::ReadItems::name_list))]
+#[tactic(auto, unfolding(crate::specs::code::ReadItems::name_list))]
 fn name_list(alloc: Global, tokens: &mut Cursor<'_>) -> Result<List<Name>, Stop>
     ensures { Reads (spec.name_list tokens.old) result tokens.new }
 {
@@ -284,7 +284,7 @@ fn name_list(alloc: Global, tokens: &mut Cursor<'_>) -> Result<List<Name>, Stop>
 }
 
 // What follows the name of an included file.
-#[tactic(auto, unfolding(crate::specs::ReadItems::selection, crate::specs::ReadItems::ended))]
+#[tactic(auto, unfolding(crate::specs::code::ReadItems::selection, crate::specs::code::ReadItems::ended))]
 fn selection(alloc: Global, tokens: &mut Cursor<'_>) -> Result<Option<List<Name>>, Stop>
     ensures { Reads (spec.selection tokens.old) result tokens.new }
 {
@@ -302,7 +302,7 @@ fn selection(alloc: Global, tokens: &mut Cursor<'_>) -> Result<Option<List<Name>
     }
 }
 
-#[tactic(auto, unfolding(crate::specs::ReadItems::from_file))]
+#[tactic(auto, unfolding(crate::specs::code::ReadItems::from_file))]
 fn from_file(alloc: Global, tokens: &mut Cursor<'_>, place: Place, file: Text) -> Result<Item, Stop>
     ensures { Reads (spec.from_file place file tokens.old) result tokens.new }
 {
@@ -310,7 +310,7 @@ fn from_file(alloc: Global, tokens: &mut Cursor<'_>, place: Place, file: Text) -
     Ok(Item::Include(Include { place, file, names }))
 }
 
-#[tactic(auto, unfolding(crate::specs::ReadItems::included))]
+#[tactic(auto, unfolding(crate::specs::code::ReadItems::included))]
 fn included(alloc: Global, tokens: &mut Cursor<'_>, place: Place) -> Result<Item, Stop>
     ensures { Reads (spec.included place tokens.old) result tokens.new }
 {
@@ -319,7 +319,7 @@ fn included(alloc: Global, tokens: &mut Cursor<'_>, place: Place) -> Result<Item
 }
 
 // What follows the word `include`.
-#[tactic(auto, unfolding(crate::specs::ReadItems::include))]
+#[tactic(auto, unfolding(crate::specs::code::ReadItems::include))]
 fn include(alloc: Global, tokens: &mut Cursor<'_>, place: Place) -> Result<Item, Stop>
     ensures { Reads (spec.include place tokens.old) result tokens.new }
 {
@@ -364,7 +364,7 @@ fn worded(
 }
 
 /// An item whose first token stands at the place.
-#[tactic(auto, unfolding(crate::specs::ReadItems::item))]
+#[tactic(auto, unfolding(crate::specs::code::ReadItems::item))]
 pub fn item(alloc: Global, tokens: &mut Cursor<'_>, room: usize, place: Place) -> Result<Item, Stop>
     ensures { Reads (spec.item room place tokens.old) result tokens.new }
 {

@@ -6,10 +6,11 @@ ghost use Rattle.tptp_base.specs.declared.item.Item.{Item};
 ghost use Rattle.tptp_grammar.specs.Tokens.{Tokens as NestedTokens};
 ghost use Rattle.tptp_grammar.specs.Files.{IsFile, Spells, SpellsWithin};
 ghost use Rattle.tptp_grammar.specs.Faults as faults;
-ghost use Rattle.tptp_grammar.specs.Outcomes.{Fails};
-ghost use Rattle.tptp_grammar.specs.ReadItems as items;
-ghost use Rattle.tptp_grammar.specs.ReadFile as spec;
+ghost use Rattle.tptp_grammar.specs.code.Outcomes.{Fails};
+ghost use Rattle.tptp_grammar.specs.code.ReadItems as items;
+ghost use Rattle.tptp_grammar.specs.code.ReadFile as spec;
 ghost use Rattle.tptp_grammar.specs.Answers as answers;
+ghost use Rattle.tptp_grammar.specs.code.Answers as answers_code;
 
 use crate::cursor::{Cursor, count_solid, is_comment};
 use crate::fault::GrammarFault;
@@ -88,8 +89,8 @@ fn take_turn(
     first: &Token,
     place: Place,
 ) -> Result<Turn, Refusal>
-    ensures ok { IfOk result (λ s. answers.Starts faults.max_nesting first.now place tokens.old s.item s.left tokens.new) }
-    ensures err { IfErr result (λ r. answers.StartFails faults.max_nesting first.now place tokens.old r.stop r.left tokens.new) }
+    ensures ok { IfOk result (λ s. answers_code.Starts faults.max_nesting first.now place tokens.old s.item s.left tokens.new) }
+    ensures err { IfErr result (λ r. answers_code.StartFails faults.max_nesting first.now place tokens.old r.stop r.left tokens.new) }
 {
     match first {
         Token::Comment(text) => comment(alloc, text),
@@ -100,7 +101,7 @@ fn take_turn(
 // The items, and the comments between them.
 fn read_items(alloc: Global, tokens: &[(Token, Place)]) -> Result<List<Item>, Refusal>
     ensures ok { IfOk result (λ found. spec.file faults.max_nesting tokens.now ≡ Ok found) }
-    ensures err { IfErr result (λ r. answers.Stopped (spec.file faults.max_nesting tokens.now) r.stop r.left) }
+    ensures err { IfErr result (λ r. answers_code.Stopped (spec.file faults.max_nesting tokens.now) r.stop r.left) }
 {
     let mut found = List::new(alloc);
     let mut cursor = Cursor::new(tokens);
@@ -119,7 +120,7 @@ fn read_items(alloc: Global, tokens: &[(Token, Place)]) -> Result<List<Item>, Re
 
 // The first token with as many from it on, comments left out.
 fn entry_at(tokens: &[(Token, Place)], left: usize) -> Option<&(Token, Place)>
-    ensures { option_copied result ≡ answers.entry_at left tokens.now }
+    ensures { option_copied result ≡ answers_code.entry_at left tokens.now }
 {
     let mut now = count_solid(tokens);
     'tokens: for entry in tokens {
@@ -164,7 +165,7 @@ fn is_outside(token: &Token) -> bool
 }
 
 fn refusal_at(entry: Option<&(Token, Place)>, end: Place) -> GrammarFault
-    ensures { result ≡ answers.refusal_at (option_copied entry.entry) end }
+    ensures { result ≡ answers_code.refusal_at (option_copied entry.entry) end }
 {
     match entry {
         Some((token, place)) => {
@@ -179,7 +180,7 @@ fn refusal_at(entry: Option<&(Token, Place)>, end: Place) -> GrammarFault
 }
 
 fn depth_at(entry: Option<&(Token, Place)>, end: Place) -> GrammarFault
-    ensures { result ≡ answers.depth_at (option_copied entry.entry) end }
+    ensures { result ≡ answers_code.depth_at (option_copied entry.entry) end }
 {
     match entry {
         Some((_, place)) => GrammarFault::Deep(*place),
@@ -188,7 +189,7 @@ fn depth_at(entry: Option<&(Token, Place)>, end: Place) -> GrammarFault
 }
 
 fn fault_of(stop: Stop, entry: Option<&(Token, Place)>, end: Place) -> GrammarFault
-    ensures { result ≡ answers.fault_of stop (option_copied entry.entry) end }
+    ensures { result ≡ answers_code.fault_of stop (option_copied entry.entry) end }
 {
     match stop {
         Stop::Memory => GrammarFault::Memory,

@@ -1,9 +1,9 @@
 // The productions of sorts and type lines, one function for each. `room` is the nesting that is left.
 ghost use Rattle.std.specs.Prelude.{◌∷◌, []};
-ghost use Rattle.first_fault.specs.Reading.{closed, separated};
-ghost use Rattle.tptp_grammar.specs.ReadTerms.{is_mark};
-ghost use Rattle.tptp_grammar.specs.ReadTypes as spec;
-ghost use Rattle.tptp_grammar.specs.Outcomes.{Reads};
+ghost use Rattle.first_fault.specs.code.Reading.{closed, separated};
+ghost use Rattle.tptp_grammar.specs.code.ReadTerms.{is_mark};
+ghost use Rattle.tptp_grammar.specs.code.ReadTypes as spec;
+ghost use Rattle.tptp_grammar.specs.code.Outcomes.{Reads};
 
 use crate::cursor::Cursor;
 use crate::lists::{in_front, one_of, short_list};
@@ -13,7 +13,7 @@ use tptp_base::{List, Shape, SortName, Text, Typing};
 use tptp_lexer::{Mark, Token};
 
 /// The sort of an argument.
-#[tactic(auto, unfolding(crate::specs::ReadTypes::argument_sort))]
+#[tactic(auto, unfolding(crate::specs::code::ReadTypes::argument_sort))]
 pub fn argument_sort(alloc: Global, tokens: &mut Cursor<'_>) -> Result<SortName, Stop>
     ensures { Reads (spec.argument_sort tokens.old) result tokens.new }
 {
@@ -39,7 +39,7 @@ pub fn argument_sort(alloc: Global, tokens: &mut Cursor<'_>) -> Result<SortName,
 }
 
 // The sort of a result.
-#[tactic(auto, unfolding(crate::specs::ReadTypes::result_sort))]
+#[tactic(auto, unfolding(crate::specs::code::ReadTypes::result_sort))]
 fn result_sort(alloc: Global, tokens: &mut Cursor<'_>) -> Result<SortName, Stop>
     ensures { Reads (spec.result_sort tokens.old) result tokens.new }
 {
@@ -57,7 +57,7 @@ fn result_sort(alloc: Global, tokens: &mut Cursor<'_>) -> Result<SortName, Stop>
 }
 
 // `>` and the result of a map from these sorts.
-#[tactic(auto, unfolding(crate::specs::ReadTypes::map_from))]
+#[tactic(auto, unfolding(crate::specs::code::ReadTypes::map_from))]
 fn map_from(alloc: Global, tokens: &mut Cursor<'_>, sorts: List<SortName>) -> Result<Shape, Stop>
     ensures { Reads (spec.map_from sorts tokens.old) result tokens.new }
 {
@@ -106,7 +106,7 @@ fn unary(alloc: Global, tokens: &mut Cursor<'_>, first: SortName) -> Result<Shap
 }
 
 // What follows a parenthesis and a sort.
-#[tactic(auto, unfolding(crate::specs::ReadTypes::inside_from))]
+#[tactic(auto, unfolding(crate::specs::code::ReadTypes::inside_from))]
 fn inside_from(alloc: Global, tokens: &mut Cursor<'_>, first: SortName) -> Result<Shape, Stop>
     ensures { Reads (spec.inside_from first tokens.old) result tokens.new }
 {
@@ -122,7 +122,7 @@ fn inside_from(alloc: Global, tokens: &mut Cursor<'_>, first: SortName) -> Resul
 
 // What follows a parenthesis in a map.
 #[cycle(mapping)]
-#[tactic(auto, unfolding(crate::specs::ReadTypes::inside))]
+#[tactic(auto, unfolding(crate::specs::code::ReadTypes::inside))]
 fn inside(alloc: Global, tokens: &mut Cursor<'_>, room: usize) -> Result<Shape, Stop>
     ensures { Reads (spec.inside (spec.mapping room) tokens.old) result tokens.new }
 {
@@ -141,7 +141,7 @@ fn inside(alloc: Global, tokens: &mut Cursor<'_>, room: usize) -> Result<Shape, 
 
 // A map.
 #[cycle(mapping)]
-#[tactic(auto, unfolding(crate::specs::ReadTypes::mapping, crate::specs::ReadTypes::mapping_by))]
+#[tactic(auto, unfolding(crate::specs::code::ReadTypes::mapping, crate::specs::code::ReadTypes::mapping_by))]
 fn mapping(alloc: Global, tokens: &mut Cursor<'_>, room: usize) -> Result<Shape, Stop>
     ensures { Reads (spec.mapping room tokens.old) result tokens.new }
 {
@@ -156,7 +156,7 @@ fn mapping(alloc: Global, tokens: &mut Cursor<'_>, room: usize) -> Result<Shape,
 
 // A map that begins with a parenthesis.
 #[cycle(mapping)]
-#[tactic(auto, unfolding(crate::specs::ReadTypes::map_open, crate::specs::ReadTypes::mapping))]
+#[tactic(auto, unfolding(crate::specs::code::ReadTypes::map_open, crate::specs::code::ReadTypes::mapping))]
 fn map_open(alloc: Global, tokens: &mut Cursor<'_>, room: usize) -> Result<Shape, Stop>
     ensures { Reads (spec.map_open room tokens.old) result tokens.new }
 {
@@ -168,7 +168,7 @@ fn map_open(alloc: Global, tokens: &mut Cursor<'_>, room: usize) -> Result<Shape
 }
 
 // What follows a sort that stands first.
-#[tactic(auto, unfolding(crate::specs::ReadTypes::after_sort))]
+#[tactic(auto, unfolding(crate::specs::code::ReadTypes::after_sort))]
 fn after_sort(alloc: Global, tokens: &mut Cursor<'_>, first: SortName) -> Result<Shape, Stop>
     ensures { Reads (spec.after_sort first tokens.old) result tokens.new }
 {
@@ -202,7 +202,7 @@ fn dollar_shape(alloc: Global, tokens: &mut Cursor<'_>, word: &[u8]) -> Result<S
 }
 
 // What a type line declares of its name.
-#[tactic(auto, unfolding(crate::specs::ReadTypes::shape))]
+#[tactic(auto, unfolding(crate::specs::code::ReadTypes::shape))]
 fn shape(alloc: Global, tokens: &mut Cursor<'_>, room: usize) -> Result<Shape, Stop>
     ensures { Reads (spec.shape room tokens.old) result tokens.new }
 {
@@ -214,7 +214,7 @@ fn shape(alloc: Global, tokens: &mut Cursor<'_>, room: usize) -> Result<Shape, S
 }
 
 // What follows the name.
-#[tactic(auto, unfolding(crate::specs::ReadTypes::typed))]
+#[tactic(auto, unfolding(crate::specs::code::ReadTypes::typed))]
 fn typed(alloc: Global, tokens: &mut Cursor<'_>, room: usize, name: &Text) -> Result<Typing, Stop>
     ensures { Reads (spec.typed room name.now tokens.old) result tokens.new }
 {
@@ -226,7 +226,7 @@ fn typed(alloc: Global, tokens: &mut Cursor<'_>, room: usize, name: &Text) -> Re
 
 /// The body of a type line.
 #[cycle(typing)]
-#[tactic(auto, unfolding(crate::specs::ReadTypes::typing, crate::specs::ReadTypes::typing_by))]
+#[tactic(auto, unfolding(crate::specs::code::ReadTypes::typing, crate::specs::code::ReadTypes::typing_by))]
 pub fn typing(alloc: Global, tokens: &mut Cursor<'_>, room: usize) -> Result<Typing, Stop>
     ensures { Reads (spec.typing room tokens.old) result tokens.new }
 {
@@ -246,7 +246,7 @@ pub fn typing(alloc: Global, tokens: &mut Cursor<'_>, room: usize) -> Result<Typ
 
 // The same in parentheses.
 #[cycle(typing)]
-#[tactic(auto, unfolding(crate::specs::ReadTypes::typing_open, crate::specs::ReadTypes::typing))]
+#[tactic(auto, unfolding(crate::specs::code::ReadTypes::typing_open, crate::specs::code::ReadTypes::typing))]
 fn typing_open(alloc: Global, tokens: &mut Cursor<'_>, room: usize) -> Result<Typing, Stop>
     ensures { Reads (spec.typing_open room tokens.old) result tokens.new }
 {

@@ -1,10 +1,10 @@
 // The productions of terms and atoms, one function for each. `room` is the nesting that is left.
 ghost use Rattle.std.specs.Prelude.{◌≡◌, List};
-ghost use Rattle.first_fault.specs.Reading.{separated};
+ghost use Rattle.first_fault.specs.code.Reading.{separated};
 ghost use Rattle.tptp_lexer.specs.declared.token.Token.{Token};
 ghost use Rattle.tptp_base.specs.declared.surface.STerm.{out-STerm};
-ghost use Rattle.tptp_grammar.specs.ReadTerms as spec;
-ghost use Rattle.tptp_grammar.specs.Outcomes.{Reads};
+ghost use Rattle.tptp_grammar.specs.code.ReadTerms as spec;
+ghost use Rattle.tptp_grammar.specs.code.Outcomes.{Reads};
 
 use crate::cursor::Cursor;
 use crate::lists::short_list;
@@ -15,7 +15,7 @@ use tptp_lexer::{Mark, Token};
 
 /// A variable, or a word with the arguments that may follow it.
 #[cycle(term)]
-#[tactic(auto, unfolding(crate::specs::ReadTerms::term, crate::specs::ReadTerms::term_by))]
+#[tactic(auto, unfolding(crate::specs::code::ReadTerms::term, crate::specs::code::ReadTerms::term_by))]
 pub fn term(alloc: Global, tokens: &mut Cursor<'_>, room: usize) -> Result<STerm, Stop>
     ensures { Reads (spec.term room tokens.old) result tokens.new }
 {
@@ -38,7 +38,7 @@ pub fn term(alloc: Global, tokens: &mut Cursor<'_>, room: usize) -> Result<STerm
 
 // What follows a word.
 #[cycle(term)]
-#[tactic(auto, unfolding(crate::specs::ReadTerms::applied))]
+#[tactic(auto, unfolding(crate::specs::code::ReadTerms::applied))]
 fn applied(alloc: Global, tokens: &mut Cursor<'_>, room: usize, name: &Text) -> Result<STerm, Stop>
     ensures { Reads (spec.applied (spec.arguments room) name.now tokens.old) result tokens.new }
 {
@@ -51,7 +51,7 @@ fn applied(alloc: Global, tokens: &mut Cursor<'_>, room: usize, name: &Text) -> 
 
 // The arguments in their parentheses.
 #[cycle(term)]
-#[tactic(auto, unfolding(crate::specs::ReadTerms::arguments, crate::specs::ReadTerms::term))]
+#[tactic(auto, unfolding(crate::specs::code::ReadTerms::arguments, crate::specs::code::ReadTerms::term))]
 fn arguments(alloc: Global, tokens: &mut Cursor<'_>, room: usize) -> Result<List<STerm>, Stop>
     ensures { Reads (spec.arguments room tokens.old) result tokens.new }
 {
@@ -88,7 +88,7 @@ fn atom_of(term: STerm) -> Result<Surface, Stop>
 }
 
 // What follows the first term of an atom.
-#[tactic(auto, unfolding(crate::specs::ReadTerms::equated))]
+#[tactic(auto, unfolding(crate::specs::code::ReadTerms::equated))]
 fn equated(
     alloc: Global,
     tokens: &mut Cursor<'_>,
@@ -107,7 +107,7 @@ fn equated(
 }
 
 // What follows the first term of an atom or an inequation.
-#[tactic(auto, unfolding(crate::specs::ReadTerms::compared))]
+#[tactic(auto, unfolding(crate::specs::code::ReadTerms::compared))]
 fn compared(
     alloc: Global,
     tokens: &mut Cursor<'_>,
@@ -126,7 +126,7 @@ fn compared(
 }
 
 // `$true` or `$false`.
-#[tactic(auto, unfolding(crate::specs::ReadTerms::constant))]
+#[tactic(auto, unfolding(crate::specs::code::ReadTerms::constant))]
 fn constant(tokens: &mut Cursor<'_>, word: &[u8]) -> Result<Surface, Stop>
     ensures { Reads (spec.constant word.now tokens.old) result tokens.new }
 {
@@ -142,7 +142,7 @@ fn constant(tokens: &mut Cursor<'_>, word: &[u8]) -> Result<Surface, Stop>
 }
 
 /// An atom.
-#[tactic(auto, unfolding(crate::specs::ReadTerms::atom))]
+#[tactic(auto, unfolding(crate::specs::code::ReadTerms::atom))]
 pub fn atom(alloc: Global, tokens: &mut Cursor<'_>, room: usize) -> Result<Surface, Stop>
     ensures { Reads (spec.atom room tokens.old) result tokens.new }
 {
@@ -156,7 +156,7 @@ pub fn atom(alloc: Global, tokens: &mut Cursor<'_>, room: usize) -> Result<Surfa
 }
 
 /// An atom or an inequation.
-#[tactic(auto, unfolding(crate::specs::ReadTerms::basic))]
+#[tactic(auto, unfolding(crate::specs::code::ReadTerms::basic))]
 pub fn basic(alloc: Global, tokens: &mut Cursor<'_>, room: usize) -> Result<Surface, Stop>
     ensures { Reads (spec.basic room tokens.old) result tokens.new }
 {

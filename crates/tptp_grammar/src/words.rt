@@ -3,7 +3,7 @@ ghost use Rattle.std.specs.Prelude.{◌≡◌};
 ghost use Rattle.std.specs.Char.{is_ascii_digit};
 ghost use Rattle.std.specs.List.{list_all};
 ghost use Rattle.tptp_grammar.specs.Items as items;
-ghost use Rattle.tptp_grammar.specs.ReadItems as spec;
+ghost use Rattle.tptp_grammar.specs.code.ReadItems as spec;
 
 use tptp_base::{Lang, Role};
 
@@ -36,7 +36,7 @@ fn all_digits(text: &[u8]) -> bool
 }
 
 /// The language of this word.
-#[tactic(auto, unfolding(crate::specs::ReadItems::lang_of))]
+#[tactic(auto, unfolding(crate::specs::code::ReadItems::lang_of))]
 pub fn lang_of(word: &[u8]) -> Option<Lang>
     ensures { result ≡ spec.lang_of word.now }
 {
@@ -52,7 +52,7 @@ pub fn lang_of(word: &[u8]) -> Option<Lang>
 }
 
 /// The role of this word.
-#[tactic(auto, unfolding(crate::specs::ReadItems::role_of))]
+#[tactic(auto, unfolding(crate::specs::code::ReadItems::role_of))]
 pub fn role_of(word: &[u8]) -> Option<Role>
     ensures { result ≡ spec.role_of word.now }
 {

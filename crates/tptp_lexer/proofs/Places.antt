@@ -10,7 +10,7 @@ use Rattle.memchr.specs.Find.{IsLastByte, is_byte}
 use Rattle.tptp_base.specs.declared.place.Place.{Place}
 use Rattle.tptp_base.specs.Place.{place_of, is_line_feed, is_no_line_feed}
 use Rattle.tptp_lexer.specs.Bytes.{Text, is_in_line}
-use Rattle.tptp_lexer.specs.Step.{IsOneLine}
+use Rattle.tptp_lexer.specs.code.Step.{IsOneLine}
 use Rattle.tptp_lexer.proofs.Runs.{not_true}
 
 -- ---- the last line feed of a piece

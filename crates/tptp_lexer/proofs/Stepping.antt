@@ -15,9 +15,9 @@ use Rattle.tptp_lexer.specs.declared.token.Token.{Token}
 use Rattle.tptp_lexer.specs.declared.token.Tokens.{Tokens}
 use Rattle.tptp_lexer.specs.Answer.{IsOpen, BeginsNothing, part, Answers}
 use Rattle.tptp_lexer.specs.Bytes.{Text}
-use Rattle.tptp_lexer.specs.Scan.{front_of, token_of}
+use Rattle.tptp_lexer.specs.code.Scan.{front_of, token_of}
 use Rattle.tptp_lexer.specs.Spelled.{IsLongest}
-use Rattle.tptp_lexer.specs.Step.{Items, rest_of, Takes, Stepped}
+use Rattle.tptp_lexer.specs.code.Step.{Items, rest_of, Takes, Stepped}
 use Rattle.tptp_lexer.specs.Tokenized.{Cut, here, after_token, placed}
 use Rattle.tptp_lexer.proofs.Sound.{SaysFront, front_says, spelled_some, nothing_begins}
 use Rattle.tptp_lexer.proofs.Cuts.{found_longest, blanks_cut, cut_join}

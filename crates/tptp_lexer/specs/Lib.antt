@@ -4,7 +4,6 @@ pub mod Comments
 pub mod Marks
 pub mod Numbers
 pub mod Quotes
-pub mod Scan
 pub mod Spelled
-pub mod Step
 pub mod Tokenized
+pub mod code

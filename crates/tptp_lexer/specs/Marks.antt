@@ -1,8 +1,8 @@
 -- The spellings of the marks: the punctuation and the connectives of the TPTP BNF.
 use Rattle.std.specs.Prelude.{codes}
 use Rattle.tptp_lexer.specs.declared.token.Mark.{Mark}
-use Rattle.tptp_lexer.specs.declared.token.Mark.TheVariants as m
 use Rattle.tptp_lexer.specs.Bytes.{Text}
+use Rattle.tptp_lexer.specs.declared.token.Mark.TheVariants as m
 
 abbrev pub mark_text : Mark → Text
 mark_text m.Open = codes "("

@@ -1,7 +1,7 @@
 //! Places further on in a text.
 ghost use Rattle.std.specs.Prelude.{◌≡◌, ◌≤◌, length, count_by};
 ghost use Rattle.tptp_base.specs.Place.{place_of, is_line_feed};
-ghost use Rattle.tptp_lexer.specs.Step.{IsOneLine};
+ghost use Rattle.tptp_lexer.specs.code.Step.{IsOneLine};
 
 use crate::bytes::line_len;
 use memchr::memrchr;

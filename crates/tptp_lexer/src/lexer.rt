@@ -5,9 +5,9 @@ ghost use Rattle.tptp_lexer.specs.declared.fault.LexFault.{LexFault};
 ghost use Rattle.tptp_lexer.specs.declared.token.Token.{Token};
 ghost use Rattle.tptp_lexer.specs.declared.token.Tokens.{Tokens};
 ghost use Rattle.tptp_lexer.specs.Answer.{IsWithin, Answers, IsOne, Gives, part};
-ghost use Rattle.tptp_lexer.specs.Step.{Stepped, IsOneLine};
+ghost use Rattle.tptp_lexer.specs.code.Step.{Stepped, IsOneLine};
 ghost use Rattle.tptp_lexer.specs.Tokenized.{Tokenized, bare_items};
-ghost use Rattle.tptp_lexer.specs.Scan as scan;
+ghost use Rattle.tptp_lexer.specs.code.Scan as scan;
 
 use crate::advance::advance;
 use crate::make::token_of;

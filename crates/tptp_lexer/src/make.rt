@@ -1,6 +1,6 @@
 //! Tokens from their spellings.
 ghost use Rattle.std.specs.Prelude.{◌≡◌, ◌≤◌, ◌++◌, ◌∷◌, [], length, IfOk, OnOk};
-ghost use Rattle.tptp_lexer.specs.Scan as spec;
+ghost use Rattle.tptp_lexer.specs.code.Scan as spec;
 
 use crate::Token;
 use crate::quotes::unescaped;

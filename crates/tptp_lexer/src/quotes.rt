@@ -1,7 +1,7 @@
 //! Where a quote ends, and what it holds.
 ghost use Rattle.std.specs.Prelude.{◌≡◌, ◌≤◌, ◌<◌, length, IfOk, false};
 ghost use Rattle.tptp_lexer.specs.Quotes as written;
-ghost use Rattle.tptp_lexer.specs.Scan as spec;
+ghost use Rattle.tptp_lexer.specs.code.Scan as spec;
 
 use memchr::memchr;
 use std::alloc::Global;

@@ -14,7 +14,7 @@ use Rattle.sort_check.specs.declared.fault.SortFault.{SortFault}
 use Rattle.sort_check.specs.declared.line.Line.{Line}
 use Rattle.sort_check.specs.declared.line.TextKind.TheVariants as kind
 use Rattle.sort_check.specs.Texts.{denoted}
-use Rattle.tptp_run.specs.Answer.{ending_of}
+use Rattle.tptp_run.specs.code.Answer.{ending_of}
 use Rattle.tptp_run.specs.CheckedLog.{IsGiven}
 use Rattle.tptp_run.specs.Complete.{IsWellSorted}
 use Rattle.tptp_run.specs.Denoted.{first_vocabulary, SaysIncludeFault, SaysSortFault}
@@ -23,9 +23,10 @@ use Rattle.tptp_run.specs.Ending.{Ending, says}
 use Rattle.tptp_run.specs.OtherFaults.{SaysWalkFault, SaysProblemFault, SaysFileFault, SaysLinesFault, SaysDerivedFault, SaysTaskFault, SaysOtherFault, TakesOtherFault}
 use Rattle.tptp_run.specs.Outcome.{LacksProblem, LacksOther, SaysMissing}
 use Rattle.tptp_run.specs.Parsed.{counted}
-use Rattle.tptp_run.specs.Sources.{IsSource, given_names}
+use Rattle.tptp_run.specs.code.Sources.{IsSource}
+use Rattle.tptp_run.specs.Sources.{given_names}
 use Rattle.tptp_run.specs.Spelled.{IsTextRefusal}
-use Rattle.tptp_run.specs.Stop.{IfAnswer, IfRefused}
+use Rattle.tptp_run.specs.code.Stop.{IfAnswer, IfRefused}
 use Rattle.tptp_run.specs.Words.{Task, Verify, Format, Parse, Check, Request, IsForm}
 use Rattle.tptp_run.specs.declared.sources.Source.{Source}
 use Rattle.tptp_run.specs.declared.stop.Answer.{Answer}

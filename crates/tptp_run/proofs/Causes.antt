@@ -3,7 +3,7 @@ use Rattle.std.specs.Prelude.{IfErr}
 use Rattle.std.specs.Result.{IsErr, IsErrAnd}
 use Rattle.std.proofs.Common.{◌≡◌, ℕ, ◌≤◌, Result, Ok, Err, sym, subst, arith}
 use Rattle.tptp_base.specs.Count.{Rose}
-use Rattle.tptp_run.specs.Stop.{HasCause}
+use Rattle.tptp_run.specs.code.Stop.{HasCause}
 use Rattle.tptp_run.specs.declared.stop.Stop.{Stop}
 use Rattle.tptp_run.specs.declared.stop.Stop.TheVariants.{Store, Sink, Memory}
 

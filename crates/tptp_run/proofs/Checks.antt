@@ -8,7 +8,7 @@ use Rattle.tptp_base.specs.Count.{Rose}
 use Rattle.tptp_base.specs.Store.{Files, HasFile}
 use Rattle.tptp_base.proofs.Taken.{takes_nothing}
 use Rattle.fof_terms.specs.Vocabulary.{Vocabulary}
-use Rattle.fof_terms.specs.Scoped.{raised}
+use Rattle.fof_terms.proofs.Scoped.{raised}
 use Rattle.fof_terms.specs.Sorts.{Sorted}
 use Rattle.fof_terms.specs.declared.form.Form.{Form}
 use Rattle.kernel.specs.Statements.{Statements}
@@ -30,10 +30,11 @@ use Rattle.proof_log.specs.declared.reader.LogFault.{LogFault}
 use Rattle.proof_log.specs.declared.reader.TheConstants.{MAX_NESTING}
 use Rattle.tptp_run.specs.CheckedLog.{given_theory, IsTheoryOf, IsGiven, SaysLogFault, SaysEntries, SaysLog, EndsCheck}
 use Rattle.tptp_run.specs.Denoted.{first_vocabulary, SaysIncludeFault, SaysSortFault, IsProblemRefusal}
-use Rattle.tptp_run.specs.Ending.{Ending, IsReadRefusal, AfterFile}
-use Rattle.tptp_run.specs.Answer.{ending_of, IsAnswerWithLog}
+use Rattle.tptp_run.specs.Ending.{Ending, AfterFile}
+use Rattle.tptp_run.specs.code.Ending.{IsReadRefusal}
+use Rattle.tptp_run.specs.code.Answer.{ending_of, IsAnswerWithLog}
 use Rattle.tptp_run.specs.Ends as Said
-use Rattle.tptp_run.specs.Stop.{HasCause, IfAnswer, IfStopped}
+use Rattle.tptp_run.specs.code.Stop.{HasCause, IfAnswer, IfStopped}
 use Rattle.tptp_run.specs.Words.{Task, Check, Request, IsForm}
 use Rattle.tptp_run.specs.declared.stop.Answer.{Answer}
 use Rattle.tptp_run.specs.declared.stop.Halt.{Halt}

@@ -8,7 +8,7 @@ use Rattle.include_resolve.specs.Resolved.{Resolves}
 use Rattle.sort_check.specs.declared.fault.SortFault.{SortFault}
 use Rattle.sort_check.specs.declared.line.TextKind.TheVariants as kind
 use Rattle.sort_check.specs.Texts.{denoted}
-use Rattle.tptp_run.specs.Answer.{with_log, IsAnswerWithLog}
+use Rattle.tptp_run.specs.code.Answer.{with_log, IsAnswerWithLog}
 use Rattle.tptp_run.specs.CheckedLog.{given_theory, IsGiven, SaysLog, EndsCheck}
 use Rattle.tptp_run.specs.Complete.{IsWellSpelled, IsWellSorted, IsRefutedByLog, MeetsNoFault}
 use Rattle.tptp_run.specs.Denoted.{first_vocabulary}

@@ -7,7 +7,7 @@ use Rattle.sort_check.specs.declared.line.GivenEntry.{GivenEntry}
 use Rattle.sort_check.specs.declared.line.Line.{Line}
 use Rattle.sort_check.specs.Given.{given_entries}
 use Rattle.derivation_check.proofs.Ends.{good_verified}
-use Rattle.tptp_run.specs.Answer.{with_log, IsAnswerWithLog}
+use Rattle.tptp_run.specs.code.Answer.{with_log, IsAnswerWithLog}
 use Rattle.tptp_run.specs.CheckedLog.{given_theory}
 use Rattle.tptp_run.specs.Ending.{Ending}
 use Rattle.tptp_run.specs.Ends.{EndsTask, Ends}

@@ -28,7 +28,7 @@ use Rattle.derivation_check.specs.Checks.{Checks}
 use Rattle.sort_check.specs.Bringing.{Brings}
 use Rattle.derivation_text.proofs.Bringing.{derivation_brings}
 use Rattle.derivation_check.proofs.Ends.{refutes_logged}
-use Rattle.tptp_run.specs.Answer.{with_log, IsAnswerWithLog}
+use Rattle.tptp_run.specs.code.Answer.{with_log, IsAnswerWithLog}
 use Rattle.tptp_run.specs.CheckedLog.{given_theory, IsGiven}
 use Rattle.tptp_run.specs.Denoted.{SaysIncludeFault, SaysTextFault, SaysSortFault, rule_status}
 use Rattle.tptp_run.specs.Derived.{SaysDerivationFault, SaysGraphFault, SaysLineFault}

@@ -26,8 +26,9 @@ use Rattle.sort_check.proofs.GivenSorts.{given_sorted}
 use Rattle.sort_check.proofs.Stepping.{at_ok, then_ok, mapped_ok}
 use Rattle.tptp_run.specs.CheckedLog.{given_theory, IsTheoryOf}
 use Rattle.tptp_run.specs.Denoted.{first_vocabulary}
-use Rattle.tptp_run.specs.Sources.{IsSource, IsSourceOf, given_names, conjecture_marks, has_conjecture}
-use Rattle.tptp_run.specs.Stop.{IfRefused, IfStopped}
+use Rattle.tptp_run.specs.code.Sources.{IsSource, IsSourceOf}
+use Rattle.tptp_run.specs.Sources.{given_names, conjecture_marks, has_conjecture}
+use Rattle.tptp_run.specs.code.Stop.{IfRefused, IfStopped}
 use Rattle.tptp_run.specs.declared.sources.Source.{Source}
 use Rattle.tptp_run.specs.declared.stop.Answer.{Answer}
 use Rattle.tptp_run.specs.declared.stop.Halt.{Halt}

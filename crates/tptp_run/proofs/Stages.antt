@@ -6,9 +6,10 @@ use Rattle.tptp_base.specs.declared.limit.LimitName.{LimitName}
 use Rattle.tptp_base.specs.declared.limit.LimitName.TheVariants.{FileSize, TotalSize}
 use Rattle.tptp_base.specs.declared.read.TheConstants.{FILE_SIZE}
 use Rattle.tptp_base.proofs.Taken.{takes_nothing}
-use Rattle.tptp_run.specs.Answer.{ending_of, IsAnswerWithLog}
-use Rattle.tptp_run.specs.Ending.{Ending, IsReadRefusal, AfterFile, over_limit}
-use Rattle.tptp_run.specs.Stop.{IfAnswer, IfRefused}
+use Rattle.tptp_run.specs.code.Answer.{ending_of, IsAnswerWithLog}
+use Rattle.tptp_run.specs.Ending.{Ending, AfterFile, over_limit}
+use Rattle.tptp_run.specs.code.Ending.{IsReadRefusal}
+use Rattle.tptp_run.specs.code.Stop.{IfAnswer, IfRefused}
 use Rattle.tptp_run.specs.declared.stop.Answer.{Answer}
 use Rattle.tptp_run.specs.declared.stop.Halt.{Halt}
 use Rattle.tptp_run.specs.declared.stop.Halt.TheVariants.{Refused, Stopped}

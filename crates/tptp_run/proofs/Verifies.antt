@@ -15,15 +15,17 @@ use Rattle.derivation_check.specs.Logs.{ChecksWithLog, TakesSomeOfLog}
 use Rattle.derivation_check.specs.declared.checking.Report.{Report}
 use Rattle.derivation_text.specs.Derivations.{IsDerivation}
 use Rattle.derivation_text.specs.declared.derivation.Derivation.{Derivation}
-use Rattle.tptp_run.specs.Answer.{ending_of, with_log, IsAnswerWithLog}
+use Rattle.tptp_run.specs.code.Answer.{ending_of, with_log, IsAnswerWithLog}
 use Rattle.tptp_run.specs.CheckedLog.{given_theory, IsGiven}
 use Rattle.tptp_run.specs.Denoted.{IsProblemRefusal}
 use Rattle.tptp_run.specs.Derived.{IsDerivationRefusal}
-use Rattle.tptp_run.specs.Ending.{Ending, IsReadRefusal, AfterFile}
+use Rattle.tptp_run.specs.Ending.{Ending, AfterFile}
+use Rattle.tptp_run.specs.code.Ending.{IsReadRefusal}
 use Rattle.tptp_run.specs.Ends as Said
 use Rattle.tptp_run.specs.Outcome.{TakesSomeOfProblemLog, TakesSomeOfTaskLog, TakesSomeOfRunLog}
-use Rattle.tptp_run.specs.Sources.{IsSource, given_names, conjecture_marks, has_conjecture}
-use Rattle.tptp_run.specs.Stop.{HasCause, IfAnswer, IfRefused, IfStopped}
+use Rattle.tptp_run.specs.code.Sources.{IsSource}
+use Rattle.tptp_run.specs.Sources.{given_names, conjecture_marks, has_conjecture}
+use Rattle.tptp_run.specs.code.Stop.{HasCause, IfAnswer, IfRefused, IfStopped}
 use Rattle.tptp_run.specs.Verifying.{EndsChecked, EndsVerify, SaysDerivation, asked_by, status_of}
 use Rattle.tptp_run.specs.Words.{Task, Verify, Request, IsForm}
 use Rattle.tptp_run.specs.declared.run.TheConstants.{TOTAL_SIZE}

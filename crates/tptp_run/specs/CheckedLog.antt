@@ -13,11 +13,9 @@ use Rattle.proof_log.specs.declared.checking.CheckFault.TheVariants.{Illegal, No
 use Rattle.proof_log.specs.declared.reader.LogFault.{LogFault}
 use Rattle.proof_log.specs.declared.reader.LogFault.TheVariants.{Text, Deep, Limit, Memory}
 use Rattle.proof_log.specs.declared.reader.TheConstants.{MAX_NESTING}
-use Rattle.proof_log.specs.Answers as reader
 use Rattle.include_resolve.specs.declared.problem.Problem.{Problem}
 use Rattle.include_resolve.specs.Resolved.{Resolves}
 use Rattle.sort_check.specs.declared.line.Line.{Line}
-use Rattle.sort_check.specs.declared.line.TextKind.TheVariants as kind
 use Rattle.sort_check.specs.Texts.{denoted}
 use Rattle.sort_check.specs.declared.line.GivenEntry.{GivenEntry}
 use Rattle.sort_check.specs.Given.{given_entries}
@@ -25,6 +23,8 @@ use Rattle.tptp_run.specs.Denoted.{first_vocabulary, AfterResolved, AfterDenoted
 use Rattle.tptp_run.specs.Ending.{Ending, says, AfterFile}
 use Rattle.szs_report.specs.Report.{line}
 use Rattle.tptp_run.specs.declared.run.TheConstants.{TOTAL_SIZE}
+use Rattle.proof_log.specs.Answers as reader
+use Rattle.sort_check.specs.declared.line.TextKind.TheVariants as kind
 
 -- the theory of what the lines of a problem give
 abbrev pub given_theory : List Line → Vocabulary → Statements

@@ -8,22 +8,22 @@ use Rattle.tptp_base.specs.Store.{Files}
 use Rattle.canon_print.specs.Words.{name_text}
 use Rattle.fof_terms.specs.Vocabulary.{Vocabulary}
 use Rattle.include_resolve.specs.declared.fault.IncludeFault.{IncludeFault}
-use Rattle.include_resolve.specs.declared.fault.IncludeFault.TheVariants as included
 use Rattle.include_resolve.specs.declared.fault.TextFault.{TextFault}
 use Rattle.include_resolve.specs.declared.fault.TextFault.TheVariants.{Lex, Grammar}
 use Rattle.include_resolve.specs.declared.problem.Problem.{Problem}
 use Rattle.include_resolve.specs.Resolved.{Resolves}
 use Rattle.sort_check.specs.declared.fault.SortFault.{SortFault}
-use Rattle.sort_check.specs.declared.fault.SortFault.TheVariants as sorted
 use Rattle.sort_check.specs.declared.fault.SortRule.{SortRule}
-use Rattle.sort_check.specs.declared.fault.SortRule.TheVariants as rule
 use Rattle.sort_check.specs.declared.line.Line.{Line}
-use Rattle.sort_check.specs.declared.line.TextKind.TheVariants as kind
 use Rattle.sort_check.specs.Outcomes.{Outcome}
 use Rattle.sort_check.specs.Texts.{denoted}
 use Rattle.tptp_run.specs.Ending.{Ending, says, no_such_file, limit_text, over_limit}
 use Rattle.szs_report.specs.Report.{line}
 use Rattle.tptp_run.specs.Spelled.{said_at, SaysLexFault, SaysGrammarFault}
+use Rattle.include_resolve.specs.declared.fault.IncludeFault.TheVariants as included
+use Rattle.sort_check.specs.declared.fault.SortFault.TheVariants as sorted
+use Rattle.sort_check.specs.declared.fault.SortRule.TheVariants as rule
+use Rattle.sort_check.specs.declared.line.TextKind.TheVariants as kind
 
 -- ---- includes
 

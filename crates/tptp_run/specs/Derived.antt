@@ -5,16 +5,16 @@ use Rattle.tptp_base.specs.declared.place.Place.{Place}
 use Rattle.canon_print.specs.Words.{name_text}
 use Rattle.fof_terms.specs.Vocabulary.{Vocabulary}
 use Rattle.sort_check.specs.declared.fault.SortFault.{SortFault}
-use Rattle.sort_check.specs.declared.fault.SortFault.TheVariants as sorted
 use Rattle.tstp_graph.specs.declared.fault.GraphFault.{GraphFault}
-use Rattle.tstp_graph.specs.declared.fault.GraphFault.TheVariants as graph
 use Rattle.derivation_text.specs.Derivations.{IsDerivation, IsFirstFault}
 use Rattle.derivation_text.specs.declared.derivation.Derivation.{Derivation}
 use Rattle.derivation_text.specs.declared.fault.DerivationFault.{DerivationFault}
-use Rattle.derivation_text.specs.declared.fault.DerivationFault.TheVariants as derived
 use Rattle.tptp_run.specs.Denoted.{against_rule, in_line}
 use Rattle.tptp_run.specs.Ending.{Ending, says, over_limit}
 use Rattle.tptp_run.specs.Spelled.{said_at, SaysLexFault, SaysGrammarFault}
+use Rattle.sort_check.specs.declared.fault.SortFault.TheVariants as sorted
+use Rattle.tstp_graph.specs.declared.fault.GraphFault.TheVariants as graph
+use Rattle.derivation_text.specs.declared.fault.DerivationFault.TheVariants as derived
 
 -- what is said of the line of this name at the place
 abbrev pub says_in : List ℕ → Place → Name → List ℕ → Ending

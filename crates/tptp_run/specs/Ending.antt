@@ -1,5 +1,5 @@
 -- How a run ends that meets no fault of the outside: the status, and the texts that the two sinks take.
-use Rattle.std.specs.Prelude.{◌≡◌, ◌⊎◌, ℕ, List, [], ◌++◌, length, codes, None, Some}
+use Rattle.std.specs.Prelude.{◌≡◌, ℕ, List, [], ◌++◌, length, codes, None, Some}
 use Rattle.tptp_base.specs.Store.{Files, file_at}
 use Rattle.tptp_base.specs.Read.{IsOver}
 use Rattle.tptp_base.specs.declared.limit.LimitName.{LimitName}
@@ -31,11 +31,6 @@ limit_text Sorts = codes "sorts"
 
 abbrev pub over_limit : List ℕ → LimitName → Ending
 over_limit name limit = says 7 (line (name ++ (codes ": limit " ++ limit_text limit)))
-
--- a file is missing, or over a limit, and this is said
-abbrev pub IsReadRefusal : Files → List ℕ → ℕ → Ending → Type 0
-IsReadRefusal files name budget ending = ((file_at files name ≡ None) × (ending ≡ no_such_file name))
-    ⊎ ((limit : LimitName) × (text : List ℕ) × (file_at files name ≡ Some text) × IsOver limit budget (length text) × (ending ≡ over_limit name limit))
 
 -- The bytes of a file go on to the rest, unless the file is missing or over a limit.
 pub record AfterFile (files : Files) (name : List ℕ) (budget : ℕ) (Rest : List ℕ → Ending → Type 0) (ending : Ending) : Type 0 where

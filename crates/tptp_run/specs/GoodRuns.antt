@@ -9,7 +9,6 @@ use Rattle.fof_terms.specs.Vocabulary.{Vocabulary}
 use Rattle.include_resolve.specs.declared.problem.Problem.{Problem}
 use Rattle.include_resolve.specs.Resolved.{Resolves}
 use Rattle.sort_check.specs.declared.line.Line.{Line}
-use Rattle.sort_check.specs.declared.line.TextKind.TheVariants as kind
 use Rattle.sort_check.specs.Texts.{denoted}
 use Rattle.derivation_check.specs.GoodCases.{IsGoodCase}
 use Rattle.derivation_text.specs.Derivations.{IsDerivation}
@@ -21,6 +20,7 @@ use Rattle.tptp_run.specs.Ending.{Ending}
 use Rattle.tptp_run.specs.Sources.{given_names, conjecture_marks, has_conjecture}
 use Rattle.tptp_run.specs.Verifying.{asked_by}
 use Rattle.tptp_run.specs.declared.run.TheConstants.{TOTAL_SIZE}
+use Rattle.sort_check.specs.declared.line.TextKind.TheVariants as kind
 
 -- The text is a good derivation from what these lines of a problem give.
 pub record IsGoodText (problem file : List ℕ) (lines : List Line) (v : Vocabulary) (text : List ℕ) : Type 0 where

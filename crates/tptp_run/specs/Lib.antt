@@ -1,4 +1,3 @@
-pub mod Answer
 pub mod CheckedLog
 pub mod Complete
 pub mod Contradictory
@@ -9,7 +8,6 @@ pub mod Ends
 pub mod Formatted
 pub mod GoodRuns
 pub mod LogName
-pub mod Options
 pub mod OtherFaults
 pub mod Outcome
 pub mod Parsed
@@ -19,3 +17,4 @@ pub mod Spelled
 pub mod Stop
 pub mod Verifying
 pub mod Words
+pub mod code

@@ -11,7 +11,6 @@ use Rattle.include_resolve.specs.declared.problem.Problem.{Problem}
 use Rattle.include_resolve.specs.Resolved.{Resolves}
 use Rattle.sort_check.specs.declared.fault.SortFault.{SortFault}
 use Rattle.sort_check.specs.declared.line.Line.{Line}
-use Rattle.sort_check.specs.declared.line.TextKind.TheVariants as kind
 use Rattle.sort_check.specs.Texts.{denoted}
 use Rattle.tptp_run.specs.Denoted.{first_vocabulary, SaysIncludeFault, SaysSortFault}
 use Rattle.tptp_run.specs.Derived.{IsDerivationRefusal}
@@ -19,6 +18,7 @@ use Rattle.tptp_run.specs.Ending.{Ending}
 use Rattle.tptp_run.specs.Sources.{given_names}
 use Rattle.tptp_run.specs.Spelled.{IsTextRefusal}
 use Rattle.tptp_run.specs.Words.{Task, Verify, Format, Parse, Check, Request, IsForm}
+use Rattle.sort_check.specs.declared.line.TextKind.TheVariants as kind
 
 -- the first fault on the walk through the problem's files is another than a missing file, and it is said
 abbrev pub SaysWalkFault : Option Files → Option (List ℕ) → List ℕ → Ending → Type 0

@@ -4,15 +4,15 @@ use Rattle.tptp_base.specs.declared.item.Item.{Item}
 use Rattle.tptp_base.specs.declared.place.Place.{Place}
 use Rattle.tptp_base.specs.declared.place.Region.{Region}
 use Rattle.tptp_lexer.specs.declared.fault.LexFault.{LexFault}
-use Rattle.tptp_lexer.specs.declared.fault.LexFault.TheVariants as lexed
 use Rattle.tptp_lexer.specs.declared.style.Style.TheVariants.{Problem}
 use Rattle.tptp_lexer.specs.declared.token.Tokens.{Tokens}
-use Rattle.tptp_lexer.specs.Answer as lexer
 use Rattle.tptp_grammar.specs.declared.fault.GrammarFault.{GrammarFault}
-use Rattle.tptp_grammar.specs.declared.fault.GrammarFault.TheVariants as parsed
-use Rattle.tptp_grammar.specs.Answers as grammar
 use Rattle.tptp_run.specs.Ending.{Ending, says, over_limit}
 use Rattle.szs_report.specs.Report.{line}
+use Rattle.tptp_lexer.specs.declared.fault.LexFault.TheVariants as lexed
+use Rattle.tptp_lexer.specs.Answer as lexer
+use Rattle.tptp_grammar.specs.declared.fault.GrammarFault.TheVariants as parsed
+use Rattle.tptp_grammar.specs.Answers as grammar
 
 -- the line and the column of a place, both from 1 and in bytes
 abbrev pub place_text : Place → List ℕ

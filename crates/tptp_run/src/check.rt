@@ -2,13 +2,13 @@
 ghost use Rattle.std.specs.Prelude.{◌≡◌, ◌⊎◌, ◌≤◌, ◌-◌, IfOk, IfErr, IfSome, length};
 ghost use Rattle.std.specs.Option.{option_copied};
 ghost use Rattle.tptp_base.specs.Count.{Rose};
-ghost use Rattle.tptp_run.specs.Answer.{ending_of};
+ghost use Rattle.tptp_run.specs.code.Answer.{ending_of};
 ghost use Rattle.tptp_run.specs.CheckedLog as spec;
 ghost use Rattle.tptp_run.specs.CheckedLog.{EndsCheck, SaysLog, SaysEntries};
 ghost use Rattle.tptp_run.specs.Ending.{AfterFile};
 ghost use Rattle.tptp_run.specs.OtherFaults.{SaysProblemFault};
 ghost use Rattle.tptp_run.specs.Outcome.{IsAnswer};
-ghost use Rattle.tptp_run.specs.Stop.{HasCause, IfAnswer, IfStopped};
+ghost use Rattle.tptp_run.specs.code.Stop.{HasCause, IfAnswer, IfStopped};
 
 use crate::given::{Given, read_given};
 use crate::refusals::read_text;

@@ -5,10 +5,10 @@ ghost use Rattle.sort_check.specs.Sorting.{AreDeclared, AreSorted};
 ghost use Rattle.sort_check.specs.Texts.{denoted};
 ghost use Rattle.sort_check.specs.declared.fault.SortFault.{SortFault as sort_fault};
 ghost use Rattle.sort_check.specs.declared.line.TextKind.TheVariants as kind;
-ghost use Rattle.tptp_run.specs.Answer.{ending_of};
+ghost use Rattle.tptp_run.specs.code.Answer.{ending_of};
 ghost use Rattle.tptp_run.specs.Denoted as spec;
 ghost use Rattle.tptp_run.specs.Denoted.{first_vocabulary, SaysSortFault};
-ghost use Rattle.tptp_run.specs.Stop.{HasCause, IfRefused, IfStopped};
+ghost use Rattle.tptp_run.specs.code.Stop.{HasCause, IfRefused, IfStopped};
 
 use crate::saying::{limit_text, place_text};
 use crate::stop::{Answer, Halt, Stop, ended};

@@ -5,11 +5,11 @@ ghost use Rattle.canon_print.specs.Words.{name_text};
 ghost use Rattle.tptp_base.specs.declared.read.TheConstants.{FILE_SIZE as file_size};
 ghost use Rattle.sort_check.specs.Sorting.{Extends, IsSentence};
 ghost use Rattle.derivation_text.specs.Derivations.{IsDerivation};
-ghost use Rattle.tptp_run.specs.Answer.{ending_of};
+ghost use Rattle.tptp_run.specs.code.Answer.{ending_of};
 ghost use Rattle.tptp_run.specs.Denoted.{in_line};
 ghost use Rattle.tptp_run.specs.Derived as spec;
 ghost use Rattle.tptp_run.specs.Derived.{IsDerivationRefusal, SaysDerivationFault, SaysGraphFault, SaysLineFault};
-ghost use Rattle.tptp_run.specs.Stop.{HasCause, IfRefused, IfStopped};
+ghost use Rattle.tptp_run.specs.code.Stop.{HasCause, IfRefused, IfStopped};
 
 use crate::denoted::say_of_line;
 use crate::saying::{over_limit, say_at};

@@ -1,12 +1,12 @@
 // The command `format`.
 ghost use Rattle.std.specs.Prelude.{◌≡◌, ◌⊎◌, IfSome};
 ghost use Rattle.tptp_base.specs.Count.{Rose};
-ghost use Rattle.tptp_run.specs.Answer.{ending_of};
+ghost use Rattle.tptp_run.specs.code.Answer.{ending_of};
 ghost use Rattle.tptp_run.specs.Formatted.{EndsFormat, SaysText};
 ghost use Rattle.tptp_run.specs.OtherFaults.{SaysFileFault};
 ghost use Rattle.tptp_run.specs.Outcome.{IsAnswer};
 ghost use Rattle.tptp_run.specs.Spelled.{IsTextRefusal};
-ghost use Rattle.tptp_run.specs.Stop.{HasCause, IfAnswer, IfStopped};
+ghost use Rattle.tptp_run.specs.code.Stop.{HasCause, IfAnswer, IfStopped};
 
 use crate::refusals::read_text;
 use crate::run::TOTAL_SIZE;

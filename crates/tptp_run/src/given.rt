@@ -6,11 +6,11 @@ ghost use Rattle.sort_check.specs.Sorting.{AreSorted};
 ghost use Rattle.sort_check.specs.Texts.{denoted};
 ghost use Rattle.sort_check.specs.declared.fault.SortFault.{SortFault as sort_fault};
 ghost use Rattle.sort_check.specs.declared.line.TextKind.TheVariants as kind;
-ghost use Rattle.tptp_run.specs.Answer.{ending_of};
+ghost use Rattle.tptp_run.specs.code.Answer.{ending_of};
 ghost use Rattle.tptp_run.specs.CheckedLog.{given_theory, IsTheoryOf, IsGiven};
 ghost use Rattle.tptp_run.specs.Denoted.{first_vocabulary, SaysSortFault, IsProblemRefusal};
 ghost use Rattle.tptp_run.specs.OtherFaults.{SaysProblemFault};
-ghost use Rattle.tptp_run.specs.Stop.{HasCause, IfRefused, IfStopped};
+ghost use Rattle.tptp_run.specs.code.Stop.{HasCause, IfRefused, IfStopped};
 ghost use Rattle.tptp_run.specs.declared.run.TheConstants.{TOTAL_SIZE};
 
 use crate::denoted::{Meaning, read_meaning};

@@ -2,12 +2,12 @@
 ghost use Rattle.std.specs.Prelude.{◌≡◌, ◌⊎◌, IfOk, IfSome};
 ghost use Rattle.std.specs.Option.{option_copied};
 ghost use Rattle.tptp_base.specs.Count.{Rose};
-ghost use Rattle.tptp_run.specs.Answer.{ending_of};
+ghost use Rattle.tptp_run.specs.code.Answer.{ending_of};
 ghost use Rattle.tptp_run.specs.OtherFaults.{SaysProblemFault};
 ghost use Rattle.tptp_run.specs.Outcome.{IsAnswer};
 ghost use Rattle.tptp_run.specs.Parsed as spec;
 ghost use Rattle.tptp_run.specs.Parsed.{EndsParse};
-ghost use Rattle.tptp_run.specs.Stop.{HasCause, IfAnswer, IfStopped};
+ghost use Rattle.tptp_run.specs.code.Stop.{HasCause, IfAnswer, IfStopped};
 
 use crate::denoted::read_meaning;
 use crate::resolved::read_files;

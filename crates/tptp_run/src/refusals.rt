@@ -2,9 +2,9 @@
 ghost use Rattle.std.specs.Prelude.{◌≡◌, ◌⊎◌, ◌≤◌, IfOk, IfSome, length};
 ghost use Rattle.tptp_base.specs.Count.{Rose};
 ghost use Rattle.tptp_base.specs.Store.{HasFile};
-ghost use Rattle.tptp_run.specs.Answer.{ending_of};
-ghost use Rattle.tptp_run.specs.Ending.{IsReadRefusal};
-ghost use Rattle.tptp_run.specs.Stop.{HasCause, IfRefused, IfStopped};
+ghost use Rattle.tptp_run.specs.code.Answer.{ending_of};
+ghost use Rattle.tptp_run.specs.code.Ending.{IsReadRefusal};
+ghost use Rattle.tptp_run.specs.code.Stop.{HasCause, IfRefused, IfStopped};
 
 use crate::saying::{no_such_file, over_limit};
 use crate::stop::{Halt, Stop};

@@ -4,11 +4,11 @@ ghost use Rattle.std.specs.Option.{option_copied};
 ghost use Rattle.tptp_base.specs.Count.{Rose};
 ghost use Rattle.include_resolve.specs.Resolved.{Resolves};
 ghost use Rattle.include_resolve.specs.declared.fault.IncludeFault.{IncludeFault as include_fault};
-ghost use Rattle.tptp_run.specs.Answer.{ending_of};
+ghost use Rattle.tptp_run.specs.code.Answer.{ending_of};
 ghost use Rattle.tptp_run.specs.Denoted as spec;
 ghost use Rattle.tptp_run.specs.Denoted.{SaysIncludeFault, SaysTextFault};
 ghost use Rattle.tptp_run.specs.OtherFaults.{SaysWalkFault};
-ghost use Rattle.tptp_run.specs.Stop.{HasCause, IfRefused, IfStopped};
+ghost use Rattle.tptp_run.specs.code.Stop.{HasCause, IfRefused, IfStopped};
 ghost use Rattle.tptp_run.specs.declared.run.TheConstants.{TOTAL_SIZE};
 
 use crate::saying::{no_such_file, over_limit, say_of_file};

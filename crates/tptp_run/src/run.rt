@@ -2,14 +2,14 @@
 ghost use Rattle.std.specs.Prelude.{⊤, ◌≡◌, ◌⊎◌, ◌≤◌, ℕ, List, IfOk, IfErr, IfSome};
 ghost use Rattle.std.specs.declared.option.Option.{Option};
 ghost use Rattle.tptp_base.specs.Count.{Rose};
-ghost use Rattle.tptp_run.specs.Answer.{ending_of, IsAnswerWithLog};
+ghost use Rattle.tptp_run.specs.code.Answer.{ending_of, IsAnswerWithLog};
 ghost use Rattle.tptp_run.specs.Complete.{MeetsNoFault};
 ghost use Rattle.tptp_run.specs.Ending;
 ghost use Rattle.tptp_run.specs.Ends.{Ends};
 ghost use Rattle.tptp_run.specs.GoodRuns.{AreGood};
 ghost use Rattle.tptp_run.specs.OtherFaults.{SaysOtherFault, TakesOtherFault};
 ghost use Rattle.tptp_run.specs.Outcome.{IsAnswer, IsOutcome, IsRefutation, SaysMissing, TakesSomeOfRunLog};
-ghost use Rattle.tptp_run.specs.Stop.{HasCause, IfAnswer, IfStopped};
+ghost use Rattle.tptp_run.specs.code.Stop.{HasCause, IfAnswer, IfStopped};
 ghost use Rattle.tptp_run.specs.Words.{texts, Verify, Request, IsForm};
 
 use crate::check::check;

@@ -9,12 +9,12 @@ ghost use Rattle.sort_check.specs.Texts as texts;
 ghost use Rattle.sort_check.specs.Texts.{denoted};
 ghost use Rattle.sort_check.specs.declared.fault.SortFault.{SortFault as sort_fault};
 ghost use Rattle.sort_check.specs.declared.line.TextKind.TheVariants as kind;
-ghost use Rattle.tptp_run.specs.Answer.{ending_of};
+ghost use Rattle.tptp_run.specs.code.Answer.{ending_of};
 ghost use Rattle.tptp_run.specs.Denoted.{first_vocabulary, SaysSortFault, IsProblemRefusal};
 ghost use Rattle.tptp_run.specs.OtherFaults.{SaysProblemFault};
 ghost use Rattle.tptp_run.specs.Sources as spec;
-ghost use Rattle.tptp_run.specs.Sources.{IsSource, IsSourceOf};
-ghost use Rattle.tptp_run.specs.Stop.{HasCause, IfRefused, IfStopped};
+ghost use Rattle.tptp_run.specs.code.Sources.{IsSource, IsSourceOf};
+ghost use Rattle.tptp_run.specs.code.Stop.{HasCause, IfRefused, IfStopped};
 ghost use Rattle.tptp_run.specs.declared.run.TheConstants.{TOTAL_SIZE};
 
 use crate::denoted::{Meaning, read_meaning};

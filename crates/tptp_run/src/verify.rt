@@ -6,12 +6,12 @@ ghost use Rattle.tptp_base.specs.Count.{Rose};
 ghost use Rattle.sort_check.specs.Sorting.{AreDeclared, Extends, IsSentence};
 ghost use Rattle.tstp_graph.specs.Graphs.{IsOrdered};
 ghost use Rattle.derivation_check.specs.Logs.{TakesSomeOfLog};
-ghost use Rattle.tptp_run.specs.Answer.{ending_of, IsAnswerWithLog};
+ghost use Rattle.tptp_run.specs.code.Answer.{ending_of, IsAnswerWithLog};
 ghost use Rattle.tptp_run.specs.Derived.{IsDerivationRefusal};
 ghost use Rattle.tptp_run.specs.Ending.{AfterFile};
 ghost use Rattle.tptp_run.specs.OtherFaults.{SaysDerivedFault, SaysLinesFault, SaysProblemFault};
 ghost use Rattle.tptp_run.specs.Outcome.{IsAnswer, TakesSomeOfProblemLog};
-ghost use Rattle.tptp_run.specs.Stop.{HasCause, IfAnswer, IfStopped};
+ghost use Rattle.tptp_run.specs.code.Stop.{HasCause, IfAnswer, IfStopped};
 ghost use Rattle.tptp_run.specs.Verifying.{EndsChecked, EndsVerify, SaysDerivation, asked_by, status_of};
 
 use crate::derived::read_derived;

@@ -1,7 +1,7 @@
 // The words of the command line.
 ghost use Rattle.std.specs.Prelude.{◌≡◌, ℕ, List, ◌∷◌, ◌↔◌, IsTrue, IfSome, IfNone, codes, decimal, string_bytes};
 ghost use Rattle.std.specs.Option.{option_copied};
-ghost use Rattle.tptp_run.specs.Options.{BeginOtherwise, NameRoot, NameNoRoot, NameLimit, NameNoLimit, NameNoTask};
+ghost use Rattle.tptp_run.specs.code.Options.{BeginOtherwise, NameRoot, NameNoRoot, NameLimit, NameNoLimit, NameNoTask};
 ghost use Rattle.tptp_run.specs.Words.{texts, task_of, request_of, task_words, Task, HasNames, IsForm, IsLimit, IsName, HaveNoForm};
 
 use itoa::Buffer;

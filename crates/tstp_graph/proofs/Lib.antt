@@ -7,3 +7,4 @@ pub mod Resolving
 pub mod Settling
 pub mod Texts
 pub mod Wholes
+pub mod Readings

@@ -13,7 +13,7 @@ use Rattle.tstp_graph.specs.Lines.{is_typing}
 use Rattle.tstp_graph.specs.Meaning.{Means, resolved}
 use Rattle.tstp_graph.specs.Sources.{source_of}
 use Rattle.tstp_graph.specs.Nodes.{is_first, resolved_line, read_line, line_answer, item_answer, go_on, nodes_from}
-use Rattle.tstp_graph.specs.Graphs.{AreLines}
+use Rattle.tstp_graph.specs.code.Graphs.{AreLines}
 
 resolved_at : (at : ℕ) (formula : Annotated) (is_step : Bool) (answer : Result (List Ref) Name) (node : Node) → resolved_line at formula is_step answer ≡ Ok (Some node) → node.item ≡ at
 resolved_at at formula is_step (Ok refs) node e = let same = ap (λ (r : Result (Option Node) GraphFault). item_of at r) e in sym same

@@ -8,8 +8,10 @@ use Rattle.tptp_base.specs.declared.item.Item.{Item}
 use Rattle.tstp_graph.specs.declared.names.TextTable.{TextTable}
 use Rattle.tstp_graph.specs.declared.names.NameTable.{NameTable}
 use Rattle.tstp_graph.specs.declared.scope.Scope.{Scope}
-use Rattle.tstp_graph.specs.Meaning.{means_in, means_of}
-use Rattle.tstp_graph.specs.Tables.{same_name, places_from, found, found_text, Adds, Holds, IsAdded, IsEmpty}
+use Rattle.tstp_graph.specs.code.Meaning.{means_in}
+use Rattle.tstp_graph.specs.Meaning.{means_of}
+use Rattle.tstp_graph.specs.Tables.{same_name, places_from}
+use Rattle.tstp_graph.specs.code.Tables.{found, found_text, Adds, Holds, IsAdded, IsEmpty}
 use Rattle.tstp_graph.specs.Lines.{formula_of, with_name, names_in}
 
 -- the places of a name among these and one more

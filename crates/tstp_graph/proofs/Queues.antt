@@ -13,8 +13,8 @@ use Rattle.tstp_graph.specs.declared.shape.Ref.TheVariants.{Line, Given}
 use Rattle.tstp_graph.specs.declared.shape.Node.{Node}
 use Rattle.tstp_graph.specs.declared.queue.Waiter.{Waiter}
 use Rattle.tstp_graph.specs.Order.{is_done, is_ready, first_ready}
-use Rattle.tstp_graph.specs.Flags.{flag_at, cites}
-use Rattle.tstp_graph.specs.Queue.{waiters_of, has_number, no_number, IsLoose, IsWaiter, IsFree, Waits, IsQueue}
+use Rattle.tstp_graph.specs.code.Flags.{flag_at, cites}
+use Rattle.tstp_graph.specs.code.Queue.{waiters_of, has_number, no_number, IsLoose, IsWaiter, IsFree, Waits, IsQueue}
 use Rattle.std.proofs.Math.ListN.{set}
 use Rattle.tstp_graph.proofs.Orders.{flag_set, left, left_falls, TakesOne, not_true_is, is_number, first_is, first_none}
 

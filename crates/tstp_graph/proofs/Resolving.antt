@@ -13,9 +13,10 @@ use Rattle.tstp_graph.specs.declared.cite.Cite.{Cite}
 use Rattle.tstp_graph.specs.declared.refs.Marks.{Marks}
 use Rattle.tstp_graph.specs.declared.fault.GraphFault.{GraphFault}
 use Rattle.tstp_graph.specs.Meaning.{Means, same_ref, with_ref, with_refs, meaning, is_known, cite_name, resolved}
-use Rattle.tstp_graph.specs.RefSets.{noted, Notes, AreMembers}
-use Rattle.tstp_graph.specs.Nodes.{is_first, resolved_line, read_line, line_answer, item_answer, go_on, nodes_from, IsStep}
-use Rattle.tstp_graph.specs.Outcomes.{Yields}
+use Rattle.tstp_graph.specs.code.RefSets.{noted, Notes, AreMembers}
+use Rattle.tstp_graph.specs.Nodes.{is_first, resolved_line, read_line, line_answer, item_answer, go_on, nodes_from}
+use Rattle.tstp_graph.specs.code.Nodes.{IsStep}
+use Rattle.tstp_graph.specs.code.Outcomes.{Yields}
 use Rattle.tstp_graph.specs.Sources.{source_of}
 use Rattle.tstp_graph.specs.Lines.{is_typing}
 use Rattle.tstp_graph.specs.declared.cite.Reading.{Reading}

@@ -13,7 +13,7 @@ use Rattle.tstp_graph.specs.declared.shape.Node.{Node}
 use Rattle.tstp_graph.specs.declared.queue.Waiter.{Waiter}
 use Rattle.tstp_graph.specs.declared.queue.Missing.{Missing}
 use Rattle.tstp_graph.specs.Order.{is_done}
-use Rattle.tstp_graph.specs.Queue.{waiters_of, has_number, no_number, with_number, IsMissing, IsLoose, IsWaiter, IsFree, Waits, IsQueue, Settles, AddsWaiter}
+use Rattle.tstp_graph.specs.code.Queue.{waiters_of, has_number, no_number, with_number, IsMissing, IsLoose, IsWaiter, IsFree, Waits, IsQueue, Settles, AddsWaiter}
 use Rattle.tstp_graph.proofs.Orders.{any_last, is_number, same_number}
 use Rattle.tstp_graph.proofs.Queues.{never_both, as_false, kept_other, at_itself}
 

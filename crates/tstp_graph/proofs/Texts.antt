@@ -11,7 +11,7 @@ use Rattle.tptp_base.specs.declared.name.Name.{Name}
 use Rattle.tptp_base.specs.declared.name.Name.TheVariants.{Word, Integer}
 use Rattle.tstp_graph.specs.declared.names.TextTable.{TextTable}
 use Rattle.tstp_graph.specs.declared.names.NameTable.{NameTable}
-use Rattle.tstp_graph.specs.Tables.{found_text, Puts, AddsText, Adds}
+use Rattle.tstp_graph.specs.code.Tables.{found_text, Puts, AddsText, Adds}
 
 apart : (bs cs ks : List ℕ) → bytes_eq bs cs ≡ false → bytes_eq bs ks ≡ true → bytes_eq cs ks ≡ false
 apart bs cs ks n y = nat_list_eq_equiv.symm cs ks ∙ sym (nat_list_eq_equiv.congr bs ks cs y) ∙ n

@@ -12,7 +12,8 @@ use Rattle.tstp_graph.specs.Lines.{IsOverLimit}
 use Rattle.tstp_graph.specs.Meaning.{Means, means_of}
 use Rattle.tstp_graph.specs.Nodes.{nodes_from}
 use Rattle.tstp_graph.specs.Order.{IsOrder, is_taken, first_left}
-use Rattle.tstp_graph.specs.Graphs.{AreLines, IsOrdered, IsGraph, IsGraphBy, IsFaultBy, IsFormula, IsFormulaAt, IsCycleIn, IsCycleOf, IsCycleAt, LeavesOne, IsFault}
+use Rattle.tstp_graph.specs.code.Graphs.{AreLines, IsFormula, IsFormulaAt}
+use Rattle.tstp_graph.specs.Graphs.{IsOrdered, IsGraph, IsGraphBy, IsFaultBy, IsCycleIn, IsCycleOf, IsCycleAt, LeavesOne, IsFault}
 
 pub whole_graph : (means : Means) (items : List Item) (nodes : List Node) (r : Result Graph GraphFault) → nodes_from means 0 items [] ≡ Ok nodes → IfOk r (IsOrdered nodes) → IfOk r (IsGraphBy means items)
 whole_graph means items nodes (Ok graph) is ordered = record {

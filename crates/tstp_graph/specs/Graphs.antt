@@ -21,18 +21,6 @@ pub record IsOrdered (nodes : List Node) (graph : Graph) : Type 0 where
   pub order : IsOrder nodes graph.order
   pub all : first_left (is_taken graph.order) 0 nodes ≡ None
 
--- the item is a formula
-abbrev pub IsFormula : Item → Type 0
-IsFormula item = (formula : Annotated) × (item ≡ Formula formula)
-
--- a formula stands at this place among the items
-abbrev pub IsFormulaAt : List Item → ℕ → Type 0
-IsFormulaAt items at = (formula : Annotated) × (slice_get items at ≡ Some (Formula formula))
-
--- each of the nodes is that of a formula among the items
-abbrev pub AreLines : List Item → List Node → Type 0
-AreLines items nodes = (number : ℕ) (node : Node) → slice_get nodes number ≡ Some node → IsFormulaAt items node.item
-
 -- the fault says that this formula is in a cycle
 abbrev pub IsCycleIn : Item → GraphFault → Type 0
 IsCycleIn item fault = (formula : Annotated) × (item ≡ Formula formula) × (fault ≡ Cycle formula.place formula.name)

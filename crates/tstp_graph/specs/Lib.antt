@@ -1,13 +1,9 @@
-pub mod Flags
 pub mod Graphs
 pub mod Lines
 pub mod Meaning
 pub mod Nodes
 pub mod Order
-pub mod Outcomes
-pub mod Queue
-pub mod Readings
-pub mod RefSets
 pub mod Sources
 pub mod Tables
 pub mod Words
+pub mod code

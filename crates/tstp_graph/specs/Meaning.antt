@@ -8,8 +8,7 @@ use Rattle.tstp_graph.specs.declared.shape.Ref.{Ref}
 use Rattle.tstp_graph.specs.declared.shape.Ref.TheVariants.{Line, Given}
 use Rattle.tstp_graph.specs.declared.cite.Cite.{Cite}
 use Rattle.tstp_graph.specs.declared.cite.Cite.TheVariants.{Named, Filed}
-use Rattle.tstp_graph.specs.declared.scope.Scope.{Scope}
-use Rattle.tstp_graph.specs.Tables.{places, found}
+use Rattle.tstp_graph.specs.Tables.{places}
 use Rattle.tstp_graph.specs.Lines.{names_in}
 
 -- Where each name stands among the lines, among the type lines, and among the given formulas.
@@ -21,10 +20,6 @@ pub record Means : Type 0 where
 -- what names mean in a derivation
 abbrev pub means_of : List Item → List Name → Means
 means_of items given = record { lines = places (names_in false items); types = places (names_in true items); given = places given }
-
--- what names mean by tables
-abbrev pub means_in : Scope → Means
-means_in scope = record { lines = found scope.lines; types = found scope.types; given = found scope.given }
 
 abbrev pub is_some_place : List ℕ → Bool
 is_some_place [] = false

@@ -1,9 +1,8 @@
 -- The nodes of a derivation, and the first item at which it is faulty.
-use Rattle.std.specs.Prelude.{ℕ, ◌≡◌, ◌+◌, ◌==◌, Bool, false, not, List, [], ◌∷◌, ◌++◌, length, Option, None, Some, Result, Ok, Err, if◌then◌else◌}
+use Rattle.std.specs.Prelude.{ℕ, ◌+◌, ◌==◌, Bool, false, not, List, [], ◌∷◌, ◌++◌, length, Option, None, Some, Result, Ok, Err, if◌then◌else◌}
 use Rattle.tptp_base.specs.declared.name.Name.{Name}
 use Rattle.tptp_base.specs.declared.item.Annotated.{Annotated}
 use Rattle.tptp_base.specs.declared.item.Item.{Item}
-use Rattle.tptp_base.specs.declared.item.Item.TheVariants as item
 use Rattle.tstp_graph.specs.declared.shape.Ref.{Ref}
 use Rattle.tstp_graph.specs.declared.shape.Node.{Node}
 use Rattle.tstp_graph.specs.declared.cite.Reading.{Reading}
@@ -12,6 +11,7 @@ use Rattle.tstp_graph.specs.declared.fault.GraphFault.TheVariants.{UnknownParent
 use Rattle.tstp_graph.specs.Lines.{is_typing}
 use Rattle.tstp_graph.specs.Meaning.{Means, is_some_ref, resolved}
 use Rattle.tstp_graph.specs.Sources.{source_of}
+use Rattle.tptp_base.specs.declared.item.Item.TheVariants as item
 
 -- the first of these places is this one
 abbrev pub is_first : List ℕ → ℕ → Bool
@@ -54,7 +54,3 @@ go_on (Ok (Some node)) rest nodes = rest (nodes ++ node ∷ [])
 abbrev pub nodes_from : Means → ℕ → List Item → List Node → Result (List Node) GraphFault
 nodes_from means at [] nodes = Ok nodes
 nodes_from means at (item ∷ items) nodes = go_on (item_answer means at (length nodes) item) (nodes_from means (at + 1) items) nodes
-
--- the second nodes are the first with that of an item, if it has one, and the item has no fault
-abbrev pub IsStep : Result (Option Node) GraphFault → List Node → List Node → Type 0
-IsStep answer old new = (rest : List Node → Result (List Node) GraphFault) → go_on answer rest old ≡ rest new

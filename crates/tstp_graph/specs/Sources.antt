@@ -6,7 +6,6 @@ use Rattle.std.specs.Option.{option_map_or}
 use Rattle.tptp_base.specs.declared.name.Name.{Name}
 use Rattle.tptp_base.specs.declared.name.Name.TheVariants.{Word, Integer}
 use Rattle.tptp_base.specs.declared.item.GTerm.{GTerm}
-use Rattle.tptp_base.specs.declared.item.GTerm.TheOpen as term
 use Rattle.tptp_base.specs.declared.item.GTerm.TheFolds.{fold-GTerm}
 use Rattle.tstp_graph.specs.declared.word.RecordKind.{RecordKind}
 use Rattle.tstp_graph.specs.declared.word.RecordKind.TheVariants.{Inference, Introduced, File, Theory, Other}
@@ -14,6 +13,7 @@ use Rattle.tstp_graph.specs.declared.cite.Cite.{Cite}
 use Rattle.tstp_graph.specs.declared.cite.Cite.TheVariants.{Named, Filed}
 use Rattle.tstp_graph.specs.declared.cite.Reading.{Reading}
 use Rattle.tstp_graph.specs.Words.{is_unknown, is_integer, record_kind}
+use Rattle.tptp_base.specs.declared.item.GTerm.TheOpen as term
 
 -- a term that gives nothing, and makes a leaf that is not cited
 abbrev pub nothing : Reading

@@ -2,7 +2,8 @@
 ghost use Rattle.std.specs.Prelude.{◌≡◌, ◌&&◌, [], not, map, IfOk};
 ghost use Rattle.tstp_graph.specs.declared.shape.Ref.TheVariants.{Given};
 ghost use Rattle.tstp_graph.specs.Meaning;
-ghost use Rattle.tstp_graph.specs.Meaning.{means_in, resolved};
+ghost use Rattle.tstp_graph.specs.code.Meaning.{means_in};
+ghost use Rattle.tstp_graph.specs.Meaning.{resolved};
 
 use crate::cite::Cite;
 use crate::refs::RefSet;

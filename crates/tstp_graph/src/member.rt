@@ -27,7 +27,7 @@ pub fn read_source(alloc: Global, source: &Option<GTerm>) -> Result<Reading, Mem
 }
 
 // What a general term is read as.
-#[tactic(auto, using(crate::specs::Readings::reading_equations))]
+#[tactic(auto, using(crate::proofs::Readings::reading_equations))]
 #[cycle(read)]
 fn read(alloc: Global, term: &GTerm) -> Result<Reading, Memory>
     ensures { IfOk result (λ r. r ≡ reading term.now) }
@@ -49,7 +49,7 @@ fn read(alloc: Global, term: &GTerm) -> Result<Reading, Memory>
 }
 
 // What each of some terms is read as.
-#[tactic(auto, using(crate::specs::Readings::reading_equations))]
+#[tactic(auto, using(crate::proofs::Readings::reading_equations))]
 #[cycle(read)]
 fn read_all(alloc: Global, terms: &[GTerm]) -> Result<List<Reading>, Memory>
     ensures { IfOk result (λ rs. rs ≡ map reading terms.now) }
@@ -62,7 +62,7 @@ fn read_all(alloc: Global, terms: &[GTerm]) -> Result<List<Reading>, Memory>
 }
 
 // What a list is read as.
-#[tactic(auto, using(crate::specs::Readings::reading_equations))]
+#[tactic(auto, using(crate::proofs::Readings::reading_equations))]
 #[cycle(read)]
 fn read_list(alloc: Global, members: &[GTerm]) -> Result<Reading, Memory>
     ensures { IfOk result (λ r. r ≡ list_reading (map reading members.now)) }

@@ -1,6 +1,6 @@
 // Where names stand in a list of names.
 ghost use Rattle.std.specs.Prelude.{◌≡◌, ◌+◌, ◌<◌, ◌^◌, ◌∷◌, [], OnOk};
-ghost use Rattle.tstp_graph.specs.Tables.{found_text, found, Puts, AddsText, Adds, Holds, IsAdded, IsEmpty};
+ghost use Rattle.tstp_graph.specs.code.Tables.{found_text, found, Puts, AddsText, Adds, Holds, IsAdded, IsEmpty};
 
 use indexmap::IndexMap;
 use std::alloc::Global;
@@ -14,7 +14,7 @@ pub struct TextTable {
 
 impl TextTable {
     // The table without texts.
-    #[tactic(auto, unfolding(crate::specs::Tables::found_text))]
+    #[tactic(auto, unfolding(crate::specs::code::Tables::found_text))]
     fn new(alloc: Global) -> TextTable
         ensures { IsEmpty result }
     {

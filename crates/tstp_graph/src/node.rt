@@ -1,9 +1,10 @@
 // The nodes of a graph.
 ghost use Rattle.std.specs.Prelude.{◌≡◌, ◌⊎◌, ◌+◌, ◌<◌, ◌≤◌, ◌^◌, [], length, IfOk, OnOk, IfErr, Err};
-ghost use Rattle.tstp_graph.specs.Outcomes.{Yields};
-ghost use Rattle.tstp_graph.specs.Meaning.{means_in};
+ghost use Rattle.tstp_graph.specs.code.Outcomes.{Yields};
+ghost use Rattle.tstp_graph.specs.code.Meaning.{means_in};
 ghost use Rattle.tstp_graph.specs.Nodes;
-ghost use Rattle.tstp_graph.specs.Nodes.{item_answer, line_answer, nodes_from, IsStep};
+ghost use Rattle.tstp_graph.specs.Nodes.{item_answer, line_answer, nodes_from};
+ghost use Rattle.tstp_graph.specs.code.Nodes.{IsStep};
 
 use crate::GraphFault;
 use crate::cite::Reading;

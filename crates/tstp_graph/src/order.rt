@@ -1,7 +1,7 @@
 // The order in which lines can be checked.
 ghost use Rattle.std.specs.Prelude.{◌≡◌, ℕ, ◌<◌, ◌^◌, length, not, false, IfOk};
 ghost use Rattle.tstp_graph.specs.Order.{is_taken, first_left, IsOrder};
-ghost use Rattle.tstp_graph.specs.Flags.{flag_at};
+ghost use Rattle.tstp_graph.specs.code.Flags.{flag_at};
 
 use crate::queue::Queue;
 use crate::shape::Node;

@@ -4,8 +4,8 @@ ghost use Rattle.std.specs.List.{list_all, All};
 ghost use Rattle.std.specs.Ordering.{nat_cmp};
 ghost use Rattle.std.specs.BTreeSet.{contains, IsEmpty, IsLowerBound, Updates};
 ghost use Rattle.tstp_graph.specs.Order.{is_done};
-ghost use Rattle.tstp_graph.specs.Flags.{flag_at, is_line};
-ghost use Rattle.tstp_graph.specs.Queue.{waiters_of, has_number, no_number, IsMissing, IsLoose, IsQueue, Settles, AddsWaiter};
+ghost use Rattle.tstp_graph.specs.code.Flags.{flag_at, is_line};
+ghost use Rattle.tstp_graph.specs.code.Queue.{waiters_of, has_number, no_number, IsMissing, IsLoose, IsQueue, Settles, AddsWaiter};
 
 use crate::order::is_flagged;
 use crate::shape::{Node, Ref};

@@ -1,8 +1,8 @@
 // Parents, each once.
 ghost use Rattle.std.specs.Prelude.{◌≡◌, [], not, map, OnOk, IfOk};
 ghost use Rattle.tstp_graph.specs.Meaning.{with_ref, with_refs};
-ghost use Rattle.tstp_graph.specs.RefSets;
-ghost use Rattle.tstp_graph.specs.RefSets.{AreMembers, Notes};
+ghost use Rattle.tstp_graph.specs.code.RefSets;
+ghost use Rattle.tstp_graph.specs.code.RefSets.{AreMembers, Notes};
 
 use crate::shape::Ref;
 use indexmap::IndexSet;

@@ -1,8 +1,9 @@
 // What names mean in a derivation.
 ghost use Rattle.std.specs.Prelude.{◌≡◌, ◌+◌, ◌<◌, ◌≤◌, ◌^◌, [], length, IfOk, OnOk};
-ghost use Rattle.tstp_graph.specs.Tables.{Holds, IsAdded};
+ghost use Rattle.tstp_graph.specs.code.Tables.{Holds, IsAdded};
 ghost use Rattle.tstp_graph.specs.Lines.{names_in, formula_of, with_name};
-ghost use Rattle.tstp_graph.specs.Meaning.{means_in, means_of};
+ghost use Rattle.tstp_graph.specs.code.Meaning.{means_in};
+ghost use Rattle.tstp_graph.specs.Meaning.{means_of};
 
 use crate::lines::formula_of;
 use crate::names::NameTable;

@@ -1,8 +1,9 @@
 // The graph of a derivation.
 ghost use Rattle.std.specs.Prelude.{◌≡◌, ◌⊎◌, ◌<◌, ◌^◌, length, IfOk, IfErr};
-ghost use Rattle.tstp_graph.specs.Meaning.{means_in};
+ghost use Rattle.tstp_graph.specs.code.Meaning.{means_in};
 ghost use Rattle.tstp_graph.specs.Order.{IsOrder, is_taken, first_left};
-ghost use Rattle.tstp_graph.specs.Graphs.{IsGraph, IsGraphBy, IsFaultBy, IsOrdered, IsFault, AreLines, IsFormula, IsFormulaAt, IsCycleIn, IsCycleOf, IsCycleAt, LeavesOne};
+ghost use Rattle.tstp_graph.specs.Graphs.{IsGraph, IsGraphBy, IsFaultBy, IsOrdered, IsFault, IsCycleIn, IsCycleOf, IsCycleAt, LeavesOne};
+ghost use Rattle.tstp_graph.specs.code.Graphs.{AreLines, IsFormula, IsFormulaAt};
 
 use crate::GraphFault;
 use crate::lines::{MOST_FORMULAS, formula_count};

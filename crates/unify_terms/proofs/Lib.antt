@@ -10,3 +10,12 @@ pub mod Step
 pub mod Turn
 pub mod Unifier
 pub mod Valuations
+pub mod ChosenFacts
+pub mod GoalTrees
+pub mod GoalsFacts
+pub mod PendingFacts
+pub mod RemainingFacts
+pub mod SearchedFacts
+pub mod SolvedFacts
+pub mod SubstitutionFacts
+pub mod SubstitutionLaws

@@ -3,10 +3,10 @@ use Rattle.std.proofs.Common.{ℕ, ◌+◌, ◌≡◌, ◌≢◌, ◌<◌, ◌�
 use Rattle.std.proofs.Math.ListN.{set}
 use Rattle.std.proofs.lemmas.List.{get_or-map, get_or_past, length-map, length-set, drop_all}
 use Rattle.std.proofs.lemmas.Grind.{same_number_lists}
-use Rattle.unify_terms.specs.Graph.{Below}
-use Rattle.unify_terms.specs.Classes.{moved, class_of}
-use Rattle.unify_terms.specs.Order.{Among}
-use Rattle.unify_terms.specs.Partition.{members_of, AreLabels, relabelled}
+use Rattle.unify_terms.specs.code.Graph.{Below}
+use Rattle.unify_terms.specs.code.Classes.{moved, class_of}
+use Rattle.unify_terms.specs.code.Order.{Among}
+use Rattle.unify_terms.specs.code.Partition.{members_of, AreLabels, relabelled}
 use Rattle.unify_terms.proofs.Making.{set_at}
 use Rattle.unify_terms.proofs.Pairs.{moved_cases, any_default}
 

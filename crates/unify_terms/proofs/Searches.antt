@@ -15,8 +15,10 @@ use Rattle.unify_terms.specs.Unifiers.{Unifies, AreSorted, Unified}
 use Rattle.unify_terms.specs.declared.goal.Goal.{Goal}
 use Rattle.unify_terms.specs.declared.solving.Solution.{Solution}
 use Rattle.unify_terms.specs.Goals.{Ways, with_pairs, and_then, before, nothing, chosen_way, asked, has_sort, pair_sorted, goal_sorted, SolvesGoal}
-use Rattle.unify_terms.specs.Pending.{one_before, goal_size}
-use Rattle.unify_terms.specs.Searched.{Meets, Searched, NoneOf}
+use Rattle.unify_terms.specs.code.Pending.{one_before}
+use Rattle.unify_terms.proofs.PendingFacts.{goal_size}
+use Rattle.unify_terms.specs.code.Searched.{Meets, Searched}
+use Rattle.unify_terms.proofs.SearchedFacts.{NoneOf}
 
 pub split_tests : (a b : Bool) → a && b ≡ true → (a ≡ true) × (b ≡ true)
 split_tests true b e = (refl, e)

@@ -7,17 +7,20 @@ use Rattle.std.proofs.lemmas.List.Sums.{sum-map, sum_by-cons}
 use Rattle.std.proofs.lemmas.Simd.{map-map}
 use Rattle.fof_terms.specs.Vocabulary.{Vocabulary}
 use Rattle.fof_terms.specs.Count.{symbol_count, count_step}
-use Rattle.fof_terms.specs.Trees.{fold-App}
-use Rattle.fof_terms.specs.Sorts.{applied as result_of, sort_of_term, sort_of_term-Var, sort_of_term-App}
+use Rattle.fof_terms.proofs.Trees.{fold-App}
+use Rattle.fof_terms.specs.Sorts.{applied as result_of, sort_of_term}
+use Rattle.fof_terms.proofs.SortsFacts.{sort_of_term-Var, sort_of_term-App}
 use Rattle.fof_terms.specs.declared.term.Term.{Term, Var, App}
 use Rattle.unify_terms.specs.declared.node.Node.{Node}
 use Rattle.unify_terms.specs.declared.node.Node.TheVariants.{Open, Rigid, Function}
-use Rattle.unify_terms.specs.Graph.{IsGraph, Below, term_of, term_at, numbers_of}
-use Rattle.unify_terms.specs.Classes.{class_of, AllBelow, Joins, Agrees, Closing}
-use Rattle.unify_terms.specs.Order.{Fits, Among, Ordered}
-use Rattle.unify_terms.specs.Images.{made_of, made, image_in, FewVariables}
-use Rattle.unify_terms.specs.Substitution.{applied-Var, applied-App, image_at, instance, IsSubstitution}
-use Rattle.unify_terms.specs.Solved.{value_at, IsGeneral}
+use Rattle.unify_terms.specs.code.Graph.{IsGraph, Below, term_of, term_at, numbers_of}
+use Rattle.unify_terms.specs.code.Classes.{class_of, AllBelow, Joins, Agrees, Closing}
+use Rattle.unify_terms.specs.code.Order.{Fits, Among, Ordered}
+use Rattle.unify_terms.specs.code.Images.{made_of, made, image_in, FewVariables}
+use Rattle.unify_terms.proofs.SubstitutionFacts.{applied-Var, applied-App}
+use Rattle.unify_terms.specs.Substitution.{image_at, instance, IsSubstitution}
+use Rattle.unify_terms.specs.code.Solved.{value_at}
+use Rattle.unify_terms.proofs.SolvedFacts.{IsGeneral}
 use Rattle.unify_terms.proofs.Making.{image_made, AllClasses, order_induction}
 use Rattle.unify_terms.proofs.Step.{numbers_below}
 use Rattle.unify_terms.proofs.Valuations.{valuation}

@@ -6,17 +6,20 @@ use Rattle.std.proofs.lemmas.Option.{slice_get-get_or, slice_get_past}
 use Rattle.std.proofs.lemmas.List.{take_more}
 use Rattle.std.proofs.lemmas.Simd.{map-map}
 use Rattle.fof_terms.specs.Vocabulary.{Vocabulary}
-use Rattle.fof_terms.specs.Induction.{term_induction}
-use Rattle.fof_terms.specs.Sorts.{applied as result_of, sort_of_term, sort_of_term-Var, sort_of_term-App}
+use Rattle.fof_terms.proofs.Induction.{term_induction}
+use Rattle.fof_terms.specs.Sorts.{applied as result_of, sort_of_term}
+use Rattle.fof_terms.proofs.SortsFacts.{sort_of_term-Var, sort_of_term-App}
 use Rattle.fof_terms.specs.declared.term.Term.{Term, Var, App}
 use Rattle.unify_terms.specs.declared.node.Node.{Node}
 use Rattle.unify_terms.specs.declared.node.Node.TheVariants.{Open, Rigid}
 use Rattle.unify_terms.specs.declared.pair.Pair.{Pair}
-use Rattle.unify_terms.specs.Graph.{IsGraph, term_of, term_at, Fit, IsAdded, AreVariables, Stand, AddedPairs, ArePairsAdded, AddsPairs, IsGraphOf}
-use Rattle.unify_terms.specs.Classes.{AllBelow, Joins, IsValuation}
-use Rattle.unify_terms.specs.Substitution.{applied-Var, applied-App, image_at, instance, IsSubstitution}
+use Rattle.unify_terms.specs.code.Graph.{IsGraph, term_of, term_at, Fit, IsAdded, AreVariables, Stand, AddedPairs, ArePairsAdded, AddsPairs, IsGraphOf}
+use Rattle.unify_terms.specs.code.Classes.{AllBelow, Joins, IsValuation}
+use Rattle.unify_terms.proofs.SubstitutionFacts.{applied-Var, applied-App}
+use Rattle.unify_terms.specs.Substitution.{image_at, instance, IsSubstitution}
 use Rattle.unify_terms.specs.Unifiers.{IsMostGeneral, Unifies, AreSorted}
-use Rattle.unify_terms.specs.Solved.{value_at, IsGeneral}
+use Rattle.unify_terms.specs.code.Solved.{value_at}
+use Rattle.unify_terms.proofs.SolvedFacts.{IsGeneral}
 use Rattle.unify_terms.proofs.Adding.{fit_args, term_stays, below_or_past}
 
 module _ (v : Vocabulary) (sorts : List ℕ) (rigid : ℕ) (target : List ℕ) (other : List Term) (sub : IsSubstitution v sorts rigid target other) where

@@ -1,15 +1,4 @@
-pub mod Classes
-pub mod Chosen
-pub mod GoalTrees
 pub mod Goals
-pub mod Graph
-pub mod Images
-pub mod Order
-pub mod Partition
-pub mod Pending
-pub mod Remaining
-pub mod Searched
-pub mod Solved
 pub mod Substitution
-pub mod SubstitutionLaws
 pub mod Unifiers
+pub mod code

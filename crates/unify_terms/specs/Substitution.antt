@@ -1,11 +1,10 @@
 -- Instances of terms under a substitution, which is seen as the list of its images.
-use Rattle.std.specs.Prelude.{ℕ, ◌≡◌, ◌<◌, List, length, map, get_or, slice_get}
+use Rattle.std.specs.Prelude.{ℕ, ◌≡◌, ◌<◌, List, length, get_or, slice_get}
 use Rattle.fof_terms.specs.Vocabulary.{Vocabulary}
 use Rattle.fof_terms.specs.Sorts.{sort_of_term}
-use Rattle.fof_terms.specs.Trees.{fold-Var, fold-App}
 use Rattle.fof_terms.specs.declared.term.Term.{Term, Var, App}
-use Rattle.fof_terms.specs.declared.term.Term.TheOpen as term
 use Rattle.fof_terms.specs.declared.term.Term.TheFolds.{fold-Term}
+use Rattle.fof_terms.specs.declared.term.Term.TheOpen as term
 
 abbrev pub applied_step : (ℕ → Term) → term.Term-F Term → Term
 applied_step image (term.Var k) = image k
@@ -28,14 +27,3 @@ pub record IsSubstitution (v : Vocabulary) (sorts : List ℕ) (rigid : ℕ) (tar
   pub size : length images ≡ length sorts
   pub sorted : (k : ℕ) → k < length sorts → sort_of_term v target (image_at images k) ≡ slice_get sorts k
   pub rigids : (k : ℕ) → k < length sorts → k < rigid → image_at images k ≡ Var k
-
--- The equations of these words.
-pub applied-Var : (image : ℕ → Term) (k : ℕ) → applied image (Var k) ≡ image k
-unfolding applied
-applied-Var image k = fold-Var Term (applied_step image) k
-
-pub applied-App : (image : ℕ → Term) (f : ℕ) (ts : List Term) → applied image (App f ts) ≡ App f (map (applied image) ts)
-unfolding applied
-applied-App image f ts = fold-App Term (applied_step image) f ts
-
-pub ruleset applied_equations = (applied-Var, applied-App)

@@ -1,9 +1,9 @@
 ghost use Rattle.std.specs.Prelude.{ℕ, ◌≡◌, ◌<◌, ◌≤◌, true, length, map, reverse, get_or, IfOk, IsTrue};
 ghost use Rattle.fof_terms.specs.declared.term.Term.{Var};
-ghost use Rattle.unify_terms.specs.Graph.{Below};
-ghost use Rattle.unify_terms.specs.Classes.{class_of};
-ghost use Rattle.unify_terms.specs.Order.{Fits, is_done};
-ghost use Rattle.unify_terms.specs.Images.{made, image_in, AreNeeded, FewVariables, IsClosed};
+ghost use Rattle.unify_terms.specs.code.Graph.{Below};
+ghost use Rattle.unify_terms.specs.code.Classes.{class_of};
+ghost use Rattle.unify_terms.specs.code.Order.{Fits, is_done};
+ghost use Rattle.unify_terms.specs.code.Images.{made, image_in, AreNeeded, FewVariables, IsClosed};
 
 use crate::node::{Node, argument_numbers};
 use crate::order::{are_done, none_done};

@@ -1,6 +1,6 @@
 ghost use Rattle.std.specs.Prelude.{◌≡◌, ◌<◌, ◌↔◌, IsTrue, slice_get, Some, IfOk, OnOk, length};
-ghost use Rattle.unify_terms.specs.Graph.{numbers_at, head_sort, one_head, IsAdded, AreAdded, AddsPairs, AreVariables, IsGraphOf};
-ghost use Rattle.unify_terms.specs.Chosen.{chosen_pairs};
+ghost use Rattle.unify_terms.specs.code.Graph.{numbers_at, head_sort, one_head, IsAdded, AreAdded, AddsPairs, AreVariables, IsGraphOf};
+ghost use Rattle.unify_terms.specs.code.Chosen.{chosen_pairs};
 ghost use Rattle.unify_terms.specs.declared.node.Node.TheVariants.{Open};
 
 use crate::chosen::Chosen;

@@ -1,7 +1,7 @@
 ghost use Rattle.std.specs.Prelude.{ℕ, ◌≡◌, ◌≢◌, ◌<◌, ◌⊎◌, length, map, OnOk, IfOk};
-ghost use Rattle.unify_terms.specs.Graph.{Below};
-ghost use Rattle.unify_terms.specs.Classes.{moved, class_of};
-ghost use Rattle.unify_terms.specs.Partition.{classes_of, members_of, relabelled, IsPartition, Merged};
+ghost use Rattle.unify_terms.specs.code.Graph.{Below};
+ghost use Rattle.unify_terms.specs.code.Classes.{moved, class_of};
+ghost use Rattle.unify_terms.specs.code.Partition.{classes_of, members_of, relabelled, IsPartition, Merged};
 
 use std::alloc::Global;
 use std::mem;

@@ -2,10 +2,10 @@ ghost use Rattle.std.specs.Prelude.{◌≡◌, ◌≤◌, ◌^◌, ◌++◌, [],
 ghost use Rattle.std.specs.List.{list_all};
 ghost use Rattle.unify_terms.specs.declared.pending.Pending.{Done};
 ghost use Rattle.unify_terms.specs.Unifiers.{AreSorted, Unified};
-ghost use Rattle.unify_terms.specs.Chosen.{chosen_pairs};
+ghost use Rattle.unify_terms.specs.code.Chosen.{chosen_pairs};
 ghost use Rattle.unify_terms.specs.Goals.{asked, before, goal_sorted, SolvesGoal};
-ghost use Rattle.unify_terms.specs.Pending.{asked_pending, one_before, pending_sorted};
-ghost use Rattle.unify_terms.specs.Searched.{Searched};
+ghost use Rattle.unify_terms.specs.code.Pending.{asked_pending, one_before, pending_sorted};
+ghost use Rattle.unify_terms.specs.code.Searched.{Searched};
 
 use crate::chosen::Chosen;
 use crate::goal::Goal;

@@ -53,7 +53,7 @@ fn all_fit(signature: &Signature, reach: &Reach<'_>, pairs: &[Pair]) -> bool
 }
 
 // Whether all terms of the goal have a sort.
-#[tactic(auto, using(crate::specs::Goals::goal_sorted_equations))]
+#[tactic(auto, using(crate::proofs::GoalsFacts::goal_sorted_equations))]
 #[cycle(goal_fits)]
 fn goal_fits(goal: &Goal, signature: &Signature, reach: &Reach<'_>) -> bool
     ensures { result ≡ goal_sorted signature.now (scope_sorts reach.now) goal.now }
@@ -65,7 +65,7 @@ fn goal_fits(goal: &Goal, signature: &Signature, reach: &Reach<'_>) -> bool
     }
 }
 
-#[tactic(auto, using(crate::specs::Goals::goal_sorted_equations))]
+#[tactic(auto, using(crate::proofs::GoalsFacts::goal_sorted_equations))]
 #[cycle(goal_fits)]
 fn goals_fit(goals: &[Goal], signature: &Signature, reach: &Reach<'_>) -> bool
     ensures { result ≡ list_all (goal_sorted signature.now (scope_sorts reach.now)) goals.now }

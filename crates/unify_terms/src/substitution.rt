@@ -32,7 +32,7 @@ pub fn apply(alloc: Global, subst: &Subst, term: &Term) -> Result<Term, Memory>
     instance_of_term(term, alloc, subst.images.as_slice())
 }
 
-#[tactic(auto, using(crate::specs::Substitution::applied_equations))]
+#[tactic(auto, using(crate::proofs::SubstitutionFacts::applied_equations))]
 #[cycle(instance_of_term)]
 fn instance_of_term(term: &Term, alloc: Global, images: &[Term]) -> Result<Term, Memory>
     ensures { IfOk result (λ made. made ≡ instance images.now term.now) }
@@ -51,7 +51,7 @@ fn instance_of_term(term: &Term, alloc: Global, images: &[Term]) -> Result<Term,
     }
 }
 
-#[tactic(auto, using(crate::specs::Substitution::applied_equations))]
+#[tactic(auto, using(crate::proofs::SubstitutionFacts::applied_equations))]
 #[cycle(instance_of_term)]
 fn instances_of_terms(terms: &[Term], alloc: Global, images: &[Term]) -> Result<List<Term>, Memory>
     ensures { IfOk result (λ made. made ≡ map (instance images.now) terms.now) }

@@ -1,9 +1,9 @@
 ghost use Rattle.std.specs.Prelude.{◌≡◌, ◌<◌, ◌^◌, ◌≤◌, None, IsTrue, length, IfOk};
-ghost use Rattle.unify_terms.specs.Graph.{IsGraph};
-ghost use Rattle.unify_terms.specs.Classes.{AllBelow};
-ghost use Rattle.unify_terms.specs.Chosen.{chosen_pairs};
+ghost use Rattle.unify_terms.specs.code.Graph.{IsGraph};
+ghost use Rattle.unify_terms.specs.code.Classes.{AllBelow};
+ghost use Rattle.unify_terms.specs.code.Chosen.{chosen_pairs};
 ghost use Rattle.unify_terms.specs.Unifiers.{AreSorted, Unified};
-ghost use Rattle.unify_terms.specs.Solved.{Arranged};
+ghost use Rattle.unify_terms.specs.code.Solved.{Arranged};
 
 use crate::chosen::Chosen;
 use crate::classes::close;

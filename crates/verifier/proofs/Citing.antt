@@ -6,9 +6,10 @@ use Rattle.std.proofs.lemmas.List.{length-set}
 use Rattle.std.proofs.lemmas.List.Elements.{All-nil, All-cons, All-head, All-tail, All-weaker}
 use Rattle.std.proofs.lemmas.Option.{slice_get_within}
 use Rattle.fof_terms.specs.Vocabulary.{Vocabulary}
-use Rattle.fof_terms.specs.Occurs.{occurs_in-Eq, occurs_in_term-Var}
-use Rattle.fof_terms.specs.Sorts.{Sorted, sort_of_term-Var}
-use Rattle.fof_terms.specs.Scoped.{sorted_of_eq}
+use Rattle.fof_terms.proofs.OccursFacts.{occurs_in-Eq, occurs_in_term-Var}
+use Rattle.fof_terms.specs.Sorts.{Sorted}
+use Rattle.fof_terms.proofs.SortsFacts.{sort_of_term-Var}
+use Rattle.fof_terms.proofs.Scoped.{sorted_of_eq}
 use Rattle.fof_terms.specs.declared.term.Term.{Var}
 use Rattle.fof_terms.specs.declared.form.Form.{Form, Eq, Not}
 use Rattle.clause_form.specs.declared.path.Parent.{Parent}

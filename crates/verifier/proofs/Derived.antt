@@ -7,12 +7,13 @@ use Rattle.kernel.specs.Entries.{Admits, After, naming, choice}
 use Rattle.kernel.specs.declared.entry.Entry.{Entry}
 use Rattle.kernel.specs.declared.entry.Entry.TheVariants.{Declare, Lemma, Name, Choice}
 use Rattle.kernel.specs.declared.entry.Decl.TheVariants as decl
-use Rattle.derive_kit.specs.Derived.{IsDerivedFrom, derived_adds, with_formulas}
+use Rattle.derive_kit.specs.Derived.{IsDerivedFrom, with_formulas}
+use Rattle.derive_kit.proofs.DerivedFacts.{derived_adds}
 use Rattle.elaborate.specs.declared.answer.Rule.{Rule}
 use Rattle.elaborate.specs.declared.answer.StepAnswer.{StepAnswer}
 use Rattle.elaborate.specs.declared.answer.StepAnswer.TheVariants as step
 use Rattle.verifier.specs.Run.{AnswersKind}
-use Rattle.verifier.specs.Taking.{Adds}
+use Rattle.verifier.specs.code.Taking.{Adds}
 use Rattle.proof_log.proofs.OneTheory.{one_admitted}
 use Rattle.verifier.proofs.Slots.{stays_behind}
 use Rattle.verifier.proofs.Symbols.{Gains}

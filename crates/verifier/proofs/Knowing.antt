@@ -15,10 +15,11 @@ use Rattle.derive_kit.specs.Derived.{AreOfTheory}
 use Rattle.tstp_graph.specs.declared.shape.Ref.{Ref}
 use Rattle.tstp_graph.specs.declared.shape.Ref.TheVariants as ref
 use Rattle.verifier.specs.Lines.{Derivation, numbered, given_from, with_number, accepted, parent_of, both, parents_of}
-use Rattle.verifier.specs.Numbered.{Knows, IsOver, AreNumbered, forms_in, progress_of, derivation_in}
+use Rattle.verifier.specs.code.Numbered.{Knows, IsOver, AreNumbered, forms_in, progress_of, derivation_in}
 use Rattle.verifier.specs.declared.lines.Lines.{Lines}
 use Rattle.verifier.specs.Run.{Progress, begun, with_line}
-use Rattle.verifier.specs.Symbols.{IsAbsent, IsInNoNumbered, IsUnused}
+use Rattle.verifier.specs.Symbols.{IsAbsent}
+use Rattle.verifier.specs.code.Symbols.{IsInNoNumbered, IsUnused}
 use Rattle.verifier.proofs.Derived.{with_stays}
 use Rattle.verifier.proofs.Numbers.{stand_more}
 use Rattle.verifier.proofs.Slots.{set_here, set_elsewhere, set_cases, of_all, one_value, in_replicate}

@@ -5,8 +5,8 @@ use Rattle.std.proofs.lemmas.Bool.Decides.{nat_tests}
 use Rattle.std.proofs.lemmas.Option.{slice_get_within}
 use Rattle.fof_terms.specs.declared.form.Form.{Form, Or}
 use Rattle.verifier.specs.Closing.{HasFalseLine, IsFalseLine, IsLastFalse}
-use Rattle.verifier.specs.Latest.{later}
-use Rattle.verifier.specs.Numbered.{joined}
+use Rattle.verifier.specs.code.Latest.{later}
+use Rattle.verifier.specs.code.Numbered.{joined}
 use Rattle.verifier.proofs.Slots.{one_value}
 
 -- an accepted line that is falsehood has this number, and stands before this place

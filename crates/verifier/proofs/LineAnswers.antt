@@ -17,9 +17,9 @@ use Rattle.elaborate.specs.declared.answer.StepAnswer.TheVariants as step
 use Rattle.tstp_graph.specs.declared.shape.Node.{Node}
 use Rattle.verifier.specs.Lines.{Derivation, Line, IsLineAt, given_from, parents_of}
 use Rattle.verifier.specs.Logged.{CanAdmit}
-use Rattle.verifier.specs.Numbered.{Knows}
+use Rattle.verifier.specs.code.Numbered.{Knows}
 use Rattle.verifier.specs.Run.{Progress, AnswersKind, Answers, IsAnswered}
-use Rattle.verifier.specs.Taking.{CanTake, TakesAnswer, AnswersLine}
+use Rattle.verifier.specs.code.Taking.{CanTake, TakesAnswer, AnswersLine}
 use Rattle.verifier.specs.declared.answer.LineAnswer.{LineAnswer}
 use Rattle.verifier.specs.declared.answer.LineAnswer.TheVariants.{Accepted, Unverified, Skipped}
 use Rattle.verifier.proofs.Derived.{some_formula, accepted_theory}

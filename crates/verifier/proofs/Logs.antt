@@ -6,7 +6,7 @@ use Rattle.tptp_base.specs.Sink.{Takes, TakesPrefix}
 use Rattle.tptp_base.proofs.Taken.{takes_nothing, takes_both, takes_then_prefix}
 use Rattle.kernel.specs.Statements.{Statements}
 use Rattle.kernel.specs.Entries.{Admits}
-use Rattle.kernel.specs.EntryLaws.{admits_append}
+use Rattle.kernel.proofs.EntryLaws.{admits_append}
 use Rattle.kernel.specs.declared.entry.Entry.{Entry}
 use Rattle.proof_log.specs.Entries.{HaveNumbersInRange, entry_text}
 use Rattle.verifier.specs.Logged.{LogsSome, entries_text}

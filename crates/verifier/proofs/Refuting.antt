@@ -2,13 +2,13 @@
 use Rattle.std.proofs.Common.{◌≡◌, ℕ, ◌+◌, true, List, [], ◌∷◌, ◌++◌, length, Option, None, Some, slice_get, refl, sym, ◌∙◌, ap, subst, arith}
 use Rattle.std.proofs.lemmas.Option.{slice_get_within}
 use Rattle.fof_terms.specs.declared.form.Form.{Form, Or}
-use Rattle.fof_terms.specs.Scoped.{or_sorted}
+use Rattle.fof_terms.proofs.Scoped.{or_sorted}
 use Rattle.fof_terms.specs.Sorts.{Sorted}
 use Rattle.kernel.specs.Statements.{Statements}
 use Rattle.kernel.specs.Entries.{Admits, Refutes, with_formula}
-use Rattle.kernel.specs.EntryLaws.{admits_append, admits_more}
+use Rattle.kernel.proofs.EntryLaws.{admits_append, admits_more}
 use Rattle.kernel.specs.Proves.{Proves}
-use Rattle.kernel.specs.Rules.{Proves-Line}
+use Rattle.kernel.proofs.RulesFacts.{Proves-Line}
 use Rattle.kernel.specs.declared.proof.Proof.{Line as Cited}
 use Rattle.kernel.specs.declared.entry.Entry.{Entry}
 use Rattle.kernel.specs.declared.entry.Entry.TheVariants.{Lemma}

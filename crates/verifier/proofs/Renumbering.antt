@@ -10,9 +10,9 @@ use Rattle.clause_rules.specs.Answers.{Rule as Word, norm, cover, tautology, res
 use Rattle.clause_rules.specs.NormRule.{HasNorm}
 use Rattle.clause_rules.specs.Steps.{IsClauseAt, clauses_of}
 use Rattle.kernel.specs.Statements.{Statements}
-use Rattle.skolem_fresh.specs.Alike.{choice_alike, skolem_alike}
+use Rattle.skolem_fresh.proofs.Alike.{choice_alike, skolem_alike}
 use Rattle.skolem_fresh.specs.SkolemRule.{IsSkolemStep}
-use Rattle.split_defs.specs.DefinitionRule.{definition_alike}
+use Rattle.split_defs.proofs.DefinitionRuleFacts.{definition_alike}
 use Rattle.split_defs.specs.SplitRule.{IsSplitStep}
 use Rattle.split_defs.specs.SplitSearch.{forms_of}
 use Rattle.elaborate.specs.ByRule.{Holds, IsFirst, GivesAlone, GivesNowhere, IsFirstAlone}

@@ -6,7 +6,7 @@ use Rattle.tptp_base.specs.Sink.{Takes}
 use Rattle.tptp_base.proofs.Taken.{takes_nothing}
 use Rattle.kernel.specs.Statements.{Statements}
 use Rattle.kernel.specs.Entries.{Admits}
-use Rattle.kernel.specs.EntryLaws.{admits_append}
+use Rattle.kernel.proofs.EntryLaws.{admits_append}
 use Rattle.kernel.specs.declared.entry.Entry.{Entry}
 use Rattle.proof_log.specs.Entries.{HaveNumbersInRange}
 use Rattle.clause_form.specs.declared.path.Parent.{Parent}
@@ -14,9 +14,9 @@ use Rattle.tstp_graph.specs.declared.shape.Node.{Node}
 use Rattle.tstp_graph.specs.Order.{is_taken, TakesInTurn}
 use Rattle.verifier.specs.Lines.{Derivation, Line, parents_of}
 use Rattle.verifier.specs.Logged.{LogsSome, LogsRun, entries_text}
-use Rattle.verifier.specs.Numbered.{progress_of}
+use Rattle.verifier.specs.code.Numbered.{progress_of}
 use Rattle.verifier.specs.Run.{Progress, IsAnswered, AnswersPlace, AreAnswered, begun}
-use Rattle.verifier.specs.Taking.{AnswersLine}
+use Rattle.verifier.specs.code.Taking.{AnswersLine}
 use Rattle.verifier.specs.declared.answer.LineAnswer.{LineAnswer}
 use Rattle.verifier.specs.declared.answer.LineAnswer.TheVariants.{Accepted, Unverified, Skipped}
 use Rattle.verifier.specs.declared.run.Outcome.{Outcome}

@@ -8,8 +8,9 @@ use Rattle.kernel.specs.declared.entry.Entry.{Entry}
 use Rattle.kernel.specs.declared.entry.Entry.TheVariants.{Declare, Lemma, Name, Choice}
 use Rattle.kernel.specs.declared.entry.Decl.{Decl}
 use Rattle.kernel.specs.declared.entry.Decl.TheVariants as decl
-use Rattle.proof_log.specs.Entries.{AreWritable}
-use Rattle.derive_kit.specs.Derived.{derived_adds, with_formulas}
+use Rattle.proof_log.proofs.EntriesFacts.{AreWritable}
+use Rattle.derive_kit.proofs.DerivedFacts.{derived_adds}
+use Rattle.derive_kit.specs.Derived.{with_formulas}
 use Rattle.szs_report.specs.declared.answer.Verdict.{Verdict}
 use Rattle.szs_report.specs.declared.answer.Verdict.TheVariants.{Failed, NoFalse, BadClaim, Verified}
 use Rattle.verifier.specs.Closing.{Closes}

@@ -4,10 +4,10 @@ use Rattle.std.specs.Prelude.{◌≡◌, ⊤, ◌⊎◌, ℕ, Bool, true, false,
 use Rattle.std.specs.List.{list_any}
 use Rattle.std.specs.declared.option.Option.{Option}
 use Rattle.tstp_graph.specs.declared.shape.Ref.{Ref}
-use Rattle.tstp_graph.specs.declared.shape.Ref.TheVariants as ref
 use Rattle.verifier.specs.declared.answer.LineAnswer.{LineAnswer}
 use Rattle.verifier.specs.declared.answer.LineAnswer.TheVariants.{Accepted, Unverified, Skipped}
 use Rattle.verifier.specs.declared.claim.Claim.{Claim}
+use Rattle.tstp_graph.specs.declared.shape.Ref.TheVariants as ref
 
 -- the numbers of the formulas that a line cites: a step its parents, a leaf the candidate from which it follows
 abbrev pub cites_of : LineAnswer → List ℕ

@@ -10,9 +10,9 @@ use Rattle.clause_form.specs.declared.path.Parent.{Parent}
 use Rattle.elaborate.specs.ByRule.{ByRule, LeafRule}
 use Rattle.elaborate.specs.declared.answer.Rule.{Rule}
 use Rattle.tstp_graph.specs.declared.shape.Ref.{Ref}
-use Rattle.tstp_graph.specs.declared.shape.Ref.TheVariants as ref
 use Rattle.verifier.specs.Lines.{Derivation, Line, IsLineAt, numbered, both, candidates_of}
 use Rattle.verifier.specs.Report.{HasFalse}
+use Rattle.tstp_graph.specs.declared.shape.Ref.TheVariants as ref
 
 -- the formula of a parent
 abbrev pub form_of : List Form → List Form → Ref → Option Form

@@ -4,11 +4,9 @@ pub mod Closing
 pub mod Declarations
 pub mod Faults
 pub mod Good
-pub mod Latest
 pub mod Lines
 pub mod Logged
-pub mod Numbered
 pub mod Report
 pub mod Run
 pub mod Symbols
-pub mod Taking
+pub mod code

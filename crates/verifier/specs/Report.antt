@@ -9,13 +9,13 @@ use Rattle.elaborate.specs.declared.answer.Reason.{Reason}
 use Rattle.elaborate.specs.declared.answer.Reason.TheVariants.{NotYet, Leaf}
 use Rattle.szs_report.specs.Report.{line_text, verdict_text}
 use Rattle.szs_report.specs.declared.answer.LineAnswer.{LineAnswer as Said}
-use Rattle.szs_report.specs.declared.answer.LineAnswer.TheVariants as said
 use Rattle.szs_report.specs.declared.answer.Verdict.{Verdict}
 use Rattle.szs_report.specs.declared.answer.Verdict.TheVariants.{Failed, NoFalse, BadClaim, Verified}
 use Rattle.verifier.specs.Claim.{IsJustified, status_word}
 use Rattle.verifier.specs.declared.answer.LineAnswer.{LineAnswer}
 use Rattle.verifier.specs.declared.answer.LineAnswer.TheVariants.{Accepted, Unverified, Skipped}
 use Rattle.verifier.specs.declared.claim.Claim.{Claim}
+use Rattle.szs_report.specs.declared.answer.LineAnswer.TheVariants as said
 
 -- the printed name of a rule
 abbrev pub rule_name : Rule → List ℕ

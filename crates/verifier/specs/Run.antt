@@ -8,10 +8,10 @@ use Rattle.kernel.specs.Entries.{Admits}
 use Rattle.kernel.specs.declared.entry.Entry.{Entry}
 use Rattle.elaborate.specs.Answers.{IsStepAnswer, IsLeafAnswer}
 use Rattle.elaborate.specs.declared.answer.StepAnswer.{StepAnswer}
-use Rattle.elaborate.specs.declared.answer.StepAnswer.TheVariants as step
 use Rattle.verifier.specs.Lines.{Derivation, Line, IsLineAt, parents_of, candidates_of}
 use Rattle.verifier.specs.declared.answer.LineAnswer.{LineAnswer}
 use Rattle.verifier.specs.declared.answer.LineAnswer.TheVariants.{Accepted, Unverified, Skipped}
+use Rattle.elaborate.specs.declared.answer.StepAnswer.TheVariants as step
 
 -- How far a derivation is run: the theory so far, and for each line, by its place in the text, the number of its formula
 -- in that theory, if the line is accepted so far.

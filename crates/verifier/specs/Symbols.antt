@@ -1,5 +1,5 @@
 -- Which symbols stand in the theory of a run: those of what is given and of the lines that are accepted.
-use Rattle.std.specs.Prelude.{ℕ, ◌≡◌, true, false, List, Option, Some, slice_get}
+use Rattle.std.specs.Prelude.{ℕ, ◌≡◌, true, false, List, Some, slice_get}
 use Rattle.std.specs.List.{All as Each}
 use Rattle.fof_terms.specs.Occurs.{occurs_in}
 use Rattle.fof_terms.specs.declared.form.Form.{Form}
@@ -12,15 +12,6 @@ use Rattle.verifier.specs.declared.answer.LineAnswer.TheVariants.{Accepted}
 -- the symbol does not stand in the formula
 abbrev pub IsAbsent : ℕ → Form → Type 0
 IsAbsent k a = occurs_in k a ≡ false
-
--- the symbol stands in no line that has a number: these are the lines that are accepted so far
-abbrev pub IsInNoNumbered : ℕ → List Form → List (Option ℕ) → Type 0
-IsInNoNumbered k forms numbers = (place number : ℕ) (a : Form) → slice_get numbers place ≡ Some (Some number) → slice_get forms place ≡ Some a → IsAbsent k a
-
--- The symbol is not in use where a derivation is run so far: it stands in nothing that is given, and in no line that is
--- accepted so far.
-abbrev pub IsUnused : ℕ → Derivation → List (Option ℕ) → Type 0
-IsUnused k d numbers = Each (IsAbsent k) d.given × IsInNoNumbered k d.forms numbers
 
 -- the symbol stands in no line that is run and accepted
 abbrev pub IsInNoAccepted : ℕ → List Form → List ℕ → List LineAnswer → Type 0

@@ -7,7 +7,7 @@ ghost use Rattle.verifier.specs.Closing.{ClosesLog, HasFalseLine, IsLastFalse, I
 ghost use Rattle.verifier.specs.Faults.{HasCause};
 ghost use Rattle.verifier.specs.Lines.{LinesStand};
 ghost use Rattle.verifier.specs.Logged.{LogsSome};
-ghost use Rattle.verifier.specs.Latest.{later as later_of};
+ghost use Rattle.verifier.specs.code.Latest.{later as later_of};
 
 use crate::ending::is_false;
 use crate::fault::RunFault;

@@ -5,8 +5,8 @@ ghost use Rattle.clause_rules.specs.Steps.{AreReady, IsReady};
 ghost use Rattle.derive_kit.specs.Derived.{AreOfTheory};
 ghost use Rattle.verifier.specs.Faults.{HasCause};
 ghost use Rattle.verifier.specs.Logged.{LogsSome};
-ghost use Rattle.verifier.specs.Numbered.{forms_in, AreNumbered, progress_of, derivation_in, Knows};
-ghost use Rattle.verifier.specs.Taking.{CanTake, TakesAnswer, AnswersLine};
+ghost use Rattle.verifier.specs.code.Numbered.{forms_in, AreNumbered, progress_of, derivation_in, Knows};
+ghost use Rattle.verifier.specs.code.Taking.{CanTake, TakesAnswer, AnswersLine};
 ghost use Rattle.verifier.specs.Run as spec;
 
 use crate::answer::LineAnswer;

@@ -1,8 +1,8 @@
 // The parents of a line, with their numbers in the theory.
 ghost use Rattle.std.specs.Prelude.{◌≡◌, [], slice_get, IfOk};
 ghost use Rattle.verifier.specs.Lines;
-ghost use Rattle.verifier.specs.Numbered;
-ghost use Rattle.verifier.specs.Numbered.{forms_in};
+ghost use Rattle.verifier.specs.code.Numbered;
+ghost use Rattle.verifier.specs.code.Numbered.{forms_in};
 
 use clause_form::Parent;
 use fof_terms::Form;

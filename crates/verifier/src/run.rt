@@ -7,7 +7,7 @@ ghost use Rattle.tstp_graph.specs.Order.{TakesInTurn};
 ghost use Rattle.clause_rules.specs.Steps.{IsReady};
 ghost use Rattle.verifier.specs.Faults.{HasCause};
 ghost use Rattle.verifier.specs.Logged.{LogsSome, LogsRun};
-ghost use Rattle.verifier.specs.Numbered.{derivation_in, IsOver};
+ghost use Rattle.verifier.specs.code.Numbered.{derivation_in, IsOver};
 
 use crate::answer::LineAnswer;
 use crate::fault::RunFault;

@@ -1,6 +1,6 @@
 use Rattle.std.proofs.Common.{◌≡◌, ◌++◌, map, drop}
 use Rattle.canon_print.specs.Words.{later}
-use Rattle.canon_print.specs.Canonical.{unit_text}
+use Rattle.canon_print.specs.code.Canonical.{unit_text}
 use Rattle.canon_print.proofs.formulas.+put_formula.Given as goal
 
 -- what is written, and what is left to write, is the whole

@@ -1,4 +1,4 @@
-use Rattle.canon_print.specs.Equations.{general_text-Pair}
+use Rattle.canon_print.proofs.Equations.{general_text-Pair}
 use Rattle.canon_print.proofs.Written.{three_pieces}
 use Rattle.canon_print.proofs.general.+put_general.Goals as goal
 

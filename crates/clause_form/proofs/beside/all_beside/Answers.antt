@@ -1,4 +1,4 @@
-use Rattle.clause_form.specs.Room.{parts_beside}
+use Rattle.clause_form.proofs.RoomFacts.{parts_beside}
 use Rattle.clause_form.proofs.beside.all_beside.Goals as goal
 
 pub returns : goal.returns

@@ -1,5 +1,5 @@
 use Rattle.std.proofs.Common.{sym}
-use Rattle.clause_form.specs.Room.{sorts_more}
+use Rattle.clause_form.proofs.RoomFacts.{sorts_more}
 use Rattle.clause_form.proofs.beside.all_sorts.Goals as goal
 
 pub loop-clause-preserved : goal.loop-clause-preserved

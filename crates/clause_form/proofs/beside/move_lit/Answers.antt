@@ -1,4 +1,4 @@
-use Rattle.clause_form.specs.Room.{second_reach, moved_twice}
+use Rattle.clause_form.proofs.RoomFacts.{second_reach, moved_twice}
 use Rattle.clause_form.proofs.Ok.{ok_map}
 use Rattle.clause_form.proofs.beside.move_lit.Goals as goal
 

@@ -1,4 +1,4 @@
-use Rattle.clause_form.specs.Room.{member_moves, from_here, room_for, segment_here}
+use Rattle.clause_form.proofs.RoomFacts.{member_moves, from_here, room_for, segment_here}
 use Rattle.clause_form.proofs.beside.segments.Goals as goal
 
 pub push_moved-requires : goal.push_moved-requires

@@ -1,5 +1,5 @@
 use Rattle.std.proofs.Common.{drop}
-use Rattle.clause_form.specs.Room.{Segmented}
+use Rattle.clause_form.proofs.RoomFacts.{Segmented}
 use Rattle.clause_form.proofs.beside.segments.Given as goal
 
 abbrev pub invariant-loop-number : goal.invariant-loop-number

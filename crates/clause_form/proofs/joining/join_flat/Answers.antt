@@ -1,5 +1,5 @@
 use Rattle.std.proofs.Common.{refl}
-use Rattle.clause_form.specs.Cases.{ended, not_ended}
+use Rattle.clause_form.proofs.Cases.{ended, not_ended}
 use Rattle.clause_form.proofs.joining.join_flat.Goals as goal
 
 pub returns-then-one_ends : goal.returns-then-one_ends

@@ -1,7 +1,7 @@
 use Rattle.std.proofs.Common.{arith, sym, ◌∙◌}
-use Rattle.clause_form.specs.Norm.{quantified-dropped}
-use Rattle.clause_form.specs.Cases.{kept_all, kept_ex}
-use Rattle.fof_terms.specs.PlaceReach.{place_reach}
+use Rattle.clause_form.proofs.NormFacts.{quantified-dropped}
+use Rattle.clause_form.proofs.Cases.{kept_all, kept_ex}
+use Rattle.fof_terms.proofs.PlaceReach.{place_reach}
 use Rattle.clause_form.proofs.Ok.{ok_map}
 use Rattle.clause_form.proofs.joining.quantified.Goals as goal
 

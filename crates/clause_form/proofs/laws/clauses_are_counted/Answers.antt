@@ -1,4 +1,4 @@
-use Rattle.clause_form.specs.ClauseCount.{clauses_counted}
+use Rattle.clause_form.proofs.ClauseCount.{clauses_counted}
 use Rattle.clause_form.proofs.laws.clauses_are_counted.Goals as goal
 
 pub returns : goal.returns

@@ -1,4 +1,4 @@
-use Rattle.clause_form.specs.ClauseWays.{reached_is_listed, listed_is_reached}
+use Rattle.clause_form.proofs.ClauseWaysFacts.{reached_is_listed, listed_is_reached}
 use Rattle.clause_form.proofs.laws.clauses_by_paths.Goals as goal
 
 pub returns-clause-listed : goal.returns-clause-listed

@@ -1,5 +1,5 @@
 use Rattle.clause_form.specs.Covers.{scope_of}
-use Rattle.clause_form.specs.ClauseLaws.{covers_instance}
+use Rattle.clause_form.proofs.ClauseLaws.{covers_instance}
 use Rattle.clause_form.proofs.laws.cover_of_instance.Goals as goal
 
 pub returns : goal.returns

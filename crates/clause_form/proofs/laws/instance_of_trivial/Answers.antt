@@ -1,7 +1,7 @@
 use Rattle.std.proofs.Common.{subst, sym, List}
 use Rattle.clause_form.specs.declared.clause.Lit.{Lit}
 use Rattle.clause_form.specs.Covers.{IsTrivial}
-use Rattle.clause_form.specs.ClauseLaws.{trivial_image}
+use Rattle.clause_form.proofs.ClauseLaws.{trivial_image}
 use Rattle.clause_form.proofs.laws.instance_of_trivial.Goals as goal
 
 pub returns : goal.returns

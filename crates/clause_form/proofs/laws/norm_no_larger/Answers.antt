@@ -1,4 +1,4 @@
-use Rattle.clause_form.specs.NormSize.{norm_small}
+use Rattle.clause_form.proofs.NormSize.{norm_small}
 use Rattle.clause_form.proofs.laws.norm_no_larger.Goals as goal
 
 pub returns : goal.returns

@@ -1,10 +1,11 @@
 use Rattle.std.proofs.Common.{rules, arith, ◌^◌}
-use Rattle.fof_terms.specs.Sorts.{binder_depth, binder_depth_equations}
+use Rattle.fof_terms.specs.Sorts.{binder_depth}
+use Rattle.fof_terms.proofs.SortsFacts.{binder_depth_equations}
 use Rattle.fof_terms.specs.declared.form.Form.TheViews.{the_lemmas}
 use Rattle.clause_form.proofs.Below.{below_greatest}
-use Rattle.clause_form.specs.NormSorts.{norm_depth}
+use Rattle.clause_form.proofs.NormSorts.{norm_depth}
 use Rattle.clause_form.proofs.Ok.{ok_map}
-use Rattle.clause_form.specs.NormCases.{imp_done, iff_done}
+use Rattle.clause_form.proofs.NormCases.{imp_done, iff_done}
 use Rattle.clause_form.proofs.normal.+norm_signed.Goals as goal
 
 pub norm_signed-norm_signed-requires : goal.norm_signed-norm_signed-requires

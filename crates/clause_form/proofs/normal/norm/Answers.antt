@@ -1,5 +1,5 @@
 use Rattle.std.proofs.Common.{arith}
-use Rattle.clause_form.specs.SizeLaws.{depth_within_size}
+use Rattle.clause_form.proofs.SizeLaws.{depth_within_size}
 use Rattle.clause_form.proofs.normal.norm.Goals as goal
 
 pub norm_signed-requires : goal.norm_signed-requires

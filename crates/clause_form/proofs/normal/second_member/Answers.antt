@@ -1,4 +1,4 @@
-use Rattle.clause_form.specs.NormCases.{joined_two}
+use Rattle.clause_form.proofs.NormCases.{joined_two}
 use Rattle.clause_form.proofs.normal.second_member.Goals as goal
 
 pub returns : goal.returns

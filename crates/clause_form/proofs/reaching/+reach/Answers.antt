@@ -1,7 +1,7 @@
 use Rattle.std.proofs.Common.{rules, arith, refl, ◌∙◌}
 use Rattle.fof_terms.specs.declared.form.Form.TheViews.{the_lemmas}
 use Rattle.clause_form.proofs.Ok.{ok_map}
-use Rattle.clause_form.specs.Found.{at_index, roomy_or, roomy_member, roomy_body, found_leaf, found_pick, found_each, found_under, not_there, no_pick, no_each, no_under, over_found, not_even, misses_one, found_next}
+use Rattle.clause_form.proofs.FoundFacts.{at_index, roomy_or, roomy_member, roomy_body, found_leaf, found_pick, found_each, found_under, not_there, no_pick, no_each, no_under, over_found, not_even, misses_one, found_next}
 use Rattle.clause_form.proofs.reaching.+reach.Goals as goal
 
 pub reach-reach-requires : goal.reach-reach-requires

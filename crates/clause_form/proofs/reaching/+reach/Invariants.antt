@@ -1,4 +1,4 @@
-use Rattle.clause_form.specs.Found.{FoundUpTo}
+use Rattle.clause_form.proofs.FoundFacts.{FoundUpTo}
 use Rattle.clause_form.proofs.reaching.+reach.Given as goal
 
 abbrev pub invariant-reach_each-loop-number : goal.invariant-reach_each-loop-number

@@ -1,7 +1,7 @@
 use Rattle.std.proofs.Common.{ap, length, arith, [], refl}
 use Rattle.fof_terms.specs.Scope.{scope_sorts}
 use Rattle.fof_terms.specs.declared.sorting.Scope.{Outside}
-use Rattle.derive_kit.specs.Built.{ok_map}
+use Rattle.derive_kit.proofs.Built.{ok_map}
 use Rattle.clause_proofs.proofs.Joints.{part_is}
 use Rattle.clause_proofs.proofs.LineGoals.{few_sorts, scope_is, goal_in, shown_in}
 use Rattle.clause_proofs.proofs.Factors.{one_reach}

@@ -1,4 +1,4 @@
-use Rattle.derive_kit.specs.Built.{ok_map}
+use Rattle.derive_kit.proofs.Built.{ok_map}
 use Rattle.clause_proofs.specs.Refuting.{theory_of}
 use Rattle.clause_proofs.proofs.CoverLines.{covers_here, same_reached, there_is}
 use Rattle.clause_proofs.proofs.LineGoals.{opened_clause}

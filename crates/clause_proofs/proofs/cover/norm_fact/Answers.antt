@@ -1,4 +1,4 @@
-use Rattle.derive_kit.specs.Built.{ok_map}
+use Rattle.derive_kit.proofs.Built.{ok_map}
 use Rattle.clause_proofs.proofs.CoverLines.{norm_shown}
 use Rattle.clause_proofs.proofs.cover.norm_fact.Goals as goal
 

@@ -1,5 +1,5 @@
 use Rattle.fof_terms.specs.Scope.{scope_sorts}
-use Rattle.derive_kit.specs.Built.{ok_map}
+use Rattle.derive_kit.proofs.Built.{ok_map}
 use Rattle.clause_proofs.specs.Refuting.{body}
 use Rattle.clause_proofs.proofs.CoverLines.{truth_sorted, truth_refutes}
 use Rattle.clause_proofs.proofs.cover.refute_covered.Goals as goal

@@ -1,4 +1,4 @@
-use Rattle.derive_kit.specs.Built.{ok_map}
+use Rattle.derive_kit.proofs.Built.{ok_map}
 use Rattle.clause_proofs.proofs.CoveredLiterals.{absurd_true, absurd_eq, absurd_other}
 use Rattle.clause_proofs.proofs.covering.absurd.Goals as goal
 

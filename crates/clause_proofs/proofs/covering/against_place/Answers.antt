@@ -3,8 +3,8 @@ use Rattle.fof_terms.specs.Scope.{scope_sorts}
 use Rattle.fof_terms.specs.Sorts.{Sorted}
 use Rattle.clause_form.specs.declared.clause.Lit.{Lit}
 use Rattle.clause_form.specs.ClauseView.{form_of_lit}
-use Rattle.derive_kit.specs.Built.{ok_map}
-use Rattle.clause_proofs.specs.Refuting.{ShowsFrom}
+use Rattle.derive_kit.proofs.Built.{ok_map}
+use Rattle.clause_proofs.specs.code.Refuting.{ShowsFrom}
 use Rattle.clause_proofs.proofs.CoveredLiterals.{there_at, in_line_sorted, against_shows}
 use Rattle.clause_proofs.proofs.covering.against_place.Goals as goal
 

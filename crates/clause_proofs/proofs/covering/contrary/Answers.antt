@@ -2,7 +2,7 @@ use Rattle.std.proofs.Common.{subst, ℕ, List, slice_get, ◌≡◌, Some}
 use Rattle.clause_form.specs.declared.clause.Lit.{Lit}
 use Rattle.clause_form.specs.Covers.{IsSame}
 use Rattle.fof_terms.specs.Scope.{scope_sorts}
-use Rattle.derive_kit.specs.Built.{ok_map}
+use Rattle.derive_kit.proofs.Built.{ok_map}
 use Rattle.clause_proofs.proofs.CoveredLiterals.{absurd_then, refutes_absurd}
 use Rattle.clause_proofs.specs.Refuting.{body}
 use Rattle.clause_proofs.proofs.covering.contrary.Goals as goal

@@ -4,7 +4,7 @@ use Rattle.fof_terms.specs.Sorts.{Sorted}
 use Rattle.clause_form.specs.declared.clause.Lit.{Lit}
 use Rattle.clause_form.specs.ClauseView.{form_of_lit}
 use Rattle.clause_form.specs.Covers.{IsCovered}
-use Rattle.derive_kit.specs.Built.{ok_map}
+use Rattle.derive_kit.proofs.Built.{ok_map}
 use Rattle.clause_proofs.specs.Refuting.{body}
 use Rattle.clause_proofs.proofs.Factors.{linked_refutes, unequal_sorted, as_written}
 use Rattle.clause_proofs.proofs.eqfactor.linked.Goals as goal

@@ -1,5 +1,5 @@
 use Rattle.fof_terms.specs.Scope.{scope_sorts}
-use Rattle.derive_kit.specs.Built.{ok_map}
+use Rattle.derive_kit.proofs.Built.{ok_map}
 use Rattle.clause_proofs.proofs.Factors.{written_turned, written_straight}
 use Rattle.clause_proofs.proofs.eqfactor.written.Goals as goal
 

@@ -1,4 +1,4 @@
-use Rattle.derive_kit.specs.Built.{ok_map}
+use Rattle.derive_kit.proofs.Built.{ok_map}
 use Rattle.clause_proofs.proofs.NormLines.{norm_shown}
 use Rattle.clause_proofs.proofs.norm.normed.Goals as goal
 

@@ -1,5 +1,5 @@
 use Rattle.std.proofs.Common.{◌∙◌}
-use Rattle.derive_kit.specs.Built.{ok_map}
+use Rattle.derive_kit.proofs.Built.{ok_map}
 use Rattle.unify_terms.specs.Substitution.{image_at}
 use Rattle.clause_proofs.proofs.Instances.{applied_image}
 use Rattle.clause_proofs.proofs.premises.image_of.Goals as goal

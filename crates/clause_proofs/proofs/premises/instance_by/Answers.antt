@@ -1,4 +1,4 @@
-use Rattle.derive_kit.specs.Built.{ok_map}
+use Rattle.derive_kit.proofs.Built.{ok_map}
 use Rattle.clause_proofs.proofs.Instances.{premise_of}
 use Rattle.clause_proofs.proofs.premises.instance_by.Goals as goal
 

@@ -1,11 +1,11 @@
 use Rattle.std.proofs.Common.{sym, subst, ap, ◌∙◌}
 use Rattle.fof_terms.specs.Scope.{scope_sorts}
-use Rattle.derive_kit.specs.Built.{ok_map}
+use Rattle.derive_kit.proofs.Built.{ok_map}
 use Rattle.clause_form.specs.ClauseView.{form_of_lit}
 use Rattle.clause_proofs.specs.Refuting.{body}
 use Rattle.clause_proofs.proofs.BodySorts.{place_sorted, placed}
 use Rattle.clause_proofs.proofs.Refutations.{more_arms}
-use Rattle.clause_proofs.specs.Refuting.{RefutesUnder}
+use Rattle.clause_proofs.specs.code.Refuting.{RefutesUnder}
 use Rattle.clause_form.specs.declared.clause.Lit.{Lit}
 use Rattle.clause_proofs.proofs.refuting.all_settled.Goals as goal
 

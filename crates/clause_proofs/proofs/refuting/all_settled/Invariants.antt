@@ -1,7 +1,8 @@
 use Rattle.std.proofs.Common.{take}
 use Rattle.fof_terms.specs.Scope.{scope_sorts}
 use Rattle.clause_form.specs.ClauseView.{form_of_lit}
-use Rattle.clause_proofs.specs.Refuting.{AllRefute, body}
+use Rattle.clause_proofs.specs.code.Refuting.{AllRefute}
+use Rattle.clause_proofs.specs.Refuting.{body}
 use Rattle.clause_proofs.proofs.refuting.all_settled.Given as goal
 
 abbrev pub invariant-loop-lit : goal.invariant-loop-lit

@@ -1,6 +1,6 @@
 use Rattle.std.proofs.Common.{sym, subst, ap, ◌∙◌}
 use Rattle.fof_terms.specs.Scope.{scope_sorts}
-use Rattle.derive_kit.specs.Built.{ok_map}
+use Rattle.derive_kit.proofs.Built.{ok_map}
 use Rattle.clause_form.specs.ClauseView.{form_of_lit}
 use Rattle.clause_proofs.specs.Refuting.{body}
 use Rattle.fof_terms.specs.Sorts.{Sorted}

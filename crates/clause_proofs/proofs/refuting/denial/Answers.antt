@@ -1,4 +1,4 @@
-use Rattle.derive_kit.specs.Built.{ok_map}
+use Rattle.derive_kit.proofs.Built.{ok_map}
 use Rattle.clause_proofs.proofs.Refutations.{denial_positive, denial_negative}
 use Rattle.clause_proofs.proofs.refuting.denial.Goals as goal
 

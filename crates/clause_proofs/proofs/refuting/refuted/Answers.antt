@@ -2,7 +2,7 @@ use Rattle.std.proofs.Common.{sym, subst, ap, ◌∙◌, List, slice_get, refl}
 use Rattle.fof_terms.specs.declared.form.Form.{Or}
 use Rattle.clause_form.specs.declared.clause.Lit.{Lit}
 use Rattle.fof_terms.specs.Scope.{scope_sorts}
-use Rattle.derive_kit.specs.Built.{ok_map}
+use Rattle.derive_kit.proofs.Built.{ok_map}
 use Rattle.clause_form.specs.ClauseView.{form_of_lit}
 use Rattle.clause_proofs.specs.Refuting.{body}
 use Rattle.clause_proofs.proofs.BodySorts.{place_sorted}

@@ -1,7 +1,7 @@
 use Rattle.std.proofs.Common.{ap, length, ◌+◌, arith}
 use Rattle.fof_terms.specs.Scope.{scope_sorts}
 use Rattle.fof_terms.specs.declared.sorting.Scope.{Outside}
-use Rattle.derive_kit.specs.Built.{ok_map}
+use Rattle.derive_kit.proofs.Built.{ok_map}
 use Rattle.clause_proofs.proofs.Joints.{part_is, reach_is, parents_exist, resolvent_of, left_premise_sorted, right_premise_sorted, left_shown, right_shown}
 use Rattle.clause_proofs.proofs.LineGoals.{scope_is, goal_in, shown_in}
 use Rattle.clause_proofs.proofs.resolution.resolve_opened.Goals as goal

@@ -4,7 +4,7 @@ use Rattle.fof_terms.specs.Sorts.{Sorted}
 use Rattle.clause_form.specs.declared.clause.Lit.{Lit}
 use Rattle.clause_form.specs.ClauseView.{form_of_lit}
 use Rattle.clause_form.specs.Covers.{negated}
-use Rattle.derive_kit.specs.Built.{ok_map}
+use Rattle.derive_kit.proofs.Built.{ok_map}
 use Rattle.clause_proofs.specs.Refuting.{AllSettled}
 use Rattle.clause_proofs.proofs.BodySorts.{place_sorted}
 use Rattle.clause_proofs.proofs.CoveredLiterals.{there_at}

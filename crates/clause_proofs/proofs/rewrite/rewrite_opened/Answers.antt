@@ -1,7 +1,7 @@
 use Rattle.std.proofs.Common.{ap, length}
 use Rattle.fof_terms.specs.Scope.{scope_sorts}
 use Rattle.fof_terms.specs.declared.sorting.Scope.{Outside}
-use Rattle.derive_kit.specs.Built.{ok_map}
+use Rattle.derive_kit.proofs.Built.{ok_map}
 use Rattle.clause_proofs.proofs.Chains.{rewriting_here, equation_sorted, clause_shown, equation_shown, matching_size, joint_size}
 use Rattle.clause_proofs.proofs.FewImages.{few_images}
 use Rattle.clause_proofs.proofs.Joints.{part_is, reach_is, parents_exist}

@@ -1,4 +1,4 @@
-use Rattle.derive_kit.specs.Built.{ok_map}
+use Rattle.derive_kit.proofs.Built.{ok_map}
 use Rattle.clause_proofs.specs.Refuting.{theory_of}
 use Rattle.clause_proofs.proofs.Chains.{match_here, rewrites_here}
 use Rattle.clause_proofs.proofs.Joints.{ready_clause, same_clause, parent_there, joint_here}

@@ -1,7 +1,7 @@
 use Rattle.std.specs.Prelude.{List}
 use Rattle.std.proofs.Common.{sym, subst}
 use Rattle.fof_terms.specs.Scope.{scope_sorts}
-use Rattle.fof_terms.specs.Scoped.{sorted_of_eq}
+use Rattle.fof_terms.proofs.Scoped.{sorted_of_eq}
 use Rattle.clause_form.specs.declared.clause.Lit.{Lit}
 use Rattle.kernel.specs.Proves.{Proves}
 use Rattle.clause_proofs.specs.Bodies.{body_of}

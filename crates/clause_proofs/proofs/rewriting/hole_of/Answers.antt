@@ -2,9 +2,9 @@ use Rattle.std.specs.Prelude.{List, map, ◌≡◌}
 use Rattle.std.proofs.Common.{ap, ◌∙◌}
 use Rattle.fof_terms.specs.declared.term.Term.{Term, Var}
 use Rattle.fof_terms.specs.Lift.{lifted_term}
-use Rattle.derive_kit.specs.Built.{ok_map}
+use Rattle.derive_kit.proofs.Built.{ok_map}
 use Rattle.clause_proofs.specs.Bodies.{body_of}
-use Rattle.clause_proofs.specs.Rewriting.{filled}
+use Rattle.clause_proofs.specs.code.Rewriting.{filled}
 use Rattle.clause_proofs.proofs.rewriting.hole_of.Goals as goal
 
 pub returns : goal.returns

@@ -1,5 +1,5 @@
 use Rattle.fof_terms.specs.Scope.{scope_sorts}
-use Rattle.derive_kit.specs.Built.{ok_map}
+use Rattle.derive_kit.proofs.Built.{ok_map}
 use Rattle.clause_proofs.proofs.Factors.{read_turned, read_straight, turned_back}
 use Rattle.clause_proofs.proofs.rewriting.read.Goals as goal
 

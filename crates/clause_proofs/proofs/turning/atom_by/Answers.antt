@@ -1,5 +1,5 @@
 use Rattle.fof_terms.specs.Scope.{scope_sorts}
-use Rattle.derive_kit.specs.Built.{ok_map}
+use Rattle.derive_kit.proofs.Built.{ok_map}
 use Rattle.clause_proofs.proofs.TurnedSides.{same_side, other_side, no_sides, yes, no_then, without_sides}
 use Rattle.clause_proofs.proofs.turning.atom_by.Goals as goal
 

@@ -1,5 +1,5 @@
 use Rattle.fof_terms.specs.Scope.{scope_sorts}
-use Rattle.derive_kit.specs.Built.{ok_map}
+use Rattle.derive_kit.proofs.Built.{ok_map}
 use Rattle.clause_proofs.proofs.TurnedSides.{positive_shows, negative_shows, started_shows, unsided_shows, atom_sorted, yes, without_sides, same_back, same_atoms_of}
 use Rattle.clause_proofs.proofs.turning.lit_by.Goals as goal
 

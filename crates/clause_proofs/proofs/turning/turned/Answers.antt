@@ -1,5 +1,5 @@
 use Rattle.fof_terms.specs.Scope.{scope_sorts}
-use Rattle.fof_terms.specs.Scoped.{sorted_of_eq}
+use Rattle.fof_terms.proofs.Scoped.{sorted_of_eq}
 use Rattle.clause_proofs.proofs.TurnedSides.{side_reach}
 use Rattle.clause_proofs.proofs.turning.turned.Goals as goal
 

@@ -1,5 +1,5 @@
 use Rattle.std.proofs.Common.{subst}
-use Rattle.clause_rules.specs.Screens.{NeverOthers}
+use Rattle.clause_rules.specs.code.Screens.{NeverOthers}
 use Rattle.clause_rules.proofs.LeftOver.{never_screened, rest_fits}
 use Rattle.clause_rules.proofs.beside.may_rest_be_covered.Goals as goal
 

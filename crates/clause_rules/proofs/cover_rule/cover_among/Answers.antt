@@ -1,6 +1,6 @@
 use Rattle.std.proofs.Common.{below_more, subst, sym}
 use Rattle.clause_form.specs.declared.path.Parent.{Parent}
-use Rattle.clause_rules.specs.CoverFound.{FoundInForm}
+use Rattle.clause_rules.specs.code.CoverFound.{FoundInForm}
 use Rattle.clause_rules.proofs.CoverEnds.{none_at, found_among, none_nowhere}
 use Rattle.clause_rules.proofs.Firsts.{there_at}
 use Rattle.clause_rules.proofs.cover_rule.cover_among.Goals as goal

@@ -1,5 +1,5 @@
 use Rattle.std.proofs.Common.{ℕ, ◌<◌}
-use Rattle.clause_rules.specs.CoverFound.{NoCoverAt}
+use Rattle.clause_rules.specs.code.CoverFound.{NoCoverAt}
 use Rattle.clause_rules.proofs.cover_rule.cover_among.Given as goal
 
 abbrev pub invariant-loop-a : goal.invariant-loop-a

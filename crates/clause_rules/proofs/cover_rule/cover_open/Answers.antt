@@ -1,5 +1,5 @@
 use Rattle.std.proofs.Common.{subst}
-use Rattle.clause_rules.specs.Screens.{NeverReached}
+use Rattle.clause_rules.specs.code.Screens.{NeverReached}
 use Rattle.clause_rules.proofs.Unreached.{not_reached}
 use Rattle.clause_rules.proofs.cover_rule.cover_open.Goals as goal
 

@@ -1,5 +1,5 @@
 use Rattle.std.proofs.Common.{below_more, refl, subst, sym}
-use Rattle.clause_rules.specs.EqFactorSearch.{FoundInParents}
+use Rattle.clause_rules.specs.code.EqFactorSearch.{FoundInParents}
 use Rattle.clause_rules.proofs.Firsts.{there_at, ok_map}
 use Rattle.clause_rules.proofs.FactorLoops.{none_in_slot, found_in_slot, none_among}
 use Rattle.clause_rules.proofs.eqfactor_rule.factor_among.Goals as goal

@@ -1,6 +1,6 @@
 use Rattle.std.proofs.Common.{ℕ, ◌<◌, ◌≡◌, Some, slice_get}
 use Rattle.clause_form.specs.declared.clause.Clause.{Clause}
-use Rattle.clause_rules.specs.EqFactorSearch.{NoneIn}
+use Rattle.clause_rules.specs.code.EqFactorSearch.{NoneIn}
 use Rattle.clause_rules.proofs.eqfactor_rule.factor_among.Given as goal
 
 abbrev pub invariant-loop-a : goal.invariant-loop-a

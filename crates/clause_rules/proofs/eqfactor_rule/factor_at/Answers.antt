@@ -1,6 +1,6 @@
 use Rattle.std.proofs.Common.{◌∙◌, ◌∷◌, [], ap, slice_set, Some}
 use Rattle.clause_rules.specs.Steps.{unequal}
-use Rattle.clause_rules.specs.Ways.{pair_of}
+use Rattle.clause_rules.specs.code.Ways.{pair_of}
 use Rattle.clause_rules.proofs.Firsts.{ok_map}
 use Rattle.clause_rules.proofs.Factoring.{lent_at, factor_sorted, factor_settled, no_first, no_second}
 use Rattle.clause_rules.proofs.Narrowing.{beside_as}

@@ -1,5 +1,5 @@
 use Rattle.std.proofs.Common.{arith, below_more, subst}
-use Rattle.clause_rules.specs.Screens.{NeverOthers}
+use Rattle.clause_rules.specs.code.Screens.{NeverOthers}
 use Rattle.clause_rules.proofs.Changing.{never_factored}
 use Rattle.clause_rules.proofs.Factoring.{none_found, second_within}
 use Rattle.clause_rules.proofs.eqfactor_rule.factor_from.Goals as goal

@@ -1,5 +1,5 @@
 use Rattle.std.proofs.Common.{ℕ, ◌<◌}
-use Rattle.clause_rules.specs.EqFactorSearch.{NoneWith}
+use Rattle.clause_rules.specs.code.EqFactorSearch.{NoneWith}
 use Rattle.clause_rules.proofs.eqfactor_rule.factor_from.Given as goal
 
 abbrev pub invariant-loop-j : goal.invariant-loop-j

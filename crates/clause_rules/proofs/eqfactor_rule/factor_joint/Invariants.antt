@@ -1,5 +1,5 @@
 use Rattle.std.proofs.Common.{ℕ, ◌<◌}
-use Rattle.clause_rules.specs.EqFactorSearch.{NoneFrom}
+use Rattle.clause_rules.specs.code.EqFactorSearch.{NoneFrom}
 use Rattle.clause_rules.proofs.eqfactor_rule.factor_joint.Given as goal
 
 abbrev pub invariant-loop-i : goal.invariant-loop-i

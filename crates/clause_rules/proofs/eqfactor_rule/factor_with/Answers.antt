@@ -1,4 +1,4 @@
-use Rattle.clause_rules.specs.EqFactorSearch.{NoneRead}
+use Rattle.clause_rules.specs.code.EqFactorSearch.{NoneRead}
 use Rattle.clause_rules.proofs.Factoring.{either_way, none_found}
 use Rattle.clause_rules.proofs.eqfactor_rule.factor_with.Goals as goal
 

@@ -1,7 +1,7 @@
 use Rattle.std.proofs.Common.{◌≡◌, take, map}
 use Rattle.fof_terms.specs.declared.term.Term.{Var}
 use Rattle.clause_form.specs.Images.{image}
-use Rattle.clause_rules.specs.CoverSearch.{near, over}
+use Rattle.clause_rules.specs.code.CoverSearch.{near, over}
 use Rattle.clause_rules.proofs.naming.+term_named.Given as goal
 
 abbrev pub invariant-terms_named-loop-term : goal.invariant-terms_named-loop-term

@@ -1,5 +1,5 @@
 use Rattle.std.proofs.Common.{◌≡◌, take, map}
-use Rattle.clause_rules.specs.CoverSearch.{named, near}
+use Rattle.clause_rules.specs.code.CoverSearch.{named, near}
 use Rattle.clause_rules.proofs.naming.lits_named.Given as goal
 
 abbrev pub invariant-loop-lit : goal.invariant-loop-lit

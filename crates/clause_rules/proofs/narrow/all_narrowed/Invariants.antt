@@ -1,6 +1,6 @@
 use Rattle.std.proofs.Common.{take}
-use Rattle.clause_rules.specs.Narrow.{AreNarrow}
-use Rattle.clause_rules.specs.Ways.{cover_needs}
+use Rattle.clause_rules.specs.code.Narrow.{AreNarrow}
+use Rattle.clause_rules.specs.code.Ways.{cover_needs}
 use Rattle.clause_rules.proofs.narrow.all_narrowed.Given as goal
 
 abbrev pub invariant-loop-lit : goal.invariant-loop-lit

@@ -1,6 +1,6 @@
 use Rattle.std.proofs.Common.{ap}
 use Rattle.unify_terms.specs.declared.goal.Goal.{Any}
-use Rattle.clause_rules.specs.Ways.{lit_ways}
+use Rattle.clause_rules.specs.code.Ways.{lit_ways}
 use Rattle.clause_rules.proofs.Firsts.{there_at}
 use Rattle.clause_rules.proofs.Narrowing.{one_target}
 use Rattle.clause_rules.proofs.narrow.narrowed.Goals as goal

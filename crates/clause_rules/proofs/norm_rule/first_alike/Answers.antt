@@ -1,6 +1,6 @@
 use Rattle.std.proofs.Common.{subst, sym, below_more}
 use Rattle.std.proofs.lemmas.Option.{slice_get-get_or}
-use Rattle.clause_rules.specs.NormRule.{IsFirstAlike}
+use Rattle.clause_rules.specs.code.NormRule.{IsFirstAlike}
 use Rattle.clause_rules.proofs.Firsts.{alike_at, not_alike_at, alike_nowhere}
 use Rattle.clause_rules.proofs.norm_rule.first_alike.Goals as goal
 

@@ -1,5 +1,5 @@
 use Rattle.std.proofs.Common.{None, arith, below_more, subst}
-use Rattle.clause_rules.specs.ParamodulationSearch.{FoundAtLit}
+use Rattle.clause_rules.specs.code.ParamodulationSearch.{FoundAtLit}
 use Rattle.clause_rules.proofs.ParamodulationPlaces.{no_lit_past}
 use Rattle.clause_rules.proofs.paramodulation_rule.in_clause.Goals as goal
 

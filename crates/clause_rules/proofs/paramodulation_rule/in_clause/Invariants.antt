@@ -1,5 +1,5 @@
 use Rattle.std.proofs.Common.{ℕ, ◌<◌, None}
-use Rattle.clause_rules.specs.ParamodulationSearch.{FoundAtLit}
+use Rattle.clause_rules.specs.code.ParamodulationSearch.{FoundAtLit}
 use Rattle.clause_rules.proofs.paramodulation_rule.in_clause.Given as goal
 
 abbrev pub invariant-loop-i : goal.invariant-loop-i

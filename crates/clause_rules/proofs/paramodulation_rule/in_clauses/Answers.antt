@@ -1,5 +1,5 @@
 use Rattle.std.proofs.Common.{None, below_more, subst}
-use Rattle.clause_rules.specs.ParamodulationSearch.{FoundInClause}
+use Rattle.clause_rules.specs.code.ParamodulationSearch.{FoundInClause}
 use Rattle.clause_rules.proofs.ParamodulationPlaces.{no_clause_past}
 use Rattle.clause_rules.proofs.paramodulation_rule.in_clauses.Goals as goal
 

@@ -1,5 +1,5 @@
 use Rattle.std.proofs.Common.{ℕ, ◌<◌, None}
-use Rattle.clause_rules.specs.ParamodulationSearch.{FoundInClause}
+use Rattle.clause_rules.specs.code.ParamodulationSearch.{FoundInClause}
 use Rattle.clause_rules.proofs.paramodulation_rule.in_clauses.Given as goal
 
 abbrev pub invariant-loop-a : goal.invariant-loop-a

@@ -1,5 +1,5 @@
 use Rattle.std.proofs.Common.{ap, ◌∙◌}
-use Rattle.fof_terms.specs.Scope.{scope_sorts-Outside}
+use Rattle.fof_terms.proofs.ScopeFacts.{scope_sorts-Outside}
 use Rattle.fof_terms.specs.Sorts.{sort_of_term}
 use Rattle.clause_rules.proofs.ParamodulationCode.{one_sort_told, turned_back}
 use Rattle.clause_rules.proofs.paramodulation_rule.is_one_sort.Goals as goal

@@ -1,5 +1,5 @@
 use Rattle.std.proofs.Common.{Some, None, subst}
-use Rattle.clause_rules.specs.Screens.{NeverOthers}
+use Rattle.clause_rules.specs.code.Screens.{NeverOthers}
 use Rattle.clause_rules.proofs.Changing.{never_from}
 use Rattle.clause_rules.proofs.ParamodulationCode.{spot_as, equation_as}
 use Rattle.clause_rules.proofs.ParamodulationEnds.{no_equation, no_heads}

@@ -1,5 +1,5 @@
 use Rattle.std.proofs.Common.{None, sym, subst, ◌∙◌}
-use Rattle.clause_rules.specs.Settled.{AllFit}
+use Rattle.clause_rules.specs.code.Settled.{AllFit}
 use Rattle.clause_rules.proofs.Firsts.{holds, ok_map}
 use Rattle.clause_rules.proofs.ParamodulationEnds.{paramodulation_answer, no_readings}
 use Rattle.clause_rules.proofs.ResolutionLoops.{form_fits, parents_fit}

@@ -1,6 +1,6 @@
 use Rattle.std.proofs.Common.{sym, ◌∙◌, ap}
 use Rattle.clause_rules.proofs.PlaceCode.{below_var, below_app}
-use Rattle.clause_rules.specs.PlaceSearch.{go_on, below}
+use Rattle.clause_rules.specs.code.PlaceSearch.{go_on, below}
 use Rattle.std.proofs.Common.{drop, ◌+◌}
 use Rattle.clause_rules.proofs.places.+term_below.Goals as goal
 

@@ -1,7 +1,7 @@
 use Rattle.std.proofs.Common.{Some, arith, below_more, slice_get, subst, ◌≡◌}
 use Rattle.std.proofs.lemmas.Option.{slice_get_within}
 use Rattle.fof_terms.specs.declared.form.Form.{Form}
-use Rattle.clause_rules.specs.Screens.{NeverReached}
+use Rattle.clause_rules.specs.code.Screens.{NeverReached}
 use Rattle.clause_rules.proofs.Firsts.{ok_map, one_at, there_at}
 use Rattle.clause_rules.proofs.Unreached.{and_told, or_told, all_told, leaf_told}
 use Rattle.clause_rules.proofs.reaching.+may_reach.Goals as goal

@@ -1,5 +1,5 @@
 use Rattle.std.proofs.Common.{sym, subst, ◌∙◌}
-use Rattle.clause_rules.specs.Settled.{AllFit}
+use Rattle.clause_rules.specs.code.Settled.{AllFit}
 use Rattle.clause_rules.proofs.Firsts.{ok_map}
 use Rattle.clause_rules.proofs.ResolutionLoops.{form_fits, parents_fit, resolution_answer}
 use Rattle.clause_rules.proofs.resolution_rule.resolution_step.Goals as goal

@@ -1,6 +1,6 @@
 use Rattle.std.proofs.Common.{ℕ, ◌<◌, List}
 use Rattle.fof_terms.specs.declared.term.Term.{Term}
-use Rattle.clause_rules.specs.ResolutionSearch.{ResolvesFrom}
+use Rattle.clause_rules.specs.code.ResolutionSearch.{ResolvesFrom}
 use Rattle.clause_rules.proofs.resolution_rule.resolve_among.Given as goal
 
 abbrev pub invariant-loop-a : goal.invariant-loop-a

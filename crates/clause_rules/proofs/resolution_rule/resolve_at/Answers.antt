@@ -1,5 +1,5 @@
 use Rattle.std.proofs.Common.{subst}
-use Rattle.clause_rules.specs.ResolutionSearch.{NeverResolves}
+use Rattle.clause_rules.specs.code.ResolutionSearch.{NeverResolves}
 use Rattle.clause_rules.proofs.Firsts.{ok_map}
 use Rattle.clause_rules.proofs.ResolvedAt.{asked_sorted, asked_settled, no_resolution}
 use Rattle.clause_rules.proofs.resolution_rule.resolve_at.Goals as goal

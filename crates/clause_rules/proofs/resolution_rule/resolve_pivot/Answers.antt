@@ -1,6 +1,6 @@
 use Rattle.std.proofs.Common.{below_more, refl, subst, sym}
-use Rattle.clause_rules.specs.ResolutionSearch.{FoundPivot}
-use Rattle.clause_rules.specs.Screens.{NeverPivot}
+use Rattle.clause_rules.specs.code.ResolutionSearch.{FoundPivot}
+use Rattle.clause_rules.specs.code.Screens.{NeverPivot}
 use Rattle.clause_rules.proofs.Firsts.{there_at, ok_map}
 use Rattle.clause_rules.proofs.ResolutionLoops.{no_pivot, none_in_slot, found_in_slot, none_with}
 use Rattle.clause_rules.proofs.resolution_rule.resolve_pivot.Goals as goal

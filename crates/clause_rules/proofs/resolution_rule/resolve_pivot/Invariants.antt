@@ -1,6 +1,6 @@
 use Rattle.std.proofs.Common.{ℕ, ◌<◌, List}
 use Rattle.fof_terms.specs.declared.term.Term.{Term}
-use Rattle.clause_rules.specs.ResolutionSearch.{ResolvesWith}
+use Rattle.clause_rules.specs.code.ResolutionSearch.{ResolvesWith}
 use Rattle.clause_rules.proofs.resolution_rule.resolve_pivot.Given as goal
 
 abbrev pub invariant-loop-b : goal.invariant-loop-b

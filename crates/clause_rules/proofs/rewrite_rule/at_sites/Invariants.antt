@@ -1,6 +1,6 @@
 use Rattle.std.proofs.Common.{ℕ, ◌<◌, ◌≡◌, Some, None, slice_get}
 use Rattle.clause_rules.specs.declared.sites.Site.{Site}
-use Rattle.clause_rules.specs.RewriteSearch.{RewritesAtSite}
+use Rattle.clause_rules.specs.code.RewriteSearch.{RewritesAtSite}
 use Rattle.clause_rules.proofs.rewrite_rule.at_sites.Given as goal
 
 abbrev pub invariant-loop-m : goal.invariant-loop-m

@@ -1,6 +1,6 @@
 use Rattle.std.proofs.Common.{ap, subst, refl}
 use Rattle.fof_terms.specs.declared.term.Term.{Var}
-use Rattle.clause_rules.specs.Screens.{NeverAll}
+use Rattle.clause_rules.specs.code.Screens.{NeverAll}
 use Rattle.clause_rules.proofs.Changing.{never_rewritten}
 use Rattle.clause_rules.proofs.RewriteCode.{replaced_as}
 use Rattle.clause_rules.proofs.rewrite_rule.may_be_rewritten.Goals as goal

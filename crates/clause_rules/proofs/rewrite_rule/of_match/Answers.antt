@@ -1,9 +1,9 @@
 use Rattle.std.proofs.Common.{Some, None, subst, sym, refl, ◌∙◌, ◌∷◌, [], length}
 use Rattle.unify_terms.specs.Substitution.{instance}
 use Rattle.unify_terms.specs.Unifiers.{AreSorted as ArePairsSorted}
-use Rattle.clause_rules.specs.RewriteSearch.{SettlesRewriting}
+use Rattle.clause_rules.specs.code.RewriteSearch.{SettlesRewriting}
 use Rattle.clause_rules.specs.Steps.{scope_of_both}
-use Rattle.clause_rules.specs.Ways.{pair_of}
+use Rattle.clause_rules.specs.code.Ways.{pair_of}
 use Rattle.clause_rules.proofs.Firsts.{ok_map}
 use Rattle.clause_rules.proofs.ParamodulationCode.{equation_as}
 use Rattle.clause_rules.proofs.RewriteCode.{unified_as, replaced_as, no_match_equation}

@@ -1,6 +1,6 @@
 use Rattle.std.proofs.Common.{None, refl, sym, subst, ◌∙◌}
-use Rattle.clause_rules.specs.ParamodulationSearch.{sites_from}
-use Rattle.clause_rules.specs.Settled.{AllFit}
+use Rattle.clause_rules.specs.code.ParamodulationSearch.{sites_from}
+use Rattle.clause_rules.specs.code.Settled.{AllFit}
 use Rattle.clause_rules.proofs.Firsts.{holds, ok_map}
 use Rattle.clause_rules.proofs.RewriteCode.{rewrite_answer, no_readings}
 use Rattle.clause_rules.proofs.ResolutionLoops.{form_fits, parents_fit}

@@ -1,7 +1,7 @@
 use Rattle.std.proofs.Common.{ap, subst, ◌∷◌, [], ◌∙◌}
 use Rattle.unify_terms.specs.Goals.{goal_sorted}
-use Rattle.clause_rules.specs.Settled.{IsSolution}
-use Rattle.clause_rules.specs.Ways.{cover_needs, goal_of_need, pair_of}
+use Rattle.clause_rules.specs.code.Settled.{IsSolution}
+use Rattle.clause_rules.specs.code.Ways.{cover_needs, goal_of_need, pair_of}
 use Rattle.clause_rules.proofs.Firsts.{ok_map}
 use Rattle.clause_rules.proofs.Narrowing.{narrow_beside, narrow_sorted, narrow_solved}
 use Rattle.clause_rules.proofs.search.narrowed_beside.Goals as goal

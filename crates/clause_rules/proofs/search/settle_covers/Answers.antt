@@ -1,6 +1,6 @@
 use Rattle.std.proofs.Common.{ap, subst, ◌∙◌}
 use Rattle.unify_terms.specs.Goals.{goal_sorted}
-use Rattle.clause_rules.specs.Settled.{IsSolution}
+use Rattle.clause_rules.specs.code.Settled.{IsSolution}
 use Rattle.clause_rules.proofs.Firsts.{ok_map}
 use Rattle.clause_rules.proofs.Narrowing.{all_asked, none_covers}
 use Rattle.clause_rules.proofs.search.settle_covers.Goals as goal

@@ -1,4 +1,4 @@
-use Rattle.clause_rules.specs.Ways.{cover_needs}
+use Rattle.clause_rules.specs.code.Ways.{cover_needs}
 use Rattle.clause_rules.proofs.Firsts.{ok_map}
 use Rattle.clause_rules.proofs.Narrowing.{narrow_sorted, narrow_solved}
 use Rattle.clause_rules.proofs.search.settle_narrowed.Goals as goal

@@ -1,5 +1,5 @@
 use Rattle.std.proofs.Common.{◌≡◌, ◌++◌, take}
-use Rattle.clause_rules.specs.ParamodulationSearch.{sites_of_places}
+use Rattle.clause_rules.specs.code.ParamodulationSearch.{sites_of_places}
 use Rattle.clause_rules.proofs.sites.add_places.Given as goal
 
 abbrev pub invariant-loop-place : goal.invariant-loop-place

@@ -1,5 +1,5 @@
 use Rattle.clause_form.specs.declared.clause.Lit.{Lit}
-use Rattle.clause_rules.specs.ParamodulationSearch.{readings_of_atom}
+use Rattle.clause_rules.specs.code.ParamodulationSearch.{readings_of_atom}
 use Rattle.clause_rules.proofs.Indexed.{indexed_more}
 use Rattle.clause_rules.proofs.sites.add_readings.Goals as goal
 

@@ -1,5 +1,5 @@
 use Rattle.std.proofs.Common.{◌≡◌, ◌++◌, take}
-use Rattle.clause_rules.specs.ParamodulationSearch.{readings_of_lits}
+use Rattle.clause_rules.specs.code.ParamodulationSearch.{readings_of_lits}
 use Rattle.clause_rules.proofs.sites.add_readings.Given as goal
 
 abbrev pub invariant-loop-at : goal.invariant-loop-at

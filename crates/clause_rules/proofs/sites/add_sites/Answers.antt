@@ -1,6 +1,6 @@
 use Rattle.clause_form.specs.declared.clause.Lit.{Lit}
-use Rattle.clause_rules.specs.ParamodulationSearch.{sites_of_places}
-use Rattle.clause_rules.specs.PlaceSearch.{places_of}
+use Rattle.clause_rules.specs.code.ParamodulationSearch.{sites_of_places}
+use Rattle.clause_rules.specs.code.PlaceSearch.{places_of}
 use Rattle.clause_rules.proofs.Indexed.{indexed_more}
 use Rattle.clause_rules.proofs.sites.add_sites.Goals as goal
 

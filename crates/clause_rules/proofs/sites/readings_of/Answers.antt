@@ -1,5 +1,5 @@
 use Rattle.std.proofs.Common.{[]}
-use Rattle.clause_rules.specs.ParamodulationSearch.{readings_of_slot}
+use Rattle.clause_rules.specs.code.ParamodulationSearch.{readings_of_slot}
 use Rattle.clause_rules.proofs.Indexed.{indexed_more}
 use Rattle.clause_rules.proofs.sites.readings_of.Goals as goal
 

@@ -1,5 +1,5 @@
 use Rattle.std.proofs.Common.{◌≡◌, take}
-use Rattle.clause_rules.specs.ParamodulationSearch.{readings_from}
+use Rattle.clause_rules.specs.code.ParamodulationSearch.{readings_from}
 use Rattle.clause_rules.proofs.sites.readings_of.Given as goal
 
 abbrev pub invariant-loop-at : goal.invariant-loop-at

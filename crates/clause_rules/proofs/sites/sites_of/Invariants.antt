@@ -1,5 +1,5 @@
 use Rattle.std.proofs.Common.{◌≡◌, take}
-use Rattle.clause_rules.specs.ParamodulationSearch.{sites_from}
+use Rattle.clause_rules.specs.code.ParamodulationSearch.{sites_from}
 use Rattle.clause_rules.proofs.sites.sites_of.Given as goal
 
 abbrev pub invariant-loop-at : goal.invariant-loop-at

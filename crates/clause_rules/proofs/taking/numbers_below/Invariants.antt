@@ -1,5 +1,5 @@
 use Rattle.std.proofs.Common.{◌≡◌}
-use Rattle.clause_rules.specs.CoverSearch.{near, down}
+use Rattle.clause_rules.specs.code.CoverSearch.{near, down}
 use Rattle.clause_rules.proofs.taking.numbers_below.Given as goal
 
 abbrev pub invariant-loop-i : goal.invariant-loop-i

@@ -1,5 +1,5 @@
 use Rattle.std.proofs.Common.{◌≡◌, take}
-use Rattle.clause_rules.specs.Ways.{zip_pairs}
+use Rattle.clause_rules.specs.code.Ways.{zip_pairs}
 use Rattle.clause_rules.proofs.ways.pairs_of.Given as goal
 
 abbrev pub invariant-loop-at : goal.invariant-loop-at

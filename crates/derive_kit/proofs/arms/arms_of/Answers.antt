@@ -1,6 +1,7 @@
-use Rattle.derive_kit.specs.Places.{at_index}
-use Rattle.derive_kit.specs.Recursion.{IsStep, part_more}
-use Rattle.derive_kit.specs.Remaining.{next_left, none_left}
+use Rattle.derive_kit.proofs.Places.{at_index}
+use Rattle.derive_kit.specs.code.Recursion.{IsStep}
+use Rattle.derive_kit.proofs.RecursionFacts.{part_more}
+use Rattle.derive_kit.proofs.Remaining.{next_left, none_left}
 use Rattle.derive_kit.proofs.arms.arms_of.Goals.{in-Some+in_ok-part+in_ok-arm+in_ok-push, in_default}
 use Rattle.derive_kit.proofs.arms.arms_of.Goals as goal
 

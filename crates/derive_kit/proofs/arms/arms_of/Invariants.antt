@@ -1,8 +1,8 @@
 use Rattle.std.proofs.Common.{take, drop, reverse}
 use Rattle.fof_terms.specs.Sorts.{binder_depth}
 use Rattle.clause_form.specs.Norm.{node}
-use Rattle.derive_kit.specs.Links.{PartsFrom, Arm}
-use Rattle.derive_kit.specs.Recursion.{IsStep}
+use Rattle.derive_kit.specs.code.Links.{PartsFrom, Arm}
+use Rattle.derive_kit.specs.code.Recursion.{IsStep}
 use Rattle.derive_kit.proofs.arms.arms_of.Given as goal
 
 abbrev pub invariant-loop-number : goal.invariant-loop-number

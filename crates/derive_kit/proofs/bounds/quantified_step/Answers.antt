@@ -1,8 +1,8 @@
 use Rattle.std.proofs.Common.{arith, sym, ◌∙◌}
-use Rattle.fof_terms.specs.PlaceReach.{place_reach}
-use Rattle.clause_form.specs.Norm.{quantified-kept, quantified-dropped}
-use Rattle.derive_kit.specs.Links.{kind_of}
-use Rattle.derive_kit.specs.Bound.{stays_shows, goes_shows}
+use Rattle.fof_terms.proofs.PlaceReach.{place_reach}
+use Rattle.clause_form.proofs.NormFacts.{quantified-kept, quantified-dropped}
+use Rattle.derive_kit.specs.code.Links.{kind_of}
+use Rattle.derive_kit.proofs.BoundFacts.{stays_shows, goes_shows}
 use Rattle.derive_kit.proofs.bounds.quantified_step.Goals as goal
 
 pub returns-then-has_variable-clause-norm : goal.returns-then-has_variable-clause-norm

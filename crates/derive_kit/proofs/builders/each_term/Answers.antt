@@ -1,5 +1,5 @@
 use Rattle.std.proofs.Common.{arith}
-use Rattle.derive_kit.specs.Built.{one_more, one_more_shows}
+use Rattle.derive_kit.proofs.Built.{one_more, one_more_shows}
 use Rattle.derive_kit.proofs.builders.each_term.Goals as goal
 
 pub loop-term-preserved : goal.loop-term-preserved

@@ -1,5 +1,5 @@
-use Rattle.kernel.specs.Building.{by_subst}
-use Rattle.derive_kit.specs.Built.{ok_map}
+use Rattle.kernel.proofs.Building.{by_subst}
+use Rattle.derive_kit.proofs.Built.{ok_map}
 use Rattle.derive_kit.proofs.builders.rewrite_in.Goals as goal
 
 pub returns : goal.returns

@@ -1,6 +1,6 @@
 use Rattle.std.proofs.Common.{ap, ◌∙◌}
 use Rattle.clause_form.specs.Norm.{signed}
-use Rattle.derive_kit.specs.Made.{other_made}
+use Rattle.derive_kit.proofs.Made.{other_made}
 use Rattle.derive_kit.proofs.connecting.by_other.Goals as goal
 
 pub returns-clause-part : goal.returns-clause-part

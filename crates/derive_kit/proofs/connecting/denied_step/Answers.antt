@@ -1,8 +1,8 @@
 use Rattle.std.proofs.Common.{ap, ◌∙◌}
 use Rattle.fof_terms.specs.declared.form.Form.{Not}
-use Rattle.derive_kit.specs.Built.{ok_map}
-use Rattle.derive_kit.specs.Norms.{room}
-use Rattle.derive_kit.specs.Turned.{turned_made}
+use Rattle.derive_kit.proofs.Built.{ok_map}
+use Rattle.derive_kit.proofs.NormsFacts.{room}
+use Rattle.derive_kit.proofs.Turned.{turned_made}
 use Rattle.derive_kit.proofs.connecting.denied_step.Goals as goal
 
 pub norm_signed-requires : goal.norm_signed-requires

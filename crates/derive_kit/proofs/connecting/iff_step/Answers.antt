@@ -1,9 +1,9 @@
 use Rattle.std.proofs.Common.{refl, ap, ◌∙◌, List}
 use Rattle.fof_terms.specs.declared.form.Form.{Form, And}
 use Rattle.clause_form.specs.Norm.{norm_of}
-use Rattle.derive_kit.specs.Built.{ok_map}
-use Rattle.derive_kit.specs.Norms.{both_size, norm_of_both}
-use Rattle.derive_kit.specs.Made.{iff_made, both_norms}
+use Rattle.derive_kit.proofs.Built.{ok_map}
+use Rattle.derive_kit.proofs.NormsFacts.{both_size, norm_of_both}
+use Rattle.derive_kit.proofs.Made.{iff_made, both_norms}
 use Rattle.derive_kit.proofs.connecting.iff_step.Goals as goal
 
 pub pair_step-requires-clause-size : goal.pair_step-requires-clause-size

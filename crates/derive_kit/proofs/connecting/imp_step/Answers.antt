@@ -1,7 +1,7 @@
 use Rattle.std.proofs.Common.{refl, ◌∙◌}
-use Rattle.derive_kit.specs.Built.{ok_map}
-use Rattle.derive_kit.specs.Norms.{norm_of_sides}
-use Rattle.derive_kit.specs.Made.{imp_made}
+use Rattle.derive_kit.proofs.Built.{ok_map}
+use Rattle.derive_kit.proofs.NormsFacts.{norm_of_sides}
+use Rattle.derive_kit.proofs.Made.{imp_made}
 use Rattle.derive_kit.proofs.connecting.imp_step.Goals as goal
 
 pub by_other-requires : goal.by_other-requires

@@ -1,7 +1,7 @@
 use Rattle.std.proofs.Common.{ap, ◌∙◌}
 use Rattle.clause_form.specs.Norm.{signed}
-use Rattle.derive_kit.specs.Built.{ok_map}
-use Rattle.derive_kit.specs.Steps.{same_shows}
+use Rattle.derive_kit.proofs.Built.{ok_map}
+use Rattle.derive_kit.proofs.StepsFacts.{same_shows}
 use Rattle.derive_kit.proofs.connecting.literal.Goals as goal
 
 pub returns-clause-norm : goal.returns-clause-norm

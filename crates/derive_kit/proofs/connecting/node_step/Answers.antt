@@ -1,6 +1,6 @@
 use Rattle.std.proofs.Common.{◌∙◌}
-use Rattle.derive_kit.specs.Norms.{few_norms, few_flat}
-use Rattle.derive_kit.specs.Made.{node_made, node_norm}
+use Rattle.derive_kit.proofs.NormsFacts.{few_norms, few_flat}
+use Rattle.derive_kit.proofs.Made.{node_made, node_norm}
 use Rattle.derive_kit.proofs.connecting.node_step.Goals as goal
 
 pub join_step-requires-clause-few : goal.join_step-requires-clause-few

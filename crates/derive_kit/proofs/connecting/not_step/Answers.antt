@@ -1,6 +1,6 @@
 use Rattle.std.proofs.Common.{refl, ◌∙◌}
-use Rattle.derive_kit.specs.Built.{ok_map}
-use Rattle.derive_kit.specs.Norms.{not_plus, not_minus}
+use Rattle.derive_kit.proofs.Built.{ok_map}
+use Rattle.derive_kit.proofs.NormsFacts.{not_plus, not_minus}
 use Rattle.derive_kit.proofs.connecting.not_step.Goals as goal
 
 pub returns-then-positive : goal.returns-then-positive

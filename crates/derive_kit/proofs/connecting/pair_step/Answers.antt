@@ -1,6 +1,6 @@
 use Rattle.std.proofs.Common.{◌∙◌}
-use Rattle.derive_kit.specs.Built.{ok_map}
-use Rattle.derive_kit.specs.Made.{pair_made}
+use Rattle.derive_kit.proofs.Built.{ok_map}
+use Rattle.derive_kit.proofs.Made.{pair_made}
 use Rattle.derive_kit.proofs.connecting.pair_step.Goals as goal
 
 pub node_step-requires-clause-norms : goal.node_step-requires-clause-norms

@@ -1,9 +1,9 @@
 use Rattle.std.proofs.Common.{ap, ◌∙◌, List}
 use Rattle.fof_terms.specs.declared.form.Form.{Form, Or}
 use Rattle.clause_form.specs.Norm.{norm_of}
-use Rattle.derive_kit.specs.Built.{ok_map}
-use Rattle.derive_kit.specs.Norms.{sides_size}
-use Rattle.derive_kit.specs.Made.{sides_made, sides_norms}
+use Rattle.derive_kit.proofs.Built.{ok_map}
+use Rattle.derive_kit.proofs.NormsFacts.{sides_size}
+use Rattle.derive_kit.proofs.Made.{sides_made, sides_norms}
 use Rattle.derive_kit.proofs.connecting.sides_step.Goals as goal
 
 pub pair_step-requires-clause-size : goal.pair_step-requires-clause-size

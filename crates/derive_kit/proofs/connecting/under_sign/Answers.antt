@@ -1,5 +1,5 @@
-use Rattle.derive_kit.specs.Built.{ok_map}
-use Rattle.derive_kit.specs.Made.{under_plus, under_minus}
+use Rattle.derive_kit.proofs.Built.{ok_map}
+use Rattle.derive_kit.proofs.Made.{under_plus, under_minus}
 use Rattle.derive_kit.proofs.connecting.under_sign.Goals as goal
 
 pub returns-then-positive : goal.returns-then-positive

@@ -1,6 +1,6 @@
 use Rattle.std.proofs.Common.{sym, ◌∙◌}
-use Rattle.derive_kit.specs.Built.{ok_map}
-use Rattle.derive_kit.specs.Gathered.{flat_spread, flat_gather}
+use Rattle.derive_kit.proofs.Built.{ok_map}
+use Rattle.derive_kit.proofs.Gathered.{flat_spread, flat_gather}
 use Rattle.derive_kit.proofs.joins.flat_step.Goals as goal
 
 pub returns-then-toward : goal.returns-then-toward

@@ -1,5 +1,5 @@
-use Rattle.derive_kit.specs.Built.{ok_map}
-use Rattle.derive_kit.specs.Gathered.{gather_some, gather_none}
+use Rattle.derive_kit.proofs.Built.{ok_map}
+use Rattle.derive_kit.proofs.Gathered.{gather_some, gather_none}
 use Rattle.derive_kit.proofs.joins.gather.Goals as goal
 
 pub returns-in-Some : goal.returns-in-Some

@@ -1,6 +1,6 @@
 use Rattle.std.proofs.Common.{arith, refl}
-use Rattle.derive_kit.specs.Places.{at_index}
-use Rattle.derive_kit.specs.Gathered.{gather_next, start_next, start_room}
+use Rattle.derive_kit.proofs.Places.{at_index}
+use Rattle.derive_kit.proofs.Gathered.{gather_next, start_next, start_room}
 use Rattle.derive_kit.proofs.joins.gather_all.Goals as goal
 
 pub gather-requires : goal.gather-requires

@@ -1,6 +1,6 @@
 use Rattle.std.proofs.Common.{◌≡◌, take, flat_map, length}
 use Rattle.clause_form.specs.Norm.{members_of}
-use Rattle.derive_kit.specs.Joining.{GatherTo}
+use Rattle.derive_kit.specs.code.Joining.{GatherTo}
 use Rattle.derive_kit.proofs.joins.gather_all.Given as goal
 
 abbrev pub invariant-loop-number : goal.invariant-loop-number

@@ -1,6 +1,6 @@
 use Rattle.std.proofs.Common.{refl, ◌∙◌}
-use Rattle.derive_kit.specs.Built.{ok_map}
-use Rattle.derive_kit.specs.Gathered.{join_settled, join_both}
+use Rattle.derive_kit.proofs.Built.{ok_map}
+use Rattle.derive_kit.proofs.Gathered.{join_settled, join_both}
 use Rattle.derive_kit.proofs.joins.join_step.Goals as goal
 
 pub returns-then-equal_all : goal.returns-then-equal_all

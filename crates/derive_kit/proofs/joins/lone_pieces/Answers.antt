@@ -1,6 +1,6 @@
 use Rattle.std.proofs.Common.{◌∙◌}
-use Rattle.derive_kit.specs.Joining.{lone_tree}
-use Rattle.derive_kit.specs.Gathered.{numbered_after}
+use Rattle.derive_kit.specs.code.Joining.{lone_tree}
+use Rattle.derive_kit.proofs.Gathered.{numbered_after}
 use Rattle.derive_kit.proofs.joins.lone_pieces.Goals as goal
 
 pub loop-place-preserved : goal.loop-place-preserved

@@ -1,5 +1,5 @@
 use Rattle.std.proofs.Common.{◌≡◌}
-use Rattle.derive_kit.specs.Joining.{numbered, lone_tree}
+use Rattle.derive_kit.specs.code.Joining.{numbered, lone_tree}
 use Rattle.derive_kit.proofs.joins.lone_pieces.Given as goal
 
 abbrev pub invariant-loop-place : goal.invariant-loop-place

@@ -1,6 +1,6 @@
-use Rattle.derive_kit.specs.Built.{ok_map}
-use Rattle.derive_kit.specs.Settled.{ended_shows, alone_shows, kept_shows}
-use Rattle.derive_kit.specs.Places.{one_alone}
+use Rattle.derive_kit.proofs.Built.{ok_map}
+use Rattle.derive_kit.proofs.SettledFacts.{ended_shows, alone_shows, kept_shows}
+use Rattle.derive_kit.proofs.Places.{one_alone}
 use Rattle.derive_kit.proofs.joins.settle.Goals as goal
 
 pub returns-in-Some : goal.returns-in-Some

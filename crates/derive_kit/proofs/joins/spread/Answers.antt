@@ -1,6 +1,6 @@
 use Rattle.std.proofs.Common.{refl}
-use Rattle.derive_kit.specs.Built.{ok_map}
-use Rattle.derive_kit.specs.Gathered.{spread_some, spread_none}
+use Rattle.derive_kit.proofs.Built.{ok_map}
+use Rattle.derive_kit.proofs.Gathered.{spread_some, spread_none}
 use Rattle.derive_kit.proofs.joins.spread.Goals as goal
 
 pub returns-in-Some : goal.returns-in-Some

@@ -1,6 +1,6 @@
 use Rattle.std.proofs.Common.{arith}
-use Rattle.derive_kit.specs.Places.{at_index}
-use Rattle.derive_kit.specs.Gathered.{spread_next, few_there}
+use Rattle.derive_kit.proofs.Places.{at_index}
+use Rattle.derive_kit.proofs.Gathered.{spread_next, few_there}
 use Rattle.derive_kit.proofs.joins.spread_all.Goals as goal
 
 pub spread-requires : goal.spread-requires

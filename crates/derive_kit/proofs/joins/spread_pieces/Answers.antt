@@ -1,6 +1,6 @@
 use Rattle.std.proofs.Common.{◌∙◌}
-use Rattle.derive_kit.specs.Joining.{spread_tree}
-use Rattle.derive_kit.specs.Gathered.{numbered_next}
+use Rattle.derive_kit.specs.code.Joining.{spread_tree}
+use Rattle.derive_kit.proofs.Gathered.{numbered_next}
 use Rattle.derive_kit.proofs.joins.spread_pieces.Goals as goal
 
 pub loop-place-preserved : goal.loop-place-preserved

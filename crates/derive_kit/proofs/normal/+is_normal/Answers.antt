@@ -1,10 +1,10 @@
 use Rattle.std.proofs.Common.{rules, arith, sym, ◌∙◌, true, false}
 use Rattle.fof_terms.specs.declared.form.Form.TheViews.{the_lemmas}
-use Rattle.clause_form.specs.Norm.{norm_of-Atom, norm_of-Eq}
-use Rattle.derive_kit.specs.Norms.{room, small_member}
-use Rattle.derive_kit.specs.Places.{at_index}
-use Rattle.derive_kit.specs.Recursion.{body_small, node_small}
-use Rattle.derive_kit.specs.Standing.{first_normal, node_normal, negation_normal, quantifier_normal}
+use Rattle.clause_form.proofs.NormFacts.{norm_of-Atom, norm_of-Eq}
+use Rattle.derive_kit.proofs.NormsFacts.{room, small_member}
+use Rattle.derive_kit.proofs.Places.{at_index}
+use Rattle.derive_kit.proofs.RecursionFacts.{body_small, node_small}
+use Rattle.derive_kit.proofs.Standing.{first_normal, node_normal, negation_normal, quantifier_normal}
 use Rattle.derive_kit.proofs.normal.+is_normal.Goals as goal
 
 pub is_normal-are_normal-requires : goal.is_normal-are_normal-requires

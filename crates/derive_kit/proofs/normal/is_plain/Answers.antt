@@ -1,5 +1,5 @@
 use Rattle.std.proofs.Common.{false}
-use Rattle.clause_form.specs.Norm.{norm_of-Atom, norm_of-Eq}
+use Rattle.clause_form.proofs.NormFacts.{norm_of-Atom, norm_of-Eq}
 use Rattle.derive_kit.proofs.normal.is_plain.Goals as goal
 
 pub returns-in-Atom : goal.returns-in-Atom

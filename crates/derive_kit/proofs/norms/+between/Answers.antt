@@ -2,14 +2,15 @@ use Rattle.std.proofs.Common.{rules, arith, ap, sym, refl, ◌∙◌, true, fals
 use Rattle.std.proofs.lemmas.List.{take_all}
 use Rattle.fof_terms.specs.declared.form.Form.TheViews.{the_lemmas}
 use Rattle.fof_terms.specs.declared.form.Form.{Not, And, Or, Imp, Iff, All, Ex}
-use Rattle.clause_form.specs.Norm.{quantified, norm_of-Atom, norm_of-Eq, norm_of-Not}
-use Rattle.derive_kit.specs.Built.{ok_map}
-use Rattle.derive_kit.specs.Links.{kind_of}
-use Rattle.derive_kit.specs.Norms.{norm_of_quantifier, small_member, few_members}
-use Rattle.derive_kit.specs.Placed.{placed_not, placed_body, placed_member, body_reach}
-use Rattle.derive_kit.specs.Places.{at_index}
-use Rattle.derive_kit.specs.Recursion.{norm_done, normal_norm, normal_done, literal_done, not_done, node_done, quantifier_done, imp_done, iff_done, negation_done, bound_done, of_imp, of_iff, small_not, body_small, quantifier_placed, norm_lifts, norm_depth_fits, norms_more, steps_more}
-use Rattle.derive_kit.specs.Recursion.{left_small, right_small, left_placed, right_placed, left_of_iff_small, right_of_iff_small, left_of_iff_placed, right_of_iff_placed, iff_sides_small}
+use Rattle.clause_form.specs.Norm.{quantified}
+use Rattle.clause_form.proofs.NormFacts.{norm_of-Atom, norm_of-Eq, norm_of-Not}
+use Rattle.derive_kit.proofs.Built.{ok_map}
+use Rattle.derive_kit.specs.code.Links.{kind_of}
+use Rattle.derive_kit.proofs.NormsFacts.{norm_of_quantifier, small_member, few_members}
+use Rattle.derive_kit.proofs.PlacedFacts.{placed_not, placed_body, placed_member, body_reach}
+use Rattle.derive_kit.proofs.Places.{at_index}
+use Rattle.derive_kit.proofs.RecursionFacts.{norm_done, normal_norm, normal_done, literal_done, not_done, node_done, quantifier_done, imp_done, iff_done, negation_done, bound_done, of_imp, of_iff, small_not, body_small, quantifier_placed, norm_lifts, norm_depth_fits, norms_more, steps_more}
+use Rattle.derive_kit.proofs.RecursionFacts.{left_small, right_small, left_placed, right_placed, left_of_iff_small, right_of_iff_small, left_of_iff_placed, right_of_iff_placed, iff_sides_small}
 use Rattle.derive_kit.proofs.norms.+between.Goals as goal
 
 pub between-returns-then-is_normal-clause-norm : goal.between-returns-then-is_normal-clause-norm

@@ -1,6 +1,6 @@
 use Rattle.std.proofs.Common.{◌≡◌, map, take}
 use Rattle.clause_form.specs.Norm.{norm_of}
-use Rattle.derive_kit.specs.Recursion.{MemberSteps}
+use Rattle.derive_kit.specs.code.Recursion.{MemberSteps}
 use Rattle.derive_kit.proofs.norms.+between.Given as goal
 
 abbrev pub invariant-of_members-loop-number : goal.invariant-of_members-loop-number

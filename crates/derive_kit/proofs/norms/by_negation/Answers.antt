@@ -1,5 +1,5 @@
-use Rattle.derive_kit.specs.Built.{ok_map}
-use Rattle.derive_kit.specs.Turned.{denied_small, denied_placed, turned_done}
+use Rattle.derive_kit.proofs.Built.{ok_map}
+use Rattle.derive_kit.proofs.Turned.{denied_small, denied_placed, turned_done}
 use Rattle.derive_kit.proofs.norms.by_negation.Goals as goal
 
 pub between-requires-2-clause-size : goal.between-requires-2-clause-size

@@ -1,5 +1,5 @@
 use Rattle.std.proofs.Common.{sym, ◌∙◌}
-use Rattle.derive_kit.specs.Norms.{same_if, room}
+use Rattle.derive_kit.proofs.NormsFacts.{same_if, room}
 use Rattle.derive_kit.proofs.norms.denies.Goals as goal
 
 pub norm_signed-requires : goal.norm_signed-requires

@@ -1,5 +1,5 @@
-use Rattle.derive_kit.specs.Built.{ok_map}
-use Rattle.derive_kit.specs.Placed.{placed_start, start_room}
+use Rattle.derive_kit.proofs.Built.{ok_map}
+use Rattle.derive_kit.proofs.PlacedFacts.{placed_start, start_room}
 use Rattle.derive_kit.proofs.norms.norm_forth.Goals as goal
 
 pub whole_step-requires-clause-placed : goal.whole_step-requires-clause-placed

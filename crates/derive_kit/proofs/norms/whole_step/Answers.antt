@@ -1,5 +1,5 @@
 use Rattle.std.proofs.Common.{◌∙◌}
-use Rattle.derive_kit.specs.Turned.{denied_small}
+use Rattle.derive_kit.proofs.Turned.{denied_small}
 use Rattle.derive_kit.proofs.norms.whole_step.Goals as goal
 
 pub denies-requires-clause-first : goal.denies-requires-clause-first

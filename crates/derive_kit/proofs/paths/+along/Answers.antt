@@ -1,11 +1,11 @@
 use Rattle.std.proofs.Common.{rules, arith, refl, ap, map, ◌∙◌}
 use Rattle.fof_terms.specs.declared.form.Form.TheViews.{the_lemmas}
 use Rattle.clause_form.specs.ClauseView.{form_of_lit}
-use Rattle.clause_form.specs.Found.{roomy_member, roomy_body}
-use Rattle.derive_kit.specs.Built.{ok_map}
-use Rattle.derive_kit.specs.Fitting.{picks_only, takes_only, enters_only, picked_place, picked_fits, entered_fits, taken_there, taken_fits_at}
-use Rattle.derive_kit.specs.Places.{at_index}
-use Rattle.derive_kit.specs.Routes.{along_leaf, along_pick, along_under, along_each, itself_shows, few_paths, arm_next, pick_small, under_small, each_small, each_roomy, arms_start, arm_rooms, over_here, found_here}
+use Rattle.clause_form.proofs.FoundFacts.{roomy_member, roomy_body}
+use Rattle.derive_kit.proofs.Built.{ok_map}
+use Rattle.derive_kit.proofs.FittingFacts.{picks_only, takes_only, enters_only, picked_place, picked_fits, entered_fits, taken_there, taken_fits_at}
+use Rattle.derive_kit.proofs.Places.{at_index}
+use Rattle.derive_kit.proofs.RoutesFacts.{along_leaf, along_pick, along_under, along_each, itself_shows, few_paths, arm_next, pick_small, under_small, each_small, each_roomy, arms_start, arm_rooms, over_here, found_here}
 use Rattle.derive_kit.proofs.paths.+along.Goals as goal
 
 pub along-bounds-members-place : goal.along-bounds-members-place

@@ -1,4 +1,4 @@
-use Rattle.derive_kit.specs.Routes.{ArmsUpTo}
+use Rattle.derive_kit.proofs.RoutesFacts.{ArmsUpTo}
 use Rattle.derive_kit.proofs.paths.+along.Given as goal
 
 abbrev pub invariant-arms-loop-number : goal.invariant-arms-loop-number

@@ -1,5 +1,5 @@
-use Rattle.derive_kit.specs.Built.{ok_map}
-use Rattle.derive_kit.specs.Alongside.{each_shows}
+use Rattle.derive_kit.proofs.Built.{ok_map}
+use Rattle.derive_kit.proofs.AlongsideFacts.{each_shows}
 use Rattle.derive_kit.proofs.paths.gathered.Goals as goal
 
 pub returns : goal.returns

@@ -1,5 +1,5 @@
-use Rattle.derive_kit.specs.Built.{ok_map}
-use Rattle.derive_kit.specs.Routes.{roomy_start, start_shows}
+use Rattle.derive_kit.proofs.Built.{ok_map}
+use Rattle.derive_kit.proofs.RoutesFacts.{roomy_start, start_shows}
 use Rattle.derive_kit.proofs.paths.path_proof.Goals as goal
 
 pub along-requires-clause-room : goal.along-requires-clause-room

@@ -1,6 +1,6 @@
 use Rattle.std.proofs.Common.{◌∙◌}
-use Rattle.derive_kit.specs.Built.{ok_map}
-use Rattle.derive_kit.specs.Routes.{segment_one, segment_several}
+use Rattle.derive_kit.proofs.Built.{ok_map}
+use Rattle.derive_kit.proofs.RoutesFacts.{segment_one, segment_several}
 use Rattle.derive_kit.proofs.widening.by_segment.Goals as goal
 
 pub returns-then-count-eq1 : goal.returns-then-count-eq1

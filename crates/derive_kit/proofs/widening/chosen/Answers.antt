@@ -1,8 +1,8 @@
 use Rattle.std.proofs.Common.{◌∙◌, ap, List}
 use Rattle.fof_terms.specs.declared.form.Form.{Form}
 use Rattle.kernel.specs.declared.proof.Proof.{OrI}
-use Rattle.derive_kit.specs.Built.{ok_map}
-use Rattle.derive_kit.specs.Routes.{chosen_one, chosen_several}
+use Rattle.derive_kit.proofs.Built.{ok_map}
+use Rattle.derive_kit.proofs.RoutesFacts.{chosen_one, chosen_several}
 use Rattle.derive_kit.proofs.widening.chosen.Goals as goal
 
 pub returns-then-members-eq1 : goal.returns-then-members-eq1

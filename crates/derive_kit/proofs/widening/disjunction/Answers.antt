@@ -1,6 +1,6 @@
 use Rattle.std.proofs.Common.{◌∙◌}
-use Rattle.derive_kit.specs.Built.{ok_map}
-use Rattle.derive_kit.specs.Routes.{alone_one, alone_several}
+use Rattle.derive_kit.proofs.Built.{ok_map}
+use Rattle.derive_kit.proofs.RoutesFacts.{alone_one, alone_several}
 use Rattle.derive_kit.proofs.widening.disjunction.Goals as goal
 
 pub returns-then-members-eq1 : goal.returns-then-members-eq1

@@ -1,7 +1,7 @@
 use Rattle.std.proofs.Common.{◌∙◌, ◌+◌, ap, ℕ}
 use Rattle.kernel.specs.declared.proof.Proof.{Proof, Hyp}
-use Rattle.derive_kit.specs.Alongside.{chosen}
-use Rattle.derive_kit.specs.Gathered.{numbered_after}
+use Rattle.derive_kit.specs.code.Alongside.{chosen}
+use Rattle.derive_kit.proofs.Gathered.{numbered_after}
 use Rattle.derive_kit.proofs.widening.each_chosen.Goals as goal
 
 pub loop-place-preserved : goal.loop-place-preserved

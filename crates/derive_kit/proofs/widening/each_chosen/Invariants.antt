@@ -1,7 +1,7 @@
 use Rattle.std.proofs.Common.{◌≡◌}
 use Rattle.kernel.specs.declared.proof.Proof.{Hyp}
-use Rattle.derive_kit.specs.Joining.{numbered}
-use Rattle.derive_kit.specs.Alongside.{chosen}
+use Rattle.derive_kit.specs.code.Joining.{numbered}
+use Rattle.derive_kit.specs.code.Alongside.{chosen}
 use Rattle.derive_kit.proofs.widening.each_chosen.Given as goal
 
 abbrev pub invariant-loop-place : goal.invariant-loop-place

@@ -1,5 +1,5 @@
 use Rattle.std.proofs.Common.{◌≡◌, ◌-◌, drop, length}
-use Rattle.derive_kit.specs.Numbering.{general}
+use Rattle.derive_kit.specs.code.Numbering.{general}
 use Rattle.derive_kit.proofs.widening.general.Given as goal
 
 abbrev pub invariant-loop-i : goal.invariant-loop-i

@@ -1,4 +1,4 @@
-use Rattle.derive_kit.specs.Routes.{near_next, near_end}
+use Rattle.derive_kit.proofs.RoutesFacts.{near_next, near_end}
 use Rattle.derive_kit.proofs.widening.near.Goals as goal
 
 pub loop-i-preserved : goal.loop-i-preserved

@@ -1,5 +1,5 @@
 use Rattle.std.proofs.Common.{◌≡◌, ◌-◌}
-use Rattle.derive_kit.specs.Numbering.{near}
+use Rattle.derive_kit.specs.code.Numbering.{near}
 use Rattle.derive_kit.proofs.widening.near.Given as goal
 
 abbrev pub invariant-loop-i : goal.invariant-loop-i

@@ -1,5 +1,5 @@
 use Rattle.std.proofs.Common.{ap, arith, ℕ, ◌≡◌, ◌+◌, ◌-◌, take, drop}
-use Rattle.derive_kit.specs.Built.{ok_map}
+use Rattle.derive_kit.proofs.Built.{ok_map}
 use Rattle.elaborate.proofs.StepAnswers.{cover_alone_is}
 use Rattle.elaborate.proofs.leaves.cover_alone.Goals as goal
 

@@ -1,4 +1,4 @@
-use Rattle.derive_kit.specs.Built.{ok_map}
+use Rattle.derive_kit.proofs.Built.{ok_map}
 use Rattle.elaborate.proofs.StepAnswers.{leaf_covered, leaf_unverified}
 use Rattle.elaborate.proofs.leaves.covered_leaf.Goals as goal
 

@@ -1,5 +1,5 @@
 use Rattle.std.proofs.Common.{ℕ, ◌<◌}
-use Rattle.elaborate.specs.Proofs.{CoversAlone}
+use Rattle.elaborate.specs.code.Proofs.{CoversAlone}
 use Rattle.elaborate.proofs.leaves.first_cover.Given as goal
 
 abbrev pub invariant-loop-at : goal.invariant-loop-at

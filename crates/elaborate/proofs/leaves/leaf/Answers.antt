@@ -1,4 +1,4 @@
-use Rattle.derive_kit.specs.Built.{ok_map}
+use Rattle.derive_kit.proofs.Built.{ok_map}
 use Rattle.elaborate.proofs.StepAnswers.{leaf_found, not_normed}
 use Rattle.elaborate.proofs.leaves.leaf.Goals as goal
 

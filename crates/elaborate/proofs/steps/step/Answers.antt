@@ -1,4 +1,4 @@
-use Rattle.derive_kit.specs.Built.{ok_map}
+use Rattle.derive_kit.proofs.Built.{ok_map}
 use Rattle.elaborate.proofs.StepAnswers.{step_accepted}
 use Rattle.elaborate.proofs.steps.step.Goals as goal
 

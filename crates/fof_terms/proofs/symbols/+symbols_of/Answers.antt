@@ -1,6 +1,7 @@
 use Rattle.std.proofs.Common.{◌==◌, sym, subst, arith}
 use Rattle.std.specs.List.{list_any}
-use Rattle.fof_terms.specs.Occurs.{occurs_in, occurs_in_term, occurs_equations}
+use Rattle.fof_terms.specs.Occurs.{occurs_in, occurs_in_term}
+use Rattle.fof_terms.proofs.OccursFacts.{occurs_equations}
 use Rattle.fof_terms.specs.Standing.{GainsOnly}
 use Rattle.fof_terms.proofs.Gains.{gains_one, gains_both, gains_as, on_ok}
 use Rattle.fof_terms.proofs.symbols.+symbols_of.Goals as goal

@@ -3,7 +3,7 @@ use Rattle.std.specs.Prelude.{Vec}
 use Rattle.std.specs.declared.alloc.Global.{Global}
 use Rattle.std.specs.Str.{bytes_eq}
 use Rattle.std.proofs.lemmas.Slice.Eq.{bytes_eq-Decides}
-use Rattle.include_resolve.specs.NameSet.{has}
+use Rattle.include_resolve.specs.code.NameSet.{has}
 use Rattle.include_resolve.proofs.Sets.{any_insert}
 use Rattle.include_resolve.proofs.name_set.insert.Goals as goal
 

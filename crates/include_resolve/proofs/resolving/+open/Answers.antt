@@ -6,9 +6,10 @@ use Rattle.tptp_base.specs.declared.item.Item.{Item}
 use Rattle.tptp_base.specs.declared.item.Item.TheVariants.{Comment, Formula}
 use Rattle.include_resolve.specs.declared.fault.IncludeFault.{IncludeFault}
 use Rattle.include_resolve.specs.declared.problem.TheConstants.{MAX_DEPTH}
-use Rattle.include_resolve.specs.Path.{path_names, path_names-Inside}
+use Rattle.include_resolve.specs.code.Path.{path_names}
+use Rattle.include_resolve.proofs.PathFacts.{path_names-Inside}
 use Rattle.include_resolve.specs.Resolved.{Opens, Replaces, comment, formula}
-use Rattle.include_resolve.specs.Steps.{list_of, walk_of, Gives}
+use Rattle.include_resolve.specs.code.Steps.{list_of, walk_of, Gives}
 use Rattle.include_resolve.proofs.Causing.{err_case, causes_of_selection}
 use Rattle.include_resolve.proofs.FewFiles.{added_few, text_few}
 use Rattle.include_resolve.proofs.Quotables.{text_quotable, reversed_quotable, rest_quotable}

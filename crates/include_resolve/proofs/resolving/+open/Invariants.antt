@@ -1,8 +1,8 @@
 use Rattle.std.proofs.Common.{◌≡◌, ◌≤◌, ◌+◌, ◌*◌, length, All}
 use Rattle.std.specs.Option.{option_copied}
 use Rattle.include_resolve.specs.declared.problem.TheConstants.{TOTAL_SIZE}
-use Rattle.include_resolve.specs.Path.{path_names}
-use Rattle.include_resolve.specs.Steps.{HasQuotableFile}
+use Rattle.include_resolve.specs.code.Path.{path_names}
+use Rattle.include_resolve.specs.code.Steps.{HasQuotableFile}
 use Rattle.include_resolve.proofs.Steps.{Progress}
 use Rattle.include_resolve.proofs.resolving.+open.Given as goal
 

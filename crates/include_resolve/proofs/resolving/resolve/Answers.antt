@@ -2,7 +2,7 @@ use Rattle.std.proofs.Common.{refl, Result}
 use Rattle.std.specs.Option.{option_copied}
 use Rattle.include_resolve.specs.declared.fault.IncludeFault.{IncludeFault}
 use Rattle.include_resolve.specs.declared.problem.Problem.{Problem}
-use Rattle.include_resolve.specs.Path.{path_names-Outside}
+use Rattle.include_resolve.proofs.PathFacts.{path_names-Outside}
 use Rattle.include_resolve.specs.Resolved.{Answers}
 use Rattle.include_resolve.proofs.Causing.{err_case}
 use Rattle.include_resolve.proofs.Counts.{problem_few}

@@ -1,7 +1,7 @@
 use Rattle.std.proofs.Common.{List, sym, subst, refl, Ok}
 use Rattle.std.specs.declared.option.Option.{Option}
 use Rattle.tptp_base.specs.declared.name.Name.{Name}
-use Rattle.include_resolve.specs.Selecting.{Selects}
+use Rattle.include_resolve.specs.code.Selecting.{Selects}
 use Rattle.include_resolve.proofs.selection.select.Goals as goal
 
 pub returns-in-None : goal.returns-in-None

@@ -1,10 +1,11 @@
 use Rattle.std.proofs.Common.{rules, ◌≡◌, ◌<◌, ◌^◌, sym, Some}
 use Rattle.std.specs.Prelude.{slice_get}
 use Rattle.fof_terms.specs.Lift.{lift_reach}
-use Rattle.fof_terms.specs.MoreReaches.{all_lifted_before}
-use Rattle.fof_terms.specs.Scoped.{member_of}
+use Rattle.fof_terms.proofs.MoreReaches.{all_lifted_before}
+use Rattle.fof_terms.proofs.Scoped.{member_of}
 use Rattle.kernel.specs.declared.context.Hypotheses.TheViews.{the_lemmas}
-use Rattle.kernel.specs.Hypotheses.{hypotheses, hypotheses-Under, hypotheses-Over}
+use Rattle.kernel.specs.code.Hypotheses.{hypotheses}
+use Rattle.kernel.proofs.HypothesesFacts.{hypotheses-Under, hypotheses-Over}
 use Rattle.kernel.proofs.Hyps.{over_some, over_none}
 use Rattle.kernel.proofs.context.+hypothesis.Goals as goal
 

@@ -1,12 +1,15 @@
 use Rattle.std.proofs.Common.{rules, ◌≡◌, ◌∷◌, ◌∙◌, arith, get_or, sym, subst, ap, refl, take, ◌++◌, ◌+◌, [], Some}
 use Rattle.std.proofs.lemmas.List.{take_more, take_all}
 use Rattle.fof_terms.specs.Sorts.{Sorted}
-use Rattle.fof_terms.specs.Scope.{scope_sorts, scope_sorts-Under}
+use Rattle.fof_terms.specs.Scope.{scope_sorts}
+use Rattle.fof_terms.proofs.ScopeFacts.{scope_sorts-Under}
 use Rattle.fof_terms.specs.declared.form.Form.{Not}
 use Rattle.kernel.specs.declared.proof.Proof.TheViews.{the_lemmas}
-use Rattle.kernel.specs.Hypotheses.{hypotheses, hypotheses-Under, hypotheses-Over}
+use Rattle.kernel.specs.code.Hypotheses.{hypotheses}
+use Rattle.kernel.proofs.HypothesesFacts.{hypotheses-Under, hypotheses-Over}
 use Rattle.kernel.specs.Proves.{Proves, all_over}
-use Rattle.kernel.specs.Concludes.{Concludes, ConcludesUnder}
+use Rattle.kernel.specs.Concludes.{Concludes}
+use Rattle.kernel.specs.code.Concludes.{ConcludesUnder}
 use Rattle.kernel.proofs.Concluded.{ok_map, not_true, hyp_shown}
 use Rattle.kernel.proofs.ConcludedOver.{ex_e_some, ex_e_none, inhabit_shown}
 use Rattle.kernel.proofs.ConcludedLists.{reach_under, reach_over, reach_lifts, shown_fits, under_yes, over_no, over_under_no, or_e_some, or_e_none, raa_shown, each_length, each_at, each_end, AllFound, found_none, found_more, found_missing, found_all}

@@ -1,7 +1,7 @@
 use Rattle.std.proofs.Common.{◌↔◌, drop, take}
 use Rattle.fof_terms.specs.Scope.{scope_sorts}
-use Rattle.kernel.specs.Hypotheses.{hypotheses}
-use Rattle.kernel.specs.Concludes.{EachUnder}
+use Rattle.kernel.specs.code.Hypotheses.{hypotheses}
+use Rattle.kernel.specs.code.Concludes.{EachUnder}
 use Rattle.kernel.proofs.ConcludedLists.{AllFound}
 use Rattle.kernel.proofs.deduction.+conclude_in.Given as goal
 

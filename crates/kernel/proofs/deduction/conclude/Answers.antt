@@ -1,6 +1,6 @@
 use Rattle.std.proofs.Common.{rules, ◌≡◌, subst, reverse, Some}
-use Rattle.fof_terms.specs.Scope.{scope_sorts-Outside}
-use Rattle.kernel.specs.Hypotheses.{hypotheses-Outside}
+use Rattle.fof_terms.proofs.ScopeFacts.{scope_sorts-Outside}
+use Rattle.kernel.proofs.HypothesesFacts.{hypotheses-Outside}
 use Rattle.kernel.specs.Concludes.{Concludes}
 use Rattle.kernel.proofs.ConcludedLists.{context_reach}
 use Rattle.kernel.proofs.deduction.conclude.Goals as goal

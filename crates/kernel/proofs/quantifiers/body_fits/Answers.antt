@@ -1,6 +1,6 @@
 use Rattle.std.proofs.Common.{arith, refl}
 use Rattle.kernel.proofs.Concluded.{not_true}
-use Rattle.fof_terms.specs.Scope.{scope_sorts-Under}
+use Rattle.fof_terms.proofs.ScopeFacts.{scope_sorts-Under}
 use Rattle.kernel.proofs.quantifiers.body_fits.Goals as goal
 
 pub well_sorted_in-requires : goal.well_sorted_in-requires

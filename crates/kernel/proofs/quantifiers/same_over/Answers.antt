@@ -1,6 +1,6 @@
 use Rattle.std.proofs.Common.{refl}
 use Rattle.fof_terms.specs.Scope.{scope_sorts}
-use Rattle.fof_terms.specs.Reaches.{lift_fits}
+use Rattle.fof_terms.proofs.Reaches.{lift_fits}
 use Rattle.kernel.proofs.quantifiers.same_over.Goals as goal
 
 pub lift-requires : goal.lift-requires

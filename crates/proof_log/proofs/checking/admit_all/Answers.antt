@@ -1,7 +1,7 @@
 use Rattle.std.proofs.Common.{◌∷◌, ◌++◌, [], take, sym, ◌∙◌, ap, subst}
 use Rattle.std.proofs.lemmas.List.{take_more}
 use Rattle.kernel.specs.Entries.{Admits}
-use Rattle.kernel.specs.EntryLaws.{admits_more}
+use Rattle.kernel.proofs.EntryLaws.{admits_more}
 use Rattle.proof_log.proofs.checking.admit_all.Goals as goal
 
 pub loop-number-preserved : goal.loop-number-preserved

@@ -1,5 +1,5 @@
 use Rattle.std.proofs.Common.{rules, ◌+◌, sym, subst}
-use Rattle.proof_log.specs.ReadWords.{number}
+use Rattle.proof_log.specs.code.ReadWords.{number}
 use Rattle.proof_log.proofs.Loops.{Kept, kept_first, kept_more, kept_fails, kept_all}
 use Rattle.proof_log.proofs.entry_reader.numbers.Goals as goal
 

@@ -1,6 +1,6 @@
 use Rattle.std.proofs.Common.{◌≡◌, ◌-◌, ◌++◌}
-use Rattle.first_fault.specs.Reading.{mapped}
-use Rattle.proof_log.specs.ReadWords.{number, times}
+use Rattle.first_fault.specs.code.Reading.{mapped}
+use Rattle.proof_log.specs.code.ReadWords.{number, times}
 use Rattle.proof_log.proofs.entry_reader.numbers.Given as goal
 
 abbrev pub invariant-loop : goal.invariant-loop

@@ -1,7 +1,7 @@
 use Rattle.std.proofs.Common.{◌≡◌, ◌+◌, ◌-◌, ◌*◌, ◌++◌}
-use Rattle.first_fault.specs.Reading.{mapped}
-use Rattle.proof_log.specs.ReadWords.{times}
-use Rattle.proof_log.specs.ReadTrees as spec
+use Rattle.first_fault.specs.code.Reading.{mapped}
+use Rattle.proof_log.specs.code.ReadWords.{times}
+use Rattle.proof_log.specs.code.ReadTrees as spec
 use Rattle.proof_log.proofs.form_reader.+form.Given as goal
 
 abbrev pub decreases-form : goal.decreases-form

@@ -1,7 +1,8 @@
 use Rattle.proof_log.proofs.Ranges.{if_written, always, list_in_range, more_in_range, term_range-Var, term_range-App}
 use Rattle.proof_log.proofs.Pieces.{two_pieces, three_pieces, list_written, more_written}
-use Rattle.proof_log.specs.LogText.{term_text, term_words}
-use Rattle.proof_log.specs.LogEquations.{term_text-Var, term_text-App}
+use Rattle.proof_log.specs.code.LogText.{term_text}
+use Rattle.proof_log.specs.LogText.{term_words}
+use Rattle.proof_log.proofs.LogEquations.{term_text-Var, term_text-App}
 use Rattle.proof_log.proofs.forms.+put_term.Goals as goal
 
 pub put_term-returns-in_ok-put_word-in-Var-clause-text : goal.put_term-returns-in_ok-put_word-in-Var-clause-text

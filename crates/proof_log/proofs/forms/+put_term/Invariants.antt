@@ -1,6 +1,7 @@
 use Rattle.std.proofs.Common.{◌≡◌, ◌++◌, take}
 use Rattle.std.specs.List.{All, flat_map}
-use Rattle.proof_log.specs.LogText.{term_text, term_words}
+use Rattle.proof_log.specs.code.LogText.{term_text}
+use Rattle.proof_log.specs.LogText.{term_words}
 use Rattle.proof_log.specs.Words.{AreInRange}
 use Rattle.proof_log.proofs.forms.+put_term.Given as goal
 

@@ -1,7 +1,7 @@
 use Rattle.proof_log.proofs.Ranges.{if_written, always, list_in_range, more_in_range, proof_range-Line, proof_range-Hyp, proof_range-AndI, proof_range-AndE, proof_range-OrI, proof_range-OrE, proof_range-ImpI, proof_range-ImpE, proof_range-NotI, proof_range-NotE, proof_range-Raa, proof_range-IffI, proof_range-IffL, proof_range-IffR, proof_range-AllI, proof_range-AllE, proof_range-ExI, proof_range-ExE, proof_range-Refl, proof_range-Subst, proof_range-Inhabit}
 use Rattle.proof_log.proofs.Pieces.{two_pieces, three_pieces, four_pieces, five_pieces, list_written, more_written}
 use Rattle.proof_log.specs.LogText.{proof_text, proof_words}
-use Rattle.proof_log.specs.LogEquations.{proof_text-Line, proof_text-Hyp, proof_text-AndI, proof_text-AndE, proof_text-OrI, proof_text-OrE, proof_text-ImpI, proof_text-ImpE, proof_text-NotI, proof_text-NotE, proof_text-Raa, proof_text-IffI, proof_text-IffL, proof_text-IffR, proof_text-AllI, proof_text-AllE, proof_text-ExI, proof_text-ExE, proof_text-Refl, proof_text-Subst, proof_text-Inhabit}
+use Rattle.proof_log.proofs.LogEquations.{proof_text-Line, proof_text-Hyp, proof_text-AndI, proof_text-AndE, proof_text-OrI, proof_text-OrE, proof_text-ImpI, proof_text-ImpE, proof_text-NotI, proof_text-NotE, proof_text-Raa, proof_text-IffI, proof_text-IffL, proof_text-IffR, proof_text-AllI, proof_text-AllE, proof_text-ExI, proof_text-ExE, proof_text-Refl, proof_text-Subst, proof_text-Inhabit}
 use Rattle.proof_log.proofs.proofs.+put_proof.Goals as goal
 
 pub put_proof-returns-in_ok-put_word-in-Line-clause-text : goal.put_proof-returns-in_ok-put_word-in-Line-clause-text

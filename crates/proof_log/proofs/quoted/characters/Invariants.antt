@@ -1,6 +1,6 @@
 use Rattle.std.proofs.Common.{◌≡◌, ◌++◌, false, length}
-use Rattle.first_fault.specs.Reading.{mapped}
-use Rattle.proof_log.specs.ReadEntries as spec
+use Rattle.first_fault.specs.code.Reading.{mapped}
+use Rattle.proof_log.specs.code.ReadEntries as spec
 use Rattle.proof_log.proofs.quoted.characters.Given as goal
 
 abbrev pub invariant-characters : goal.invariant-characters

@@ -1,8 +1,9 @@
 use Rattle.std.proofs.Common.{◌≡◌, ◌-◌, ◌⊎◌, length, sym, ◌∙◌, ap, subst}
 use Rattle.proof_log.specs.declared.reader.LogFault.{LogFault}
 use Rattle.proof_log.specs.declared.reader.LogFault.TheVariants as fault
-use Rattle.proof_log.specs.Answers.{fault_of, FailsEntries, Tells}
-use Rattle.proof_log.specs.ReadEntries.{log}
+use Rattle.proof_log.specs.code.Answers.{fault_of, FailsEntries}
+use Rattle.proof_log.specs.Answers.{Tells}
+use Rattle.proof_log.specs.code.ReadEntries.{log}
 use Rattle.proof_log.proofs.LogAnswers.{log_read, log_tells, only_read, only_memory, only_text, only_deep, text_not_read, deep_not_read}
 use Rattle.proof_log.proofs.reader.read_log.Goals as goal
 use Rattle.proof_log.proofs.reader.read_log.Goals.{After-fault_of}

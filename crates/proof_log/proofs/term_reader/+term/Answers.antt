@@ -1,5 +1,5 @@
 use Rattle.std.proofs.Common.{arith, rules, ◌+◌, ◌++◌, ◌∷◌, [], sym, ◌∙◌, ap, subst}
-use Rattle.proof_log.specs.ReadTrees as spec
+use Rattle.proof_log.specs.code.ReadTrees as spec
 use Rattle.proof_log.proofs.Loops.{Kept, kept_first, kept_more, kept_fails, kept_all}
 use Rattle.proof_log.proofs.Rooms.{term_room}
 use Rattle.proof_log.proofs.term_reader.+term.Goals as goal

@@ -1,5 +1,5 @@
 use Rattle.std.proofs.Common.{◌≡◌, drop}
-use Rattle.proof_log.specs.ReadWords as spec
+use Rattle.proof_log.specs.code.ReadWords as spec
 use Rattle.proof_log.proofs.words.find.Given as goal
 
 abbrev pub invariant-loop-name : goal.invariant-loop-name

@@ -1,5 +1,5 @@
 use Rattle.std.proofs.Common.{◌≡◌, length}
-use Rattle.proof_log.specs.ReadWords as spec
+use Rattle.proof_log.specs.code.ReadWords as spec
 use Rattle.proof_log.proofs.words.more_digits.Given as goal
 
 abbrev pub invariant-digits : goal.invariant-digits

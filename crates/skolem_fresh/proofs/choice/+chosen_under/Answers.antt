@@ -1,5 +1,6 @@
 use Rattle.std.proofs.Common.{rules}
-use Rattle.fof_terms.specs.Scope.{scope_sorts, scope_sorts-Under}
+use Rattle.fof_terms.specs.Scope.{scope_sorts}
+use Rattle.fof_terms.proofs.ScopeFacts.{scope_sorts-Under}
 use Rattle.fof_terms.specs.declared.form.Form.TheViews.{the_lemmas}
 use Rattle.skolem_fresh.proofs.Opened.{on_ok}
 use Rattle.skolem_fresh.proofs.Chosen.{code_within, code_all, code_imp, other_kind}

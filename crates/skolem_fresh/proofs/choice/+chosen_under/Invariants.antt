@@ -3,7 +3,8 @@ use Rattle.fof_terms.specs.Scope.{scope_sorts}
 use Rattle.fof_terms.specs.Sorts.{SortedTo}
 use Rattle.fof_terms.specs.declared.form.Form.{Imp}
 use Rattle.skolem_fresh.specs.ChoiceRule.{IsChoiceStep}
-use Rattle.skolem_fresh.specs.Choosing.{IsChosen, IsChosenUnder, IsWithin}
+use Rattle.skolem_fresh.specs.code.Choosing.{IsChosen, IsChosenUnder}
+use Rattle.skolem_fresh.specs.Choosing.{IsWithin}
 use Rattle.skolem_fresh.specs.Justified.{ShowsChoice}
 use Rattle.skolem_fresh.proofs.choice.+chosen_under.Given as goal
 

@@ -1,5 +1,7 @@
-use Rattle.fof_terms.specs.Scope.{scope_sorts, scope_sorts-Outside}
-use Rattle.skolem_fresh.specs.Choosing.{IsWithin, IsChosenUnder}
+use Rattle.fof_terms.specs.Scope.{scope_sorts}
+use Rattle.fof_terms.proofs.ScopeFacts.{scope_sorts-Outside}
+use Rattle.skolem_fresh.specs.Choosing.{IsWithin}
+use Rattle.skolem_fresh.specs.code.Choosing.{IsChosenUnder}
 use Rattle.skolem_fresh.proofs.Chosen.{within_start, start_within, start_none, start_some}
 use Rattle.skolem_fresh.proofs.choice.choice_step.Goals as goal
 

@@ -1,6 +1,6 @@
 use Rattle.std.proofs.Common.{arith, rules, sym, ◌∙◌}
 use Rattle.fof_terms.specs.Scope.{scope_sorts}
-use Rattle.skolem_fresh.specs.Choosing.{MayChooseIfFit}
+use Rattle.skolem_fresh.specs.code.Choosing.{MayChooseIfFit}
 use Rattle.skolem_fresh.proofs.Chosen.{imp_room, within_left, too_few, none_chosen, not_chosen, is_chosen, is_true, not_true, vocabulary_within}
 use Rattle.skolem_fresh.proofs.choice.chosen.Goals as goal
 

@@ -1,6 +1,6 @@
 use Rattle.std.proofs.Common.{take}
 use Rattle.std.specs.List.{AllByRecursion}
-use Rattle.skolem_fresh.specs.Choosing.{IsFree}
+use Rattle.skolem_fresh.specs.code.Choosing.{IsFree}
 use Rattle.skolem_fresh.proofs.choosing.are_free.Given as goal
 
 abbrev pub invariant-loop-function : goal.invariant-loop-function

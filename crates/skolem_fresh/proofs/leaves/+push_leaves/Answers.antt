@@ -1,5 +1,6 @@
 use Rattle.std.proofs.Common.{rules, arith, ◌^◌, append_assoc, sym, ap, ◌∙◌}
-use Rattle.fof_terms.specs.Sorts.{binder_depth, binder_depth_equations}
+use Rattle.fof_terms.specs.Sorts.{binder_depth}
+use Rattle.fof_terms.proofs.SortsFacts.{binder_depth_equations}
 use Rattle.fof_terms.specs.declared.form.Form.TheViews.{the_lemmas}
 use Rattle.skolem_fresh.proofs.Below.{below_sum}
 use Rattle.skolem_fresh.proofs.Pushed.{two_leaves, imp_leaves, iff_leaves}

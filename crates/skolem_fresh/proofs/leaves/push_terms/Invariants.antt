@@ -1,5 +1,5 @@
 use Rattle.std.proofs.Common.{◌≡◌, ◌++◌, take, map}
-use Rattle.skolem_fresh.specs.Leaves.{leaf}
+use Rattle.skolem_fresh.specs.code.Leaves.{leaf}
 use Rattle.skolem_fresh.proofs.leaves.push_terms.Given as goal
 
 abbrev pub invariant-loop-term : goal.invariant-loop-term

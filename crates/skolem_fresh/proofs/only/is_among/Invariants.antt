@@ -1,5 +1,5 @@
 use Rattle.std.proofs.Common.{◌≡◌, take, false}
-use Rattle.skolem_fresh.specs.Only.{is_among}
+use Rattle.skolem_fresh.specs.code.Only.{is_among}
 use Rattle.skolem_fresh.proofs.only.is_among.Given as goal
 
 abbrev pub invariant-loop-other : goal.invariant-loop-other

@@ -1,5 +1,5 @@
 use Rattle.std.proofs.Common.{◌≡◌, drop, map}
-use Rattle.skolem_fresh.specs.Reading.{found_in, found_term}
+use Rattle.skolem_fresh.specs.code.Reading.{found_in, found_term}
 use Rattle.skolem_fresh.proofs.reading.+term_at.Given as goal
 
 abbrev pub invariant-term_in-loop-i : goal.invariant-term_in-loop-i

@@ -1,5 +1,5 @@
 use Rattle.std.proofs.Common.{ap, ◌∙◌}
-use Rattle.skolem_fresh.specs.Reading.{read}
+use Rattle.skolem_fresh.specs.code.Reading.{read}
 use Rattle.skolem_fresh.proofs.Opened.{on_ok}
 use Rattle.skolem_fresh.proofs.Paired.{outward_none}
 use Rattle.skolem_fresh.proofs.reading.read.Goals as goal

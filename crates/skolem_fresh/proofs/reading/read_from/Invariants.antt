@@ -1,5 +1,5 @@
 use Rattle.std.proofs.Common.{◌≡◌, drop}
-use Rattle.skolem_fresh.specs.Reading.{read_from}
+use Rattle.skolem_fresh.specs.code.Reading.{read_from}
 use Rattle.skolem_fresh.proofs.reading.read_from.Given as goal
 
 abbrev pub invariant-loop-i : goal.invariant-loop-i

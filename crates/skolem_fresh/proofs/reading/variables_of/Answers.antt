@@ -1,5 +1,5 @@
 use Rattle.std.proofs.Common.{sym, ◌∙◌}
-use Rattle.skolem_fresh.specs.Reading.{variable_of}
+use Rattle.skolem_fresh.specs.code.Reading.{variable_of}
 use Rattle.skolem_fresh.proofs.LoopsRead.{more_there, not_all_there}
 use Rattle.skolem_fresh.proofs.reading.variables_of.Goals as goal
 

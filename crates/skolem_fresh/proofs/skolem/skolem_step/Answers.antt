@@ -1,6 +1,6 @@
 use Rattle.std.proofs.Common.{refl, sym, subst}
 use Rattle.clause_form.specs.declared.path.Parent.{Parent}
-use Rattle.skolem_fresh.specs.Skolemizing.{IsGiven}
+use Rattle.skolem_fresh.specs.code.Skolemizing.{IsGiven}
 use Rattle.skolem_fresh.proofs.SkolemSteps.{has_norm, line_depth, one_more_not, not_at, shown_at, none_at_all}
 use Rattle.skolem_fresh.proofs.skolem.skolem_step.Goals as goal
 

@@ -1,6 +1,7 @@
 use Rattle.std.proofs.Common.{arith, ◌≡◌, ◌≤◌, ◌+◌, ◌-◌, length, map, take, drop, sum, true, false}
 use Rattle.std.proofs.lemmas.List.{take_rest}
-use Rattle.fof_terms.specs.Scope.{scope_sorts, scope_sorts-Under}
+use Rattle.fof_terms.specs.Scope.{scope_sorts}
+use Rattle.fof_terms.proofs.ScopeFacts.{scope_sorts-Under}
 use Rattle.clause_form.specs.Sizes.{norm_size_of}
 use Rattle.skolem_fresh.specs.Choosing.{IsWithin}
 use Rattle.skolem_fresh.proofs.Chosen.{code_within}

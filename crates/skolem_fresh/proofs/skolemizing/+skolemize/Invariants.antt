@@ -1,7 +1,7 @@
 use Rattle.std.proofs.Common.{◌≤◌, ◌+◌, ◌*◌, length, take, drop, map, sum}
 use Rattle.fof_terms.specs.Scope.{scope_sorts}
 use Rattle.clause_form.specs.Sizes.{norm_size_of}
-use Rattle.skolem_fresh.specs.Skolemizing.{AreWalkedTo}
+use Rattle.skolem_fresh.specs.code.Skolemizing.{AreWalkedTo}
 use Rattle.skolem_fresh.proofs.skolemizing.+skolemize.Given as goal
 
 abbrev pub decreases-skolemize : goal.decreases-skolemize

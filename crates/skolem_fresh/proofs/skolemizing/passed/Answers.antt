@@ -1,6 +1,6 @@
 use Rattle.std.proofs.Common.{ap, ◌∙◌, ◌++◌, List}
 use Rattle.skolem_fresh.specs.declared.leaves.Leaf.{Leaf}
-use Rattle.skolem_fresh.specs.Leaves.{leaves_of}
+use Rattle.skolem_fresh.specs.code.Leaves.{leaves_of}
 use Rattle.skolem_fresh.proofs.WalkCode.{few_terms, terms_passed}
 use Rattle.skolem_fresh.proofs.skolemizing.passed.Goals as goal
 

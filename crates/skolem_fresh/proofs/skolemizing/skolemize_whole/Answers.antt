@@ -1,5 +1,5 @@
 use Rattle.std.proofs.Common.{sym, ap, length, drop}
-use Rattle.fof_terms.specs.Scope.{scope_sorts-Outside}
+use Rattle.fof_terms.proofs.ScopeFacts.{scope_sorts-Outside}
 use Rattle.skolem_fresh.proofs.Opened.{on_ok}
 use Rattle.skolem_fresh.proofs.WalkCode.{whole_within, whole_walked}
 use Rattle.skolem_fresh.proofs.skolemizing.skolemize_whole.Goals as goal

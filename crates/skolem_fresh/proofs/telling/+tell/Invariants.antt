@@ -11,7 +11,7 @@ use Rattle.derive_kit.specs.Instances.{IsInstance}
 use Rattle.kernel.specs.Proves.{Proves}
 use Rattle.kernel.specs.Statements.{Statements}
 use Rattle.skolem_fresh.specs.Uses.{value_of as value_in}
-use Rattle.skolem_fresh.specs.Told.{IsOpenable, IsLed, IsTellable, IsShown}
+use Rattle.skolem_fresh.specs.code.Told.{IsOpenable, IsLed, IsTellable, IsShown}
 use Rattle.skolem_fresh.proofs.telling.+tell.Given as goal
 
 abbrev pub decreases-tell : goal.decreases-tell

@@ -1,5 +1,5 @@
 use Rattle.std.proofs.Common.{◌≡◌, take, drop}
-use Rattle.skolem_proofs.specs.Witnessed.{cases}
+use Rattle.skolem_proofs.specs.code.Witnessed.{cases}
 use Rattle.skolem_proofs.proofs.arms.cases.Given as goal
 
 abbrev pub invariant-loop-number : goal.invariant-loop-number

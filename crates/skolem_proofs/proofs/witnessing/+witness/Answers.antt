@@ -6,7 +6,7 @@ use Rattle.kernel.specs.declared.proof.Proof.{Hyp, OrE, ImpI}
 use Rattle.skolem_fresh.specs.Renamed.{renamed}
 use Rattle.skolem_fresh.specs.Uses.{value_of}
 use Rattle.skolem_fresh.proofs.WalkCode.{node_size, all_size, one_size, instance_size}
-use Rattle.skolem_proofs.specs.Witnessed.{cases, StepShows}
+use Rattle.skolem_proofs.specs.code.Witnessed.{cases, StepShows}
 use Rattle.skolem_proofs.proofs.Walked.{ok_both, no_implication, no_equivalence, atom_went, equation_went, negation_went, members_may, conjunction_went, disjunction_went, under_may, all_went, some_size, some_may, there_is, its_reach, its_room, next_may, some_went}
 use Rattle.skolem_proofs.proofs.Looped.{few_there, few_results, starts, one_goes, one_may, goes_on, numbered_on, ends}
 use Rattle.skolem_proofs.proofs.witnessing.+witness.Goals as goal

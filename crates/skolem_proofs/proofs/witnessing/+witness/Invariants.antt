@@ -1,6 +1,6 @@
 use Rattle.std.proofs.Common.{◌+◌, ◌*◌, take, drop, map, sum}
 use Rattle.clause_form.specs.Sizes.{norm_size_of}
-use Rattle.skolem_proofs.specs.Witnessing.{AreGoneSoFar}
+use Rattle.skolem_proofs.specs.code.Witnessing.{AreGoneSoFar}
 use Rattle.skolem_proofs.proofs.witnessing.+witness.Given as goal
 
 abbrev pub decreases-witness : goal.decreases-witness

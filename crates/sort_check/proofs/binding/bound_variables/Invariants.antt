@@ -1,6 +1,7 @@
 use Rattle.std.proofs.Common.{◌≡◌, ◌+◌, length}
 use Rattle.sort_check.proofs.Loops.{Turns}
-use Rattle.sort_check.specs.Denotation.{bound_variable, state}
+use Rattle.sort_check.specs.Denotation.{bound_variable}
+use Rattle.sort_check.specs.code.Denotation.{state}
 use Rattle.sort_check.proofs.binding.bound_variables.Given as goal
 
 abbrev pub invariant-loop-variable : goal.invariant-loop-variable

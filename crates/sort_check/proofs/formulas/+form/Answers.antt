@@ -1,5 +1,5 @@
 use Rattle.std.proofs.Common.{rules}
-use Rattle.sort_check.specs.Denotation.{setting, state}
+use Rattle.sort_check.specs.code.Denotation.{setting, state}
 use Rattle.sort_check.proofs.Parts.{and_ok, and_fails, or_ok, or_fails, open_room}
 use Rattle.sort_check.proofs.formulas.+form.Goals as goal
 

@@ -1,6 +1,7 @@
 use Rattle.std.proofs.Common.{◌≡◌}
 use Rattle.sort_check.proofs.Loops.{Turns}
-use Rattle.sort_check.specs.Denotation.{denoted_form, setting, state}
+use Rattle.sort_check.specs.Denotation.{denoted_form}
+use Rattle.sort_check.specs.code.Denotation.{setting, state}
 use Rattle.sort_check.specs.Sorting.{Extends}
 use Rattle.sort_check.proofs.formulas.+form.Given as goal
 

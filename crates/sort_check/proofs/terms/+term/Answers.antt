@@ -1,5 +1,5 @@
 use Rattle.std.proofs.Common.{rules}
-use Rattle.sort_check.specs.Denotation.{setting}
+use Rattle.sort_check.specs.code.Denotation.{setting}
 use Rattle.sort_check.proofs.Parts.{app_ok, app_fails}
 use Rattle.sort_check.proofs.TermSorts.{grows_on}
 use Rattle.sort_check.proofs.terms.+term.Goals as goal

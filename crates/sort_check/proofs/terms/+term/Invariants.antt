@@ -1,5 +1,6 @@
 use Rattle.sort_check.proofs.Loops.{Turns}
-use Rattle.sort_check.specs.Denotation.{argument, denoted_term, setting}
+use Rattle.sort_check.specs.Denotation.{argument, denoted_term}
+use Rattle.sort_check.specs.code.Denotation.{setting}
 use Rattle.sort_check.specs.Sorting.{Extends}
 use Rattle.sort_check.proofs.terms.+term.Given as goal
 

@@ -1,7 +1,7 @@
 use Rattle.std.proofs.Common.{◌≡◌, refl, ap, sym, subst, ◌+◌, ◌-◌, length, drop, arith}
 use Rattle.fof_terms.specs.Scope.{scope_sorts}
 use Rattle.split_defs.specs.declared.stages.Stage.{Stage}
-use Rattle.split_defs.specs.SplitProof.{goal_of, variables_in}
+use Rattle.split_defs.specs.code.SplitProof.{goal_of, variables_in}
 use Rattle.split_defs.proofs.ArmLoops.{arms_end, arms_here, goal_here, variables_here}
 use Rattle.split_defs.proofs.arms.all_arms.Goals as goal
 

@@ -1,7 +1,7 @@
 use Rattle.std.proofs.Common.{◌≡◌, ◌≤◌, ◌++◌, List, drop}
 use Rattle.fof_terms.specs.Scope.{scope_sorts}
 use Rattle.kernel.specs.declared.proof.Proof.{Proof}
-use Rattle.split_defs.specs.SplitProof.{AllArms, AreGoals, variables_in}
+use Rattle.split_defs.specs.code.SplitProof.{AllArms, AreGoals, variables_in}
 use Rattle.split_defs.proofs.arms.all_arms.Given as goal
 
 abbrev pub invariant-loop-i : goal.invariant-loop-i

@@ -1,5 +1,5 @@
 use Rattle.std.proofs.Common.{arith}
-use Rattle.derive_kit.specs.Built.{ok_map}
+use Rattle.derive_kit.proofs.Built.{ok_map}
 use Rattle.split_defs.proofs.DefinitionEnds.{joins_at, joins_shallow, joined_found, equation_found, nothing_found}
 use Rattle.split_defs.proofs.definition.definition_step.Goals as goal
 

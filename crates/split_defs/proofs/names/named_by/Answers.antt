@@ -1,5 +1,5 @@
 use Rattle.std.proofs.Common.{refl}
-use Rattle.derive_kit.specs.Built.{ok_map}
+use Rattle.derive_kit.proofs.Built.{ok_map}
 use Rattle.clause_rules.proofs.Firsts.{untrue}
 use Rattle.split_defs.proofs.NameTests.{IsNameOf, named_found, not_named, no_equivalence}
 use Rattle.split_defs.proofs.names.named_by.Goals as goal

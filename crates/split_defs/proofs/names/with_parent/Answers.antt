@@ -1,8 +1,9 @@
 use Rattle.std.proofs.Common.{subst, sym}
 use Rattle.clause_form.specs.declared.path.Parent.{Parent}
-use Rattle.derive_kit.specs.Built.{ok_map}
+use Rattle.derive_kit.proofs.Built.{ok_map}
 use Rattle.clause_rules.proofs.Firsts.{there_at}
-use Rattle.split_defs.specs.SplitSearch.{IsNamed, forms_of}
+use Rattle.split_defs.specs.code.SplitSearch.{IsNamed}
+use Rattle.split_defs.specs.SplitSearch.{forms_of}
 use Rattle.split_defs.proofs.NamedParents.{form_at, parent_named, parent_unnamed}
 use Rattle.split_defs.proofs.names.with_parent.Goals as goal
 

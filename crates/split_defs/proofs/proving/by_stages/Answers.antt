@@ -1,11 +1,11 @@
 use Rattle.std.proofs.Common.{ap, ◌∙◌, arith, List, [], length, refl}
 use Rattle.fof_terms.specs.Scope.{scope_sorts}
 use Rattle.fof_terms.specs.declared.sorting.Scope.{Outside}
-use Rattle.derive_kit.specs.Built.{ok_map}
+use Rattle.derive_kit.proofs.Built.{ok_map}
 use Rattle.clause_proofs.proofs.CoverLines.{few_here}
 use Rattle.clause_proofs.proofs.Joints.{part_is}
 use Rattle.split_defs.specs.declared.stages.Stage.{Stage}
-use Rattle.split_defs.specs.SplitProof.{stage_clauses}
+use Rattle.split_defs.specs.code.SplitProof.{stage_clauses}
 use Rattle.split_defs.specs.SplitRule.{together}
 use Rattle.split_defs.proofs.Enclosing.{all_reached, line_shown, more_reached, premise_covered, premise_sorted, stage_goals, stages_fit, whole_goal}
 use Rattle.split_defs.proofs.proving.by_stages.Goals as goal

@@ -1,5 +1,5 @@
 use Rattle.std.proofs.Common.{◌≡◌, take}
-use Rattle.split_defs.specs.SplitProof.{stage_clauses}
+use Rattle.split_defs.specs.code.SplitProof.{stage_clauses}
 use Rattle.split_defs.proofs.proving.clauses_of.Given as goal
 
 abbrev pub invariant-loop-stage : goal.invariant-loop-stage

@@ -1,6 +1,6 @@
 use Rattle.std.proofs.Common.{rules}
 use Rattle.fof_terms.specs.Scope.{scope_sorts}
-use Rattle.derive_kit.specs.Built.{ok_map}
+use Rattle.derive_kit.proofs.Built.{ok_map}
 use Rattle.split_defs.proofs.Enclosing.{contradicted_shown}
 use Rattle.split_defs.proofs.proving.contradicted.Goals as goal
 

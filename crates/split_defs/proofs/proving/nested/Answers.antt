@@ -1,6 +1,6 @@
 use Rattle.std.proofs.Common.{ap, sym, ◌∙◌, List}
 use Rattle.split_defs.specs.declared.stages.Stage.{Stage}
-use Rattle.split_defs.specs.SplitProof.{nest_tree}
+use Rattle.split_defs.specs.code.SplitProof.{nest_tree}
 use Rattle.split_defs.proofs.ArmLoops.{nest_last}
 use Rattle.split_defs.proofs.proving.nested.Goals as goal
 

@@ -1,5 +1,5 @@
 use Rattle.std.proofs.Common.{◌≡◌, length}
-use Rattle.split_defs.specs.SplitProof.{nest_tree}
+use Rattle.split_defs.specs.code.SplitProof.{nest_tree}
 use Rattle.split_defs.proofs.proving.nested.Given as goal
 
 abbrev pub invariant-loop-stage : goal.invariant-loop-stage

@@ -1,7 +1,7 @@
 use Rattle.std.proofs.Common.{sym, subst, List}
 use Rattle.kernel.specs.declared.entry.Entry.{Entry}
 use Rattle.derive_kit.specs.Derived.{IsDerivedFrom, numbers_of}
-use Rattle.derive_kit.specs.Built.{ok_map}
+use Rattle.derive_kit.proofs.Built.{ok_map}
 use Rattle.split_defs.proofs.Unfolding.{derived}
 use Rattle.split_defs.proofs.proving.split_entries.Goals as goal
 

@@ -1,7 +1,9 @@
 use Rattle.std.proofs.Common.{rules, arith, ◌+◌, ◌^◌, length}
-use Rattle.fof_terms.specs.Sorts.{binder_depth, binder_depth_equations}
+use Rattle.fof_terms.specs.Sorts.{binder_depth}
+use Rattle.fof_terms.proofs.SortsFacts.{binder_depth_equations}
 use Rattle.fof_terms.specs.declared.form.Form.TheViews.{the_lemmas}
-use Rattle.split_defs.specs.Renaming.{speaks, speaks_equations}
+use Rattle.split_defs.specs.code.Renaming.{speaks}
+use Rattle.split_defs.proofs.RenamingFacts.{speaks_equations}
 use Rattle.split_defs.proofs.Lists.{below_sum, each_passes, left_passes, right_passes}
 use Rattle.split_defs.proofs.renaming.+rename.Goals as goal
 

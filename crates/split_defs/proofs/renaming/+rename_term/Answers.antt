@@ -1,6 +1,7 @@
 use Rattle.std.proofs.Common.{rules, arith}
 use Rattle.fof_terms.specs.declared.term.Term.TheViews.{the_lemmas}
-use Rattle.split_defs.specs.Renaming.{speaks_in_term, speaks_equations}
+use Rattle.split_defs.specs.code.Renaming.{speaks_in_term}
+use Rattle.split_defs.proofs.RenamingFacts.{speaks_equations}
 use Rattle.split_defs.proofs.Lists.{each_passes}
 use Rattle.split_defs.proofs.renaming.+rename_term.Goals as goal
 

@@ -1,5 +1,6 @@
 use Rattle.std.proofs.Common.{rules, arith, ◌^◌}
-use Rattle.fof_terms.specs.Sorts.{binder_depth, binder_depth_equations}
+use Rattle.fof_terms.specs.Sorts.{binder_depth}
+use Rattle.fof_terms.proofs.SortsFacts.{binder_depth_equations}
 use Rattle.fof_terms.specs.declared.form.Form.TheViews.{the_lemmas}
 use Rattle.split_defs.proofs.Lists.{below_sum}
 use Rattle.split_defs.proofs.speaking.+form_speaks.Goals as goal

@@ -1,6 +1,6 @@
 use Rattle.std.proofs.Common.{◌≡◌, take, true}
 use Rattle.std.specs.List.{list_all}
-use Rattle.split_defs.specs.Renaming.{speaks_in_term}
+use Rattle.split_defs.specs.code.Renaming.{speaks_in_term}
 use Rattle.split_defs.proofs.speaking.+term_speaks.Given as goal
 
 abbrev pub invariant-terms_speak-loop-term : goal.invariant-terms_speak-loop-term

@@ -1,5 +1,5 @@
 use Rattle.std.proofs.Common.{sym, ◌∙◌}
-use Rattle.derive_kit.specs.Built.{ok_map}
+use Rattle.derive_kit.proofs.Built.{ok_map}
 use Rattle.clause_rules.proofs.ResolutionLoops.{form_fits}
 use Rattle.split_defs.proofs.split.split_step.Goals as goal
 

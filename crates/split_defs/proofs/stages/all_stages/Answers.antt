@@ -1,6 +1,6 @@
 use Rattle.std.proofs.Common.{ap, sym, subst, ◌∷◌, [], get_or, refl, length, length-append, arith, List}
 use Rattle.split_defs.specs.declared.stages.Stage.{Stage}
-use Rattle.split_defs.specs.SplitProof.{AreStages, stage_clauses}
+use Rattle.split_defs.specs.code.SplitProof.{AreStages, stage_clauses}
 use Rattle.split_defs.proofs.Contraries.{clauses_more, stages_more}
 use Rattle.split_defs.proofs.Unfolding.{parent_named, stages_end}
 use Rattle.split_defs.proofs.stages.all_stages.Goals as goal

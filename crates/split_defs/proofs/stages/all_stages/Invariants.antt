@@ -1,7 +1,7 @@
 use Rattle.std.proofs.Common.{◌≡◌, ◌+◌, ◌<◌, ◌++◌, ◌∷◌, List, length, drop}
 use Rattle.std.specs.Prelude.{◌^◌}
 use Rattle.clause_form.specs.declared.clause.Clause.{Clause}
-use Rattle.split_defs.specs.SplitProof.{AreNamed, AreStages, stage_clauses}
+use Rattle.split_defs.specs.code.SplitProof.{AreNamed, AreStages, stage_clauses}
 use Rattle.split_defs.specs.SplitSearch.{forms_of}
 use Rattle.split_defs.proofs.stages.all_stages.Given as goal
 

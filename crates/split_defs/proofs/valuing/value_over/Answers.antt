@@ -1,4 +1,4 @@
-use Rattle.derive_kit.specs.Built.{ok_map}
+use Rattle.derive_kit.proofs.Built.{ok_map}
 use Rattle.split_defs.proofs.Headings.{value_speaks_over, value_same, have_names}
 use Rattle.split_defs.proofs.valuing.value_over.Goals as goal
 

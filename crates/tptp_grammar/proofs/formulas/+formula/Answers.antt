@@ -1,10 +1,10 @@
 use Rattle.std.proofs.Common.{rules, arith, ◌-◌, sym, ◌∙◌, ap}
-use Rattle.first_fault.specs.Reading.{tail, closed}
+use Rattle.first_fault.specs.code.Reading.{tail, closed}
 use Rattle.tptp_grammar.proofs.Nests.{reads_again, none_deeper, some_deeper, open_none, open_some, bracket_some}
 use Rattle.first_fault.proofs.Loops.{members, starts, turn, turn_smaller}
 use Rattle.tptp_lexer.specs.declared.token.Mark.TheVariants as m
-use Rattle.tptp_grammar.specs.ReadTerms.{is_mark}
-use Rattle.tptp_grammar.specs.ReadFormulas as spec
+use Rattle.tptp_grammar.specs.code.ReadTerms.{is_mark}
+use Rattle.tptp_grammar.specs.code.ReadFormulas as spec
 use Rattle.tptp_grammar.proofs.Loops.{unit_steps, first_fails, later_fails}
 use Rattle.tptp_grammar.proofs.formulas.+formula.Goals as goal
 

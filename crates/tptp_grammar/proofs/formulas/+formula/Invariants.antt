@@ -1,8 +1,8 @@
 use Rattle.std.proofs.Common.{◌≡◌, ◌+◌, ◌*◌, length}
-use Rattle.first_fault.specs.Reading.{separated}
+use Rattle.first_fault.specs.code.Reading.{separated}
 use Rattle.first_fault.proofs.Loops.{members}
-use Rattle.tptp_grammar.specs.ReadTerms.{is_mark}
-use Rattle.tptp_grammar.specs.ReadFormulas as spec
+use Rattle.tptp_grammar.specs.code.ReadTerms.{is_mark}
+use Rattle.tptp_grammar.specs.code.ReadFormulas as spec
 use Rattle.tptp_grammar.proofs.formulas.+formula.Given as goal
 
 abbrev pub decreases-formula : goal.decreases-formula

@@ -1,8 +1,8 @@
 use Rattle.std.proofs.Common.{rules, sym, ◌∙◌, ap}
 use Rattle.first_fault.proofs.Loops.{members, starts, turn, turn_smaller}
 use Rattle.tptp_lexer.specs.declared.token.Mark.TheVariants as m
-use Rattle.tptp_grammar.specs.ReadTerms.{is_mark}
-use Rattle.tptp_grammar.specs.ReadItems as spec
+use Rattle.tptp_grammar.specs.code.ReadTerms.{is_mark}
+use Rattle.tptp_grammar.specs.code.ReadItems as spec
 use Rattle.tptp_grammar.proofs.Loops.{name_steps, first_fails, later_fails}
 use Rattle.tptp_grammar.proofs.items.names.Goals as goal
 

@@ -1,6 +1,6 @@
 use Rattle.std.proofs.Common.{◌≡◌, drop, length}
 use Rattle.tptp_grammar.specs.Solid.{solid}
-use Rattle.tptp_grammar.specs.Answers as answers
+use Rattle.tptp_grammar.specs.code.Answers as answers
 use Rattle.tptp_grammar.proofs.reading.entry_at.Given as goal
 
 abbrev pub invariant-tokens : goal.invariant-tokens

@@ -1,7 +1,8 @@
 use Rattle.std.proofs.Common.{sym, ◌∙◌, ap, subst}
 use Rattle.tptp_grammar.specs.Faults.{max_nesting}
-use Rattle.tptp_grammar.specs.ReadFile.{file}
+use Rattle.tptp_grammar.specs.code.ReadFile.{file}
 use Rattle.tptp_grammar.specs.Answers as answers
+use Rattle.tptp_grammar.specs.code.Answers as answers_code
 use Rattle.tptp_grammar.proofs.Whole.{ok_says, only_found, deep_not_found, one_list, fault_says, only_memory, deep_fault}
 use Rattle.tptp_grammar.proofs.reading.parse.Goals as goal
 
@@ -19,20 +20,20 @@ returns-in-Ok-clause-one c = λ first second s t. one_list c.args.tokens.now.ite
 
 pub returns-in-Err-clause-answers : goal.returns-in-Err-clause-answers
 returns-in-Err-clause-answers c =
-    let stopped = subst (λ l. answers.Stopped (file max_nesting l) c.in-Err.refusal.stop c.in-Err.refusal.left) c.as_slice-all.ensures c.in-Err.ensures.err in
-    let is = c.fault_of.ensures ∙ ap (λ o. answers.fault_of c.in-Err.refusal.stop o c.args.tokens.now.end) (c.entry_at.ensures ∙ ap (answers.entry_at c.in-Err.refusal.left) c.as_slice-all.ensures) in
+    let stopped = subst (λ l. answers_code.Stopped (file max_nesting l) c.in-Err.refusal.stop c.in-Err.refusal.left) c.as_slice-all.ensures c.in-Err.ensures.err in
+    let is = c.fault_of.ensures ∙ ap (λ o. answers_code.fault_of c.in-Err.refusal.stop o c.args.tokens.now.end) (c.entry_at.ensures ∙ ap (answers_code.entry_at c.in-Err.refusal.left) c.as_slice-all.ensures) in
     subst (answers.FaultIs c.args.tokens.now.items c.args.tokens.now.end) (sym is) (fault_says c.args.tokens.now.items c.args.tokens.now.end c.in-Err.refusal.stop c.in-Err.refusal.left stopped)
 
 pub returns-in-Err-clause-only : goal.returns-in-Err-clause-only
 returns-in-Err-clause-only c = λ items s.
-    let stopped = subst (λ l. answers.Stopped (file max_nesting l) c.in-Err.refusal.stop c.in-Err.refusal.left) c.as_slice-all.ensures c.in-Err.ensures.err in
-    c.fault_of.ensures ∙ ap (λ o. answers.fault_of c.in-Err.refusal.stop o c.args.tokens.now.end) (c.entry_at.ensures ∙ ap (answers.entry_at c.in-Err.refusal.left) c.as_slice-all.ensures)
+    let stopped = subst (λ l. answers_code.Stopped (file max_nesting l) c.in-Err.refusal.stop c.in-Err.refusal.left) c.as_slice-all.ensures c.in-Err.ensures.err in
+    c.fault_of.ensures ∙ ap (λ o. answers_code.fault_of c.in-Err.refusal.stop o c.args.tokens.now.end) (c.entry_at.ensures ∙ ap (answers_code.entry_at c.in-Err.refusal.left) c.as_slice-all.ensures)
     ∙ only_memory c.args.tokens.now.items c.args.tokens.now.end items s c.in-Err.refusal.stop c.in-Err.refusal.left stopped
 
 pub returns-in-Err-clause-deep : goal.returns-in-Err-clause-deep
 returns-in-Err-clause-deep c = λ items us over d k.
-    let stopped = subst (λ l. answers.Stopped (file max_nesting l) c.in-Err.refusal.stop c.in-Err.refusal.left) c.as_slice-all.ensures c.in-Err.ensures.err in
-    let is = c.fault_of.ensures ∙ ap (λ o. answers.fault_of c.in-Err.refusal.stop o c.args.tokens.now.end) (c.entry_at.ensures ∙ ap (answers.entry_at c.in-Err.refusal.left) c.as_slice-all.ensures) in
+    let stopped = subst (λ l. answers_code.Stopped (file max_nesting l) c.in-Err.refusal.stop c.in-Err.refusal.left) c.as_slice-all.ensures c.in-Err.ensures.err in
+    let is = c.fault_of.ensures ∙ ap (λ o. answers_code.fault_of c.in-Err.refusal.stop o c.args.tokens.now.end) (c.entry_at.ensures ∙ ap (answers_code.entry_at c.in-Err.refusal.left) c.as_slice-all.ensures) in
     subst answers.FaultIsDeep (sym is) (deep_fault c.args.tokens.now.items c.args.tokens.now.end items us over d k c.in-Err.refusal.stop c.in-Err.refusal.left stopped)
 
 pub returns-in-Err-clause-one : goal.returns-in-Err-clause-one

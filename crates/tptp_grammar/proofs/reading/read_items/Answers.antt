@@ -1,7 +1,7 @@
 use Rattle.std.proofs.Common.{arith, ◌+◌, ◌-◌, [], ◌∷◌, ◌++◌, drop, sym, ◌∙◌, ap, subst}
 use Rattle.std.proofs.lemmas.List.{drop_more}
 use Rattle.tptp_grammar.specs.Faults.{max_nesting}
-use Rattle.tptp_grammar.specs.ReadFile.{file, file_from}
+use Rattle.tptp_grammar.specs.code.ReadFile.{file, file_from}
 use Rattle.tptp_grammar.proofs.Whole.{with_items, Kept, kept_first, kept_start, kept_token, kept_comment, stops}
 use Rattle.tptp_grammar.proofs.Refusals.{handed_on}
 use Rattle.tptp_grammar.proofs.reading.read_items.Goals as goal

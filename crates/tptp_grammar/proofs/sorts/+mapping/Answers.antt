@@ -1,6 +1,6 @@
 use Rattle.std.proofs.Common.{arith, ◌-◌}
-use Rattle.first_fault.specs.Reading.{tail}
-use Rattle.tptp_grammar.specs.ReadTypes as spec
+use Rattle.first_fault.specs.code.Reading.{tail}
+use Rattle.tptp_grammar.specs.code.ReadTypes as spec
 use Rattle.tptp_grammar.proofs.Nests.{reads_again, map_some}
 use Rattle.tptp_grammar.proofs.sorts.+mapping.Goals as goal
 

@@ -1,8 +1,8 @@
 use Rattle.std.proofs.Common.{arith, ◌-◌}
-use Rattle.first_fault.specs.Reading.{tail, closed}
+use Rattle.first_fault.specs.code.Reading.{tail, closed}
 use Rattle.tptp_lexer.specs.declared.token.Mark.TheVariants as m
-use Rattle.tptp_grammar.specs.ReadTerms.{is_mark}
-use Rattle.tptp_grammar.specs.ReadTypes as spec
+use Rattle.tptp_grammar.specs.code.ReadTerms.{is_mark}
+use Rattle.tptp_grammar.specs.code.ReadTypes as spec
 use Rattle.tptp_grammar.proofs.Nests.{reads_again, typing_some}
 use Rattle.tptp_grammar.proofs.sorts.+typing.Goals as goal
 

@@ -1,7 +1,7 @@
 use Rattle.std.proofs.Common.{rules, sym, ◌∙◌, ap}
 use Rattle.first_fault.proofs.Loops.{members, starts, turn, turn_smaller}
 use Rattle.tptp_lexer.specs.declared.token.Mark.TheVariants as m
-use Rattle.tptp_grammar.specs.ReadTerms as spec
+use Rattle.tptp_grammar.specs.code.ReadTerms as spec
 use Rattle.tptp_grammar.proofs.Loops.{term_steps, first_fails, later_fails}
 use Rattle.tptp_grammar.proofs.terms.+term.Goals as goal
 

@@ -1,8 +1,8 @@
 use Rattle.std.proofs.Common.{◌≡◌, ◌+◌, ◌*◌, length}
-use Rattle.first_fault.specs.Reading.{separated}
+use Rattle.first_fault.specs.code.Reading.{separated}
 use Rattle.first_fault.proofs.Loops.{members}
 use Rattle.tptp_lexer.specs.declared.token.Mark.TheVariants as m
-use Rattle.tptp_grammar.specs.ReadTerms as spec
+use Rattle.tptp_grammar.specs.code.ReadTerms as spec
 use Rattle.tptp_grammar.proofs.terms.+term.Given as goal
 
 abbrev pub decreases-term : goal.decreases-term

@@ -1,5 +1,5 @@
 use Rattle.std.proofs.Common.{◌+◌, subst, sym, arith}
-use Rattle.tptp_lexer.specs.Step.{IsOneLine}
+use Rattle.tptp_lexer.specs.code.Step.{IsOneLine}
 use Rattle.tptp_lexer.proofs.Places.{column_fits, on_line, line_goes_on}
 use Rattle.tptp_lexer.proofs.advance.advance.Goals as goal
 

@@ -4,7 +4,7 @@ use Rattle.tptp_base.specs.declared.place.Place.{Place}
 use Rattle.tptp_lexer.specs.declared.fault.LexFault.{LexFault}
 use Rattle.tptp_lexer.specs.declared.token.Tokens.{Tokens}
 use Rattle.tptp_lexer.specs.Answer.{Answers, part}
-use Rattle.tptp_lexer.specs.Step.{Items}
+use Rattle.tptp_lexer.specs.code.Step.{Items}
 use Rattle.tptp_lexer.proofs.Answering.{one, given, tokenized}
 use Rattle.tptp_lexer.proofs.Stepping.{HasReached, start, go, ended, fault}
 use Rattle.tptp_lexer.proofs.lexer.tokens.Goals as goal

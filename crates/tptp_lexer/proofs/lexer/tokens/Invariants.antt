@@ -1,5 +1,5 @@
 use Rattle.std.proofs.Common.{◌-◌}
-use Rattle.tptp_lexer.specs.Step.{IsOneLine}
+use Rattle.tptp_lexer.specs.code.Step.{IsOneLine}
 use Rattle.tptp_lexer.proofs.Stepping.{HasReached}
 use Rattle.tptp_lexer.proofs.lexer.tokens.Given as goal
 

@@ -1,7 +1,7 @@
 use Rattle.std.proofs.Common.{◌⊎◌, inl}
 use Rattle.std.specs.Option.{option_copied}
 use Rattle.tptp_base.specs.Count.{Rose}
-use Rattle.tptp_run.specs.Answer.{ending_of}
+use Rattle.tptp_run.specs.code.Answer.{ending_of}
 use Rattle.tptp_run.specs.OtherFaults.{SaysProblemFault}
 use Rattle.tptp_run.proofs.Absences.{answered_so, rose_since}
 use Rattle.tptp_run.proofs.Checks.{log_ends, stopped_since}

@@ -2,7 +2,7 @@ use Rattle.std.proofs.Common.{List, ℕ, subst}
 use Rattle.tptp_base.specs.declared.item.Item.{Item}
 use Rattle.sort_check.specs.declared.line.TextKind.TheVariants as kind
 use Rattle.sort_check.specs.Texts.{Faults, denoted}
-use Rattle.tptp_run.specs.Answer.{ending_of}
+use Rattle.tptp_run.specs.code.Answer.{ending_of}
 use Rattle.tptp_run.specs.Denoted.{SaysSortFault}
 use Rattle.tptp_run.proofs.Parses.{said_denotes}
 use Rattle.tptp_run.proofs.denoted.read_meaning.Goals as goal

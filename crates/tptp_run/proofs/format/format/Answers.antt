@@ -1,8 +1,8 @@
 use Rattle.std.proofs.Common.{◌≡◌, ℕ, List, subst}
-use Rattle.tptp_run.specs.Answer.{ending_of}
+use Rattle.tptp_run.specs.code.Answer.{ending_of}
 use Rattle.tptp_run.specs.Formatted.{SaysText}
 use Rattle.tptp_run.specs.Spelled.{IsTextRefusal}
-use Rattle.tptp_run.specs.Stop.{IfAnswer}
+use Rattle.tptp_run.specs.code.Stop.{IfAnswer}
 use Rattle.tptp_run.proofs.Absences.{file_said}
 use Rattle.tptp_run.proofs.Formats.{text_ends}
 use Rattle.tptp_run.proofs.format.format.Goals as goal

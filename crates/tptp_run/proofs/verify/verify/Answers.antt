@@ -1,7 +1,7 @@
 use Rattle.std.proofs.Common.{◌⊎◌}
 use Rattle.std.specs.Option.{option_copied}
 use Rattle.tptp_base.specs.Count.{Rose}
-use Rattle.tptp_run.specs.Answer.{ending_of}
+use Rattle.tptp_run.specs.code.Answer.{ending_of}
 use Rattle.tptp_run.specs.OtherFaults.{SaysDerivedFault, SaysLinesFault, SaysProblemFault}
 use Rattle.tptp_run.specs.declared.sources.Source.{Source}
 use Rattle.tptp_run.proofs.Absences.{answered_so, derived_said, problem_refused_so}

@@ -1,6 +1,6 @@
 use Rattle.std.proofs.Common.{◌⊎◌, inl, ◌-◌, List, ℕ}
 use Rattle.tptp_base.specs.Count.{Rose}
-use Rattle.tptp_run.specs.Answer.{ending_of}
+use Rattle.tptp_run.specs.code.Answer.{ending_of}
 use Rattle.tptp_run.specs.Derived.{IsDerivationRefusal}
 use Rattle.tptp_run.specs.OtherFaults.{SaysLinesFault}
 use Rattle.tptp_run.specs.Verifying.{SaysDerivation}

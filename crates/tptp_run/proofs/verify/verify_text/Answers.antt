@@ -1,5 +1,5 @@
 use Rattle.derivation_text.specs.declared.derivation.Derivation.{Derivation}
-use Rattle.tptp_run.specs.Answer.{ending_of}
+use Rattle.tptp_run.specs.code.Answer.{ending_of}
 use Rattle.tptp_run.specs.Derived.{IsDerivationRefusal}
 use Rattle.tptp_run.specs.declared.stop.Answer.{Answer}
 use Rattle.tptp_run.proofs.Absences.{refused_so}

@@ -1,6 +1,7 @@
 use Rattle.std.proofs.Common.{◌≡◌, [], drop}
-use Rattle.tstp_graph.specs.Meaning.{means_in, resolved}
-use Rattle.tstp_graph.specs.RefSets.{AreMembers}
+use Rattle.tstp_graph.specs.code.Meaning.{means_in}
+use Rattle.tstp_graph.specs.Meaning.{resolved}
+use Rattle.tstp_graph.specs.code.RefSets.{AreMembers}
 use Rattle.tstp_graph.proofs.meaning.resolve.Given as goal
 
 abbrev pub invariant-loop-cite : goal.invariant-loop-cite

@@ -1,5 +1,5 @@
 use Rattle.std.proofs.Common.{sym}
-use Rattle.tstp_graph.specs.Meaning.{means_in}
+use Rattle.tstp_graph.specs.code.Meaning.{means_in}
 use Rattle.tstp_graph.proofs.Resolving.{item_resolves}
 use Rattle.tstp_graph.proofs.node.item_node.Goals as goal
 

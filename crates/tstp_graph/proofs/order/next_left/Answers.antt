@@ -1,5 +1,5 @@
 use Rattle.std.proofs.Common.{sym, ◌∙◌}
-use Rattle.tstp_graph.specs.Flags.{flag_at}
+use Rattle.tstp_graph.specs.code.Flags.{flag_at}
 use Rattle.tstp_graph.proofs.Orders.{left_here, left_later, not_true_is, not_false_is}
 use Rattle.tstp_graph.proofs.order.next_left.Goals as goal
 

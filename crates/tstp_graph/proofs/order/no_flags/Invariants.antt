@@ -1,5 +1,5 @@
 use Rattle.std.proofs.Common.{◌≡◌, ◌≤◌, ◌-◌, ℕ, false, length, vec_len}
-use Rattle.tstp_graph.specs.Flags.{flag_at}
+use Rattle.tstp_graph.specs.code.Flags.{flag_at}
 use Rattle.tstp_graph.proofs.order.no_flags.Given as goal
 
 abbrev pub invariant-flags : goal.invariant-flags

@@ -1,8 +1,8 @@
 use Rattle.std.proofs.Common.{◌≡◌, true, slice_set, Some, refl, ◌∙◌}
 use Rattle.std.proofs.lemmas.List.{length-set}
 use Rattle.tstp_graph.specs.Order.{first_ready}
-use Rattle.tstp_graph.specs.Flags.{flag_at}
-use Rattle.tstp_graph.specs.Queue.{no_number, IsQueue}
+use Rattle.tstp_graph.specs.code.Flags.{flag_at}
+use Rattle.tstp_graph.specs.code.Queue.{no_number, IsQueue}
 use Rattle.tstp_graph.proofs.Orders.{goes_on, ends}
 use Rattle.tstp_graph.proofs.Queues.{within_flags, loose_after_with, taken_after_with, fewer_left, first_of_queue, none_of_queue}
 use Rattle.tstp_graph.proofs.order.order_of.Goals as goal

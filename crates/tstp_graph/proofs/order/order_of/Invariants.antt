@@ -1,6 +1,6 @@
 use Rattle.std.proofs.Common.{◌≡◌, length}
-use Rattle.tstp_graph.specs.Flags.{flag_at}
-use Rattle.tstp_graph.specs.Queue.{no_number, IsQueue}
+use Rattle.tstp_graph.specs.code.Flags.{flag_at}
+use Rattle.tstp_graph.specs.code.Queue.{no_number, IsQueue}
 use Rattle.tstp_graph.proofs.Orders.{SoFar, left}
 use Rattle.tstp_graph.proofs.order.order_of.Given as goal
 

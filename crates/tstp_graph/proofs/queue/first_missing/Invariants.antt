@@ -1,7 +1,7 @@
 use Rattle.std.proofs.Common.{◌≡◌, true, take}
 use Rattle.std.specs.List.{list_all}
 use Rattle.tstp_graph.specs.Order.{is_done}
-use Rattle.tstp_graph.specs.Flags.{flag_at}
+use Rattle.tstp_graph.specs.code.Flags.{flag_at}
 use Rattle.tstp_graph.proofs.queue.first_missing.Given as goal
 
 abbrev pub invariant-loop-place : goal.invariant-loop-place

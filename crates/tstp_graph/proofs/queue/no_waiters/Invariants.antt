@@ -1,5 +1,5 @@
 use Rattle.std.proofs.Common.{◌≡◌, ◌≤◌, ◌-◌, ℕ, [], length, vec_len}
-use Rattle.tstp_graph.specs.Queue.{waiters_of}
+use Rattle.tstp_graph.specs.code.Queue.{waiters_of}
 use Rattle.tstp_graph.proofs.queue.no_waiters.Given as goal
 
 abbrev pub invariant-waiting : goal.invariant-waiting

@@ -1,5 +1,5 @@
 use Rattle.std.proofs.Common.{◌≤◌, take}
-use Rattle.tstp_graph.specs.Tables.{Holds}
+use Rattle.tstp_graph.specs.code.Tables.{Holds}
 use Rattle.tstp_graph.proofs.scope.given_names.Given as goal
 
 abbrev pub invariant-loop-name : goal.invariant-loop-name

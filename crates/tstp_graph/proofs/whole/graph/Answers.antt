@@ -1,5 +1,5 @@
 use Rattle.std.proofs.Common.{arith}
-use Rattle.tstp_graph.specs.Meaning.{means_in}
+use Rattle.tstp_graph.specs.code.Meaning.{means_in}
 use Rattle.tstp_graph.proofs.Wholes.{known_graph, known_fault, wanting}
 use Rattle.tstp_graph.proofs.whole.graph.Goals as goal
 

@@ -1,4 +1,4 @@
-use Rattle.tstp_graph.specs.Meaning.{means_in}
+use Rattle.tstp_graph.specs.code.Meaning.{means_in}
 use Rattle.tstp_graph.proofs.Lined.{are_lines}
 use Rattle.tstp_graph.proofs.Wholes.{whole_graph, whole_cycle, item_fault}
 use Rattle.tstp_graph.proofs.whole.graph_over.Goals as goal

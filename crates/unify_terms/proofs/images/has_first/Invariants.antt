@@ -1,6 +1,6 @@
 use Rattle.std.proofs.Common.{ℕ, ◌≡◌, ◌<◌, true}
-use Rattle.unify_terms.specs.Classes.{class_of}
-use Rattle.unify_terms.specs.Order.{is_done}
+use Rattle.unify_terms.specs.code.Classes.{class_of}
+use Rattle.unify_terms.specs.code.Order.{is_done}
 use Rattle.unify_terms.proofs.images.has_first.Given as goal
 
 abbrev pub invariant-loop-variable : goal.invariant-loop-variable

@@ -1,6 +1,6 @@
 use Rattle.std.proofs.Common.{ℕ, ◌≡◌, ◌<◌, true}
-use Rattle.unify_terms.specs.Graph.{numbers_at}
-use Rattle.unify_terms.specs.Order.{is_done, all_done}
+use Rattle.unify_terms.specs.code.Graph.{numbers_at}
+use Rattle.unify_terms.specs.code.Order.{is_done, all_done}
 use Rattle.unify_terms.proofs.images.is_closed.Given as goal
 
 abbrev pub invariant-loop-at : goal.invariant-loop-at

@@ -1,6 +1,6 @@
 use Rattle.std.proofs.Common.{◌≡◌, get_or, length, subst}
 use Rattle.fof_terms.specs.declared.term.Term.{Var}
-use Rattle.unify_terms.specs.Images.{made}
+use Rattle.unify_terms.specs.code.Images.{made}
 use Rattle.unify_terms.proofs.Pairs.{below_at}
 use Rattle.unify_terms.proofs.Making.{needed_turn, needed_past}
 use Rattle.unify_terms.proofs.images.needed_images.Goals as goal

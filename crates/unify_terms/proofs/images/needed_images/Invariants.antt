@@ -1,5 +1,5 @@
 use Rattle.std.proofs.Common.{reverse, take}
-use Rattle.unify_terms.specs.Images.{AreNeeded}
+use Rattle.unify_terms.specs.code.Images.{AreNeeded}
 use Rattle.unify_terms.proofs.images.needed_images.Given as goal
 
 abbrev pub invariant-loop-class : goal.invariant-loop-class

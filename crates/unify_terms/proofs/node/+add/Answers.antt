@@ -2,7 +2,7 @@ use Rattle.std.proofs.Common.{◌≢◌, ◌-◌, subst, sym, None}
 use Rattle.std.proofs.lemmas.List.{take_all}
 use Rattle.fof_terms.specs.Sorts.{sort_of_term}
 use Rattle.fof_terms.specs.declared.term.Term.{App}
-use Rattle.unify_terms.specs.Graph.{Added, Fit, AreAdded}
+use Rattle.unify_terms.specs.code.Graph.{Added, Fit, AreAdded}
 use Rattle.unify_terms.proofs.Adding.{variable_added, add_turn, function_added, fit_args}
 use Rattle.unify_terms.proofs.node.+add.Goals as goal
 

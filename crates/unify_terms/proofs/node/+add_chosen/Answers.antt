@@ -1,6 +1,7 @@
 use Rattle.std.proofs.Common.{subst, sym, ap, ◌∙◌}
-use Rattle.unify_terms.specs.Graph.{AddsPairs}
-use Rattle.unify_terms.specs.Chosen.{chosen_pairs, chosen_pairs-Nothing, chosen_pairs-Then}
+use Rattle.unify_terms.specs.code.Graph.{AddsPairs}
+use Rattle.unify_terms.specs.code.Chosen.{chosen_pairs}
+use Rattle.unify_terms.proofs.ChosenFacts.{chosen_pairs-Nothing, chosen_pairs-Then}
 use Rattle.unify_terms.proofs.Valuations.{adds_none, adds_both, ok_both}
 use Rattle.unify_terms.proofs.node.+add_chosen.Goals as goal
 

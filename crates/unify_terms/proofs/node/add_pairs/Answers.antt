@@ -1,6 +1,6 @@
 use Rattle.std.proofs.Common.{subst}
 use Rattle.std.proofs.lemmas.List.{take_all}
-use Rattle.unify_terms.specs.Graph.{AddsPairs}
+use Rattle.unify_terms.specs.code.Graph.{AddsPairs}
 use Rattle.unify_terms.proofs.Valuations.{pairs_turn, adds_none}
 use Rattle.unify_terms.proofs.node.add_pairs.Goals as goal
 

@@ -1,5 +1,5 @@
 use Rattle.std.proofs.Common.{take}
-use Rattle.unify_terms.specs.Graph.{AddsPairs}
+use Rattle.unify_terms.specs.code.Graph.{AddsPairs}
 use Rattle.unify_terms.proofs.node.add_pairs.Given as goal
 
 abbrev pub invariant-loop-pair : goal.invariant-loop-pair

@@ -4,7 +4,7 @@ use Rattle.std.proofs.lemmas.Option.{slice_get-get_or}
 use Rattle.fof_terms.specs.declared.term.Term.{Term}
 use Rattle.unify_terms.specs.declared.node.Node.{Node}
 use Rattle.unify_terms.specs.declared.node.Node.TheVariants.{Open, Rigid, Function}
-use Rattle.unify_terms.specs.Graph.{numbers_of}
+use Rattle.unify_terms.specs.code.Graph.{numbers_of}
 use Rattle.unify_terms.proofs.node.argument_numbers.Goals as goal
 
 other_numbers : (node : Node) → ((f : ℕ) (args : Bor (List Term)) (numbers : List ℕ) → node ≡ Function f args numbers → ⊥) → numbers_of (Some node) ≡ []

@@ -1,6 +1,6 @@
 use Rattle.std.proofs.Common.{subst}
-use Rattle.unify_terms.specs.Graph.{AddsPairs}
-use Rattle.unify_terms.specs.Chosen.{chosen_pairs}
+use Rattle.unify_terms.specs.code.Graph.{AddsPairs}
+use Rattle.unify_terms.specs.code.Chosen.{chosen_pairs}
 use Rattle.unify_terms.proofs.Valuations.{graph_of_pairs}
 use Rattle.unify_terms.proofs.node.graph_of.Goals as goal
 

@@ -1,6 +1,6 @@
 use Rattle.std.proofs.Common.{subst, sym, refl, false}
 use Rattle.std.specs.Prelude.{IsTrue}
-use Rattle.unify_terms.specs.Order.{IsReady}
+use Rattle.unify_terms.specs.code.Order.{IsReady}
 use Rattle.unify_terms.proofs.Orders.{order_grows, walk_adds, walk_passes}
 use Rattle.unify_terms.proofs.order.pass.Goals as goal
 use Rattle.unify_terms.proofs.order.pass.Goals.{then-is_next+in_ok-push, else-is_next}

@@ -1,4 +1,4 @@
-use Rattle.unify_terms.specs.Order.{Ordering, Walked}
+use Rattle.unify_terms.specs.code.Order.{Ordering, Walked}
 use Rattle.unify_terms.proofs.order.pass.Given as goal
 
 abbrev pub invariant-loop-i : goal.invariant-loop-i

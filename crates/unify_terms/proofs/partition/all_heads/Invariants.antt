@@ -1,5 +1,5 @@
 use Rattle.std.proofs.Common.{◌≡◌, map, take}
-use Rattle.unify_terms.specs.Classes.{class_of}
+use Rattle.unify_terms.specs.code.Classes.{class_of}
 use Rattle.unify_terms.proofs.partition.all_heads.Given as goal
 
 abbrev pub invariant-loop-label : goal.invariant-loop-label

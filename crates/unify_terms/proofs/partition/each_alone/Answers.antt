@@ -1,6 +1,6 @@
 use Rattle.std.proofs.Common.{◌≡◌, ap, ◌∙◌, arith}
 use Rattle.std.proofs.lemmas.List.{length-map}
-use Rattle.unify_terms.specs.Classes.{class_of}
+use Rattle.unify_terms.specs.code.Classes.{class_of}
 use Rattle.unify_terms.proofs.Partitions.{head_is, alone_labels}
 use Rattle.unify_terms.proofs.partition.each_alone.Goals as goal
 

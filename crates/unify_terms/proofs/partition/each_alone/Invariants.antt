@@ -1,6 +1,6 @@
 use Rattle.std.proofs.Common.{ℕ, ◌≡◌, ◌<◌, [], ◌∷◌, length}
-use Rattle.unify_terms.specs.Classes.{class_of}
-use Rattle.unify_terms.specs.Partition.{members_of}
+use Rattle.unify_terms.specs.code.Classes.{class_of}
+use Rattle.unify_terms.specs.code.Partition.{members_of}
 use Rattle.unify_terms.proofs.partition.each_alone.Given as goal
 
 abbrev pub invariant-loop-i : goal.invariant-loop-i

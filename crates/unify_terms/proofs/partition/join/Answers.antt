@@ -1,6 +1,6 @@
 use Rattle.std.proofs.Common.{◌<◌, sym, ◌∙◌, arith, length}
 use Rattle.std.proofs.lemmas.List.{length-map}
-use Rattle.unify_terms.specs.Classes.{class_of}
+use Rattle.unify_terms.specs.code.Classes.{class_of}
 use Rattle.unify_terms.proofs.Valuations.{ok_both}
 use Rattle.unify_terms.proofs.Partitions.{head_is, sides_of, joined_labels, joined_classes}
 use Rattle.unify_terms.proofs.partition.join.Goals as goal

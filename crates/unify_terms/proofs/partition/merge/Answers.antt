@@ -1,5 +1,5 @@
 use Rattle.std.proofs.Common.{subst, sym, ◌∙◌, [], length, arith}
-use Rattle.unify_terms.specs.Graph.{Below}
+use Rattle.unify_terms.specs.code.Graph.{Below}
 use Rattle.unify_terms.proofs.Pairs.{any_default}
 use Rattle.unify_terms.proofs.Partitions.{below_members}
 use Rattle.unify_terms.proofs.partition.merge.Goals as goal

@@ -1,5 +1,5 @@
 use Rattle.std.proofs.Common.{◌≡◌, length, drop}
-use Rattle.unify_terms.specs.Partition.{relabelled}
+use Rattle.unify_terms.specs.code.Partition.{relabelled}
 use Rattle.unify_terms.proofs.partition.relabel.Given as goal
 
 abbrev pub invariant-loop-member : goal.invariant-loop-member

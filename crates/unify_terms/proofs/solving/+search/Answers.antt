@@ -3,11 +3,15 @@ use Rattle.std.specs.Prelude.{slice_get}
 use Rattle.std.specs.List.{list_all}
 use Rattle.std.proofs.lemmas.Option.{slice_get_read, slice_get_past}
 use Rattle.unify_terms.specs.declared.pending.Pending.{Each}
-use Rattle.unify_terms.specs.Chosen.{chosen_pairs, chosen_pairs-Then}
-use Rattle.unify_terms.specs.Goals.{before, each_of, with_pairs, and_then, asked, goal_sorted, asked-All, asked-Any, asked-Same, goal_sorted-All, goal_sorted-Any, goal_sorted-Same}
-use Rattle.unify_terms.specs.Pending.{asked_pending, goal_size, pending_size, pending_sorted, asked_pending-One, asked_pending-Each, pending_sorted-One, pending_sorted-Each, goal_size-All, goal_size-Any, goal_size-Same, pending_size-One, pending_size-Each}
+use Rattle.unify_terms.specs.code.Chosen.{chosen_pairs}
+use Rattle.unify_terms.proofs.ChosenFacts.{chosen_pairs-Then}
+use Rattle.unify_terms.specs.Goals.{before, each_of, with_pairs, and_then, asked, goal_sorted}
+use Rattle.unify_terms.proofs.GoalsFacts.{asked-All, asked-Any, asked-Same, goal_sorted-All, goal_sorted-Any, goal_sorted-Same}
+use Rattle.unify_terms.specs.code.Pending.{asked_pending, pending_sorted}
+use Rattle.unify_terms.proofs.PendingFacts.{goal_size, pending_size, asked_pending-One, asked_pending-Each, pending_sorted-One, pending_sorted-Each, goal_size-All, goal_size-Any, goal_size-Same, pending_size-One, pending_size-Each}
 use Rattle.unify_terms.specs.Unifiers.{AreSorted, Unified}
-use Rattle.unify_terms.specs.Searched.{Searched, NoneOf}
+use Rattle.unify_terms.specs.code.Searched.{Searched}
+use Rattle.unify_terms.proofs.SearchedFacts.{NoneOf}
 use Rattle.unify_terms.proofs.Searches.{split_tests, both_tests, same_ways, with_nothing, before_assoc, searched_same, searched_hopeless, searched_one, none_more, searched_nowhere, sorted_both, drop_some, drop_none, size_cons, size_at, sorted_at, ok_map}
 use Rattle.unify_terms.proofs.solving.+search.Goals as goal
 

@@ -1,7 +1,8 @@
 use Rattle.std.proofs.Common.{◌+◌, ◌*◌, sum, map}
-use Rattle.unify_terms.specs.Chosen.{chosen_pairs}
-use Rattle.unify_terms.specs.Pending.{asked_pending, goal_size, pending_size}
-use Rattle.unify_terms.specs.Searched.{NoneOf}
+use Rattle.unify_terms.specs.code.Chosen.{chosen_pairs}
+use Rattle.unify_terms.specs.code.Pending.{asked_pending}
+use Rattle.unify_terms.proofs.PendingFacts.{goal_size, pending_size}
+use Rattle.unify_terms.proofs.SearchedFacts.{NoneOf}
 use Rattle.unify_terms.proofs.solving.+search.Given as goal
 
 abbrev pub invariant-first_of-loop-at : goal.invariant-first_of-loop-at

@@ -1,7 +1,7 @@
 use Rattle.std.proofs.Common.{subst, sym, None}
-use Rattle.unify_terms.specs.Chosen.{chosen_pairs}
-use Rattle.unify_terms.specs.Pending.{asked_pending-Done}
-use Rattle.unify_terms.specs.Searched.{Searched}
+use Rattle.unify_terms.specs.code.Chosen.{chosen_pairs}
+use Rattle.unify_terms.proofs.PendingFacts.{asked_pending-Done}
+use Rattle.unify_terms.specs.code.Searched.{Searched}
 use Rattle.unify_terms.proofs.Searches.{searched_end, searched_none}
 use Rattle.unify_terms.proofs.solving.ended.Goals as goal
 

@@ -1,7 +1,7 @@
 use Rattle.std.proofs.Common.{refl, subst, sym}
-use Rattle.unify_terms.specs.Chosen.{chosen_pairs-Nothing}
+use Rattle.unify_terms.proofs.ChosenFacts.{chosen_pairs-Nothing}
 use Rattle.unify_terms.specs.Unifiers.{AreSorted}
-use Rattle.unify_terms.specs.Pending.{pending_sorted-Done, asked_pending-Done}
+use Rattle.unify_terms.proofs.PendingFacts.{pending_sorted-Done, asked_pending-Done}
 use Rattle.unify_terms.proofs.Searches.{solved_some, solved_none}
 use Rattle.unify_terms.proofs.solving.solve.Goals as goal
 

@@ -1,7 +1,8 @@
 use Rattle.std.proofs.Common.{◌≡◌, ap, ◌∙◌, reverse}
 use Rattle.std.specs.List.{list_all}
 use Rattle.std.proofs.lemmas.List.{reverse-reverse}
-use Rattle.fof_terms.specs.Scope.{scope_sorts, scope_sorts-Outside}
+use Rattle.fof_terms.specs.Scope.{scope_sorts}
+use Rattle.fof_terms.proofs.ScopeFacts.{scope_sorts-Outside}
 use Rattle.unify_terms.specs.Goals.{pair_sorted}
 use Rattle.unify_terms.proofs.Searches.{pairs_tested}
 use Rattle.unify_terms.proofs.sorting.are_sorted.Goals as goal

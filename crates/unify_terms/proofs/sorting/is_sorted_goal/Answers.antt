@@ -1,6 +1,7 @@
 use Rattle.std.proofs.Common.{◌≡◌, ap, ◌∙◌, reverse}
 use Rattle.std.proofs.lemmas.List.{reverse-reverse}
-use Rattle.fof_terms.specs.Scope.{scope_sorts, scope_sorts-Outside}
+use Rattle.fof_terms.specs.Scope.{scope_sorts}
+use Rattle.fof_terms.proofs.ScopeFacts.{scope_sorts-Outside}
 use Rattle.unify_terms.specs.Goals.{goal_sorted}
 use Rattle.unify_terms.proofs.sorting.is_sorted_goal.Goals as goal
 

@@ -1,7 +1,7 @@
 use Rattle.std.proofs.Common.{subst, sym, Some, length}
-use Rattle.unify_terms.specs.Classes.{Agrees}
-use Rattle.unify_terms.specs.Order.{Orders}
-use Rattle.unify_terms.specs.Solved.{value_at}
+use Rattle.unify_terms.specs.code.Classes.{Agrees}
+use Rattle.unify_terms.specs.code.Order.{Orders}
+use Rattle.unify_terms.specs.code.Solved.{value_at}
 use Rattle.unify_terms.proofs.Valuations.{valuation}
 use Rattle.unify_terms.proofs.unification.arranged.Goals as goal
 

@@ -1,8 +1,8 @@
 use Rattle.std.proofs.Common.{subst, sym, length}
-use Rattle.unify_terms.specs.Graph.{IsGraph}
-use Rattle.unify_terms.specs.Classes.{AllBelow}
-use Rattle.unify_terms.specs.Chosen.{chosen_pairs}
-use Rattle.unify_terms.specs.Solved.{Unsolvable}
+use Rattle.unify_terms.specs.code.Graph.{IsGraph}
+use Rattle.unify_terms.specs.code.Classes.{AllBelow}
+use Rattle.unify_terms.specs.code.Chosen.{chosen_pairs}
+use Rattle.unify_terms.specs.code.Solved.{Unsolvable}
 use Rattle.unify_terms.proofs.Valuations.{stand_below, unify_joins}
 use Rattle.unify_terms.proofs.unification.is_hopeless.Goals as goal
 

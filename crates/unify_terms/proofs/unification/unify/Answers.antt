@@ -1,7 +1,7 @@
 use Rattle.std.proofs.Common.{subst, sym}
 use Rattle.std.specs.Prelude.{refl, IfOk}
 use Rattle.unify_terms.specs.Unifiers.{AreSorted, Unified}
-use Rattle.unify_terms.specs.Chosen.{chosen_alone}
+use Rattle.unify_terms.proofs.ChosenFacts.{chosen_alone}
 use Rattle.unify_terms.proofs.unification.unify.Goals as goal
 
 pub unify_chosen-requires-clause-sorted : goal.unify_chosen-requires-clause-sorted

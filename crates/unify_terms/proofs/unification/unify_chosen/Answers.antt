@@ -1,9 +1,9 @@
 use Rattle.std.proofs.Common.{subst, sym, reverse, length, arith}
-use Rattle.unify_terms.specs.Graph.{IsGraph, Stand}
-use Rattle.unify_terms.specs.Classes.{AllBelow}
-use Rattle.unify_terms.specs.Chosen.{chosen_pairs}
-use Rattle.unify_terms.specs.Order.{Fits}
-use Rattle.unify_terms.specs.Solved.{Unsolvable}
+use Rattle.unify_terms.specs.code.Graph.{IsGraph, Stand}
+use Rattle.unify_terms.specs.code.Classes.{AllBelow}
+use Rattle.unify_terms.specs.code.Chosen.{chosen_pairs}
+use Rattle.unify_terms.specs.code.Order.{Fits}
+use Rattle.unify_terms.specs.code.Solved.{Unsolvable}
 use Rattle.unify_terms.proofs.Unifier.{general, few_variables, closed_fits}
 use Rattle.unify_terms.proofs.Valuations.{stand_below, unify_joins, most_general}
 use Rattle.unify_terms.proofs.unification.unify_chosen.Goals as goal

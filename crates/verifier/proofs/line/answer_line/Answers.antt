@@ -1,4 +1,4 @@
-use Rattle.verifier.specs.Numbered.{forms_in}
+use Rattle.verifier.specs.code.Numbered.{forms_in}
 use Rattle.verifier.proofs.LineAnswers.{leaf_cited, leaf_free}
 use Rattle.verifier.proofs.line.answer_line.Goals as goal
 

@@ -1,5 +1,5 @@
 use Rattle.std.proofs.Common.{◌∙◌, sym}
-use Rattle.verifier.specs.Numbered.{derivation_in, progress_of}
+use Rattle.verifier.specs.code.Numbered.{derivation_in, progress_of}
 use Rattle.verifier.proofs.Knowing.{parents_stand, of_theory, are_ready, numbered_of_theory, numbered_ready}
 use Rattle.verifier.proofs.LineAnswers.{skips_line, call_takes, call_knows, line_at}
 use Rattle.verifier.proofs.line.run_line.Goals as goal

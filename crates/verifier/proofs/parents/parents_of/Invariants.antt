@@ -1,6 +1,6 @@
 use Rattle.std.proofs.Common.{◌≡◌, drop}
 use Rattle.verifier.specs.Lines.{parents_of}
-use Rattle.verifier.specs.Numbered.{forms_in}
+use Rattle.verifier.specs.code.Numbered.{forms_in}
 use Rattle.verifier.proofs.Collecting.{before}
 use Rattle.verifier.proofs.parents.parents_of.Given as goal
 

@@ -1,7 +1,7 @@
 use Rattle.std.proofs.Common.{◌+◌, arith, drop, get_or, length, refl}
 use Rattle.std.proofs.lemmas.List.{drop_all}
 use Rattle.std.proofs.lemmas.Result.{err_from_is_err_and}
-use Rattle.verifier.specs.Numbered.{derivation_in}
+use Rattle.verifier.specs.code.Numbered.{derivation_in}
 use Rattle.verifier.proofs.Knowing.{over_numbered, over_knows}
 use Rattle.verifier.proofs.Running.{place_here, place_done, running_begins, running_turn, turn_within, running_more, running_cut, running_all}
 use Rattle.verifier.proofs.run.run_in_order.Goals as goal

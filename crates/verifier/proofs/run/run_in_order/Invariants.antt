@@ -1,5 +1,5 @@
 use Rattle.std.proofs.Common.{◌≤◌, take, drop}
-use Rattle.verifier.specs.Numbered.{Knows, derivation_in, progress_of}
+use Rattle.verifier.specs.code.Numbered.{Knows, derivation_in, progress_of}
 use Rattle.verifier.specs.Run.{begun}
 use Rattle.verifier.proofs.Running.{IsRunning}
 use Rattle.verifier.proofs.run.run_in_order.Given as goal

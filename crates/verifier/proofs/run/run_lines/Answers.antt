@@ -1,5 +1,5 @@
 use Rattle.std.proofs.Common.{◌∙◌}
-use Rattle.verifier.specs.Numbered.{forms_in}
+use Rattle.verifier.specs.code.Numbered.{forms_in}
 use Rattle.verifier.proofs.Knowing.{given_forms}
 use Rattle.verifier.proofs.Running.{ran_over}
 use Rattle.verifier.proofs.run.run_lines.Goals as goal

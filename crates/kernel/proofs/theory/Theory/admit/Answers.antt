@@ -2,7 +2,7 @@ use Rattle.std.proofs.Common.{◌∙◌, sym, ap, refl, subst, []}
 use Rattle.fof_terms.specs.Sorts.{Sorted}
 use Rattle.fof_terms.specs.declared.signature.Symbol.{Symbol}
 use Rattle.kernel.specs.Entries.{MayName, MayChoose, with_formula, naming, choice}
-use Rattle.kernel.specs.Building.{shown_sorted}
+use Rattle.kernel.proofs.Building.{shown_sorted}
 use Rattle.kernel.proofs.Added.{on_ok, none_some}
 use Rattle.kernel.proofs.theory.Theory.admit.Goals as goal
 

@@ -1,5 +1,5 @@
 use Rattle.std.proofs.Common.{rules, arith, ◌≡◌, ◌<◌, length, ap, Err}
-use Rattle.fof_terms.specs.SortLaws.{more_symbols_grow}
+use Rattle.fof_terms.proofs.SortLawsFacts.{more_symbols_grow}
 use Rattle.kernel.proofs.Added.{closed_grow, past_limit}
 use Rattle.kernel.proofs.theory.Theory.declare_symbol.Goals as goal
 

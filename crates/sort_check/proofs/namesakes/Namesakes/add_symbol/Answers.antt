@@ -1,7 +1,7 @@
 use Rattle.std.proofs.Common.{subst}
 use Rattle.std.proofs.lemmas.Result.{on_ok_weaker}
 use Rattle.sort_check.specs.declared.namesakes.Namesake.{Namesake}
-use Rattle.sort_check.specs.Namesakes.{Puts}
+use Rattle.sort_check.specs.code.Namesakes.{Puts}
 use Rattle.sort_check.proofs.Alike.{knows_at}
 use Rattle.sort_check.proofs.namesakes.Namesakes.add_symbol.Goals as goal
 

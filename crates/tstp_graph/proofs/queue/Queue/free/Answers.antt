@@ -1,8 +1,8 @@
 use Rattle.std.proofs.Common.{◌≡◌, List, [], slice_set, sym, ◌∙◌, ap, subst}
 use Rattle.std.proofs.lemmas.List.{get_or_read}
 use Rattle.tstp_graph.specs.declared.queue.Waiter.{Waiter}
-use Rattle.tstp_graph.specs.Flags.{flag_at}
-use Rattle.tstp_graph.specs.Queue.{has_number, waiters_of, IsQueue}
+use Rattle.tstp_graph.specs.code.Flags.{flag_at}
+use Rattle.tstp_graph.specs.code.Queue.{has_number, waiters_of, IsQueue}
 use Rattle.tstp_graph.proofs.Settling.{freed}
 use Rattle.tstp_graph.proofs.queue.Queue.free.Goals as goal
 

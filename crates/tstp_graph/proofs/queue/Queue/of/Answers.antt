@@ -1,5 +1,5 @@
 use Rattle.std.proofs.Common.{refl}
-use Rattle.tstp_graph.specs.Flags.{flag_at}
+use Rattle.tstp_graph.specs.code.Flags.{flag_at}
 use Rattle.tstp_graph.proofs.Settling.{loose_first, settled_next}
 use Rattle.tstp_graph.proofs.queue.Queue.of.Goals as goal
 

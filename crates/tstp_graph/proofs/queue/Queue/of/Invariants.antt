@@ -1,5 +1,5 @@
-use Rattle.tstp_graph.specs.Flags.{flag_at}
-use Rattle.tstp_graph.specs.Queue.{IsQueue}
+use Rattle.tstp_graph.specs.code.Flags.{flag_at}
+use Rattle.tstp_graph.specs.code.Queue.{IsQueue}
 use Rattle.tstp_graph.proofs.Settling.{from_number}
 use Rattle.tstp_graph.proofs.queue.Queue.of.Given as goal
 

@@ -4,8 +4,8 @@ use Rattle.std.proofs.lemmas.Result.{on_ok_weaker}
 use Rattle.tstp_graph.specs.declared.shape.Ref.{Ref}
 use Rattle.tstp_graph.specs.declared.queue.Waiter.{Waiter}
 use Rattle.tstp_graph.specs.Order.{is_done}
-use Rattle.tstp_graph.specs.Flags.{flag_at}
-use Rattle.tstp_graph.specs.Queue.{IsMissing}
+use Rattle.tstp_graph.specs.code.Flags.{flag_at}
+use Rattle.tstp_graph.specs.code.Queue.{IsMissing}
 use Rattle.tstp_graph.proofs.Settling.{settled_ready_with, settled_waits_with}
 use Rattle.tstp_graph.proofs.queue.Queue.settle.Goals as goal
 

@@ -1,4 +1,4 @@
-use Rattle.tstp_graph.specs.Flags.{flag_at}
+use Rattle.tstp_graph.specs.code.Flags.{flag_at}
 use Rattle.tstp_graph.proofs.Settling.{settled_here}
 use Rattle.tstp_graph.proofs.queue.Queue.settle_all.Goals as goal
 

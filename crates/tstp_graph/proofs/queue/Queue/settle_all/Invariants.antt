@@ -1,6 +1,6 @@
 use Rattle.std.proofs.Common.{drop}
-use Rattle.tstp_graph.specs.Flags.{flag_at}
-use Rattle.tstp_graph.specs.Queue.{has_number, IsQueue}
+use Rattle.tstp_graph.specs.code.Flags.{flag_at}
+use Rattle.tstp_graph.specs.code.Queue.{has_number, IsQueue}
 use Rattle.tstp_graph.proofs.queue.Queue.settle_all.Given as goal
 
 abbrev pub invariant-loop-waiter : goal.invariant-loop-waiter

@@ -1,5 +1,5 @@
 use Rattle.std.proofs.Common.{sym, subst}
-use Rattle.tstp_graph.specs.RefSets.{AreMembers}
+use Rattle.tstp_graph.specs.code.RefSets.{AreMembers}
 use Rattle.tstp_graph.proofs.Resolving.{members_new}
 use Rattle.tstp_graph.proofs.refs.RefSet.with.Goals as goal
 

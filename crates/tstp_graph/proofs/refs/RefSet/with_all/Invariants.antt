@@ -1,6 +1,6 @@
 use Rattle.std.proofs.Common.{◌≡◌, drop}
 use Rattle.tstp_graph.specs.Meaning.{with_refs}
-use Rattle.tstp_graph.specs.RefSets.{AreMembers}
+use Rattle.tstp_graph.specs.code.RefSets.{AreMembers}
 use Rattle.tstp_graph.proofs.refs.RefSet.with_all.Given as goal
 
 abbrev pub invariant-loop-parent : goal.invariant-loop-parent

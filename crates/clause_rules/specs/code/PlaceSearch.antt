@@ -1,0 +1,42 @@
+-- All places of a literal, in order, and terms below other ones.
+use Rattle.std.specs.Prelude.{ℕ, List, [], ◌∷◌, ◌++◌, map, slice_get, slice_set, Option, Some, None}
+use Rattle.std.proofs.Common.{suc}
+use Rattle.fof_terms.specs.declared.term.Term.{Term, Var, App}
+use Rattle.fof_terms.specs.declared.term.Term.TheFolds.{fold-Term}
+use Rattle.clause_form.specs.declared.clause.Lit.{Lit}
+use Rattle.clause_rules.specs.Places.{args_of, with_args, args_of_atom}
+use Rattle.fof_terms.specs.declared.term.Term.TheOpen as term
+
+-- the places in each of the terms, which are numbered from n on below these steps
+abbrev pub numbered : List (List ℕ → List (List ℕ)) → List ℕ → ℕ → List (List ℕ)
+numbered [] steps n = []
+numbered (g ∷ gs) steps n = g (steps ++ n ∷ []) ++ numbered gs steps (suc n)
+
+abbrev pub place_step : term.Term-F (List ℕ → List (List ℕ)) → List ℕ → List (List ℕ)
+place_step (term.Var k) steps = steps ∷ []
+place_step (term.App f gs) steps = steps ∷ numbered gs steps 0
+
+-- the places of a term and within it, below these steps
+unfoldable pub places_within : Term → List ℕ → List (List ℕ)
+places_within = fold-Term (List ℕ → List (List ℕ)) place_step
+
+abbrev pub places_of : Lit → List (List ℕ)
+places_of k = numbered (map places_within (args_of_atom k.atom)) [] 0
+
+abbrev pub go_on : (Term → Option Term) → Option Term → Option Term
+go_on way None = None
+go_on way (Some t) = way t
+
+-- the term so many steps below a term
+abbrev pub below : List ℕ → Term → Option Term
+below [] t = Some t
+below (n ∷ steps) t = go_on (below steps) (slice_get (args_of t) n)
+
+abbrev pub set_on : (Term → Term) → Option Term → ℕ → List Term → List Term
+set_on way None n ts = ts
+set_on way (Some t) n ts = slice_set ts n (way t)
+
+-- the term with another one so many steps below
+abbrev pub put_below : List ℕ → Term → Term → Term
+put_below [] u t = u
+put_below (n ∷ steps) u t = with_args t (set_on (put_below steps u) (slice_get (args_of t) n) n (args_of t))

@@ -1,0 +1,13 @@
+-- What private contracts alone say of the code. Nothing public rests on this.
+pub mod Alongside
+pub mod Bound
+pub mod Connectives
+pub mod Fitting
+pub mod Joining
+pub mod Links
+pub mod Numbering
+pub mod Placed
+pub mod Recursion
+pub mod Routes
+pub mod Settled
+pub mod Steps

@@ -1,0 +1,4 @@
+-- What private contracts alone say of the code. Nothing public rests on this.
+pub mod Concludes
+pub mod Hypotheses
+pub mod Rules

@@ -1,0 +1,5 @@
+-- What private contracts alone say of the code. Nothing public rests on this.
+pub mod Denotation
+pub mod Namesakes
+pub mod Outcomes
+pub mod Texts

@@ -1,0 +1,10 @@
+-- What private contracts alone say of the code. Nothing public rests on this.
+pub mod Answers
+pub mod Outcomes
+pub mod ReadClauses
+pub mod ReadFile
+pub mod ReadFormulas
+pub mod ReadGeneral
+pub mod ReadItems
+pub mod ReadTerms
+pub mod ReadTypes

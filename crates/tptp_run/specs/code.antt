@@ -1,0 +1,6 @@
+-- What private contracts alone say of the code. Nothing public rests on this.
+pub mod Answer
+pub mod Ending
+pub mod Options
+pub mod Sources
+pub mod Stop

@@ -1,0 +1,41 @@
+-- What the code that runs one line has done.
+use Rattle.std.specs.Prelude.{ℕ, ◌≡◌, ⊤, List, [], ◌∷◌, ◌++◌, Option}
+use Rattle.tptp_base.specs.Sink.{Takes}
+use Rattle.fof_terms.specs.declared.form.Form.{Form}
+use Rattle.kernel.specs.Statements.{Statements}
+use Rattle.kernel.specs.Entries.{Admits}
+use Rattle.kernel.specs.declared.entry.Entry.{Entry}
+use Rattle.proof_log.specs.Entries.{HaveNumbersInRange}
+use Rattle.derive_kit.specs.Derived.{with_formulas}
+use Rattle.elaborate.specs.declared.answer.StepAnswer.{StepAnswer}
+use Rattle.verifier.specs.Lines.{Derivation, Line, IsLineAt, parents_of}
+use Rattle.verifier.specs.Logged.{entries_text}
+use Rattle.verifier.specs.Run.{Progress, IsAnswered, with_line}
+use Rattle.verifier.specs.declared.answer.LineAnswer.{LineAnswer}
+use Rattle.verifier.specs.declared.answer.LineAnswer.TheVariants.{Accepted, Unverified}
+use Rattle.elaborate.specs.declared.answer.StepAnswer.TheVariants as step
+
+-- the entries of the answer, if there are any, add some formulas to the theory, and this one last
+abbrev pub Adds : Statements → Form → StepAnswer → Type 0
+Adds t form (step.Accepted rule cites entries) = (before : List Form) × Admits t entries (with_formulas t (before ++ form ∷ []))
+Adds t form (step.Unverified reason) = ⊤
+
+-- the entries of the answer, if there are any, add some formula last
+abbrev pub CanTake : Statements → StepAnswer → Type 0
+CanTake t answer = (form : Form) × Adds t form answer
+
+-- the answer of a line at this place is taken: its entries, if there are any, are added and logged, and the line has the
+-- number of the last formula
+abbrev pub TakesAnswer : StepAnswer → Progress → ℕ → LineAnswer → Progress → Option (List ℕ) → Option (List ℕ) → Type 0
+TakesAnswer (step.Accepted rule cites entries) old place answer new log_old log_new =
+    (answer ≡ Accepted rule cites) × Admits old.theory entries new.theory × (new ≡ with_line old place new.theory) × Takes log_old log_new (entries_text entries) × HaveNumbersInRange entries
+TakesAnswer (step.Unverified reason) old place answer new log_old log_new = (answer ≡ Unverified reason) × (new ≡ old) × (log_new ≡ log_old)
+
+-- the line at this place is answered, and the entries of the answer are logged
+pub record AnswersLine (d : Derivation) (old : Progress) (place : ℕ) (answer : LineAnswer) (new : Progress) (log_old log_new : Option (List ℕ)) : Type 0 where
+  pub line : Line
+  pub there : IsLineAt d place line
+  pub entries : List Entry
+  pub is : IsAnswered d.given old place line (parents_of d.given d.forms old.numbers line.node.parents) answer entries new
+  pub taken : Takes log_old log_new (entries_text entries)
+  pub in_range : HaveNumbersInRange entries
