@@ -7,9 +7,8 @@ use Rattle.std.proofs.lemmas.List.Elements.{All-from_recursion, recursion_from_A
 use Rattle.std.proofs.lemmas.Option.{slice_get-get_or}
 use Rattle.fof_terms.specs.declared.form.Form.{Form, Or, All}
 use Rattle.fof_terms.specs.Vocabulary.{Vocabulary}
-use Rattle.fof_terms.specs.Sorts.{IsScope, SortedTo, Sorted}
+use Rattle.fof_terms.specs.Sorts.{IsScope, SortedTo, Sorted, is_sorted, binder_depth}
 use Rattle.fof_terms.proofs.Scoped.{sorted_of_all, sorted_of_or, member_of}
-use Rattle.fof_terms.specs.Sorts.{is_sorted, binder_depth}
 use Rattle.fof_terms.proofs.SortsFacts.{is_sorted-Atom, is_sorted-Eq, is_sorted-Not, is_sorted-And, is_sorted-Or, binder_depth-Atom, binder_depth-Eq, binder_depth-Not, binder_depth-And, binder_depth-Or}
 use Rattle.clause_form.specs.declared.clause.AtomOf.{AtomOf}
 use Rattle.clause_form.specs.declared.clause.AtomOf.TheVariants.{Pred, Eq as Equation, True, False}

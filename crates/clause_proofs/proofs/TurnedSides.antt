@@ -9,9 +9,8 @@ use Rattle.fof_terms.proofs.LiftFacts.{lift_reach-Eq}
 use Rattle.fof_terms.specs.Instance.{instance_at, instance_term}
 use Rattle.fof_terms.proofs.InstanceFacts.{instance_at-Eq}
 use Rattle.fof_terms.proofs.LiftingLaws.{here, instance_of_lifted}
-use Rattle.fof_terms.specs.Sorts.{sort_of_term}
+use Rattle.fof_terms.specs.Sorts.{sort_of_term, IsScope, Sorted}
 use Rattle.fof_terms.proofs.SortsFacts.{sort_of_term-Var}
-use Rattle.fof_terms.specs.Sorts.{IsScope, Sorted}
 use Rattle.fof_terms.proofs.Scoped.{eq_sorted, not_sorted, sorted_of_not}
 use Rattle.fof_terms.proofs.Reaches.{lift_fits}
 use Rattle.fof_terms.proofs.Walks.{lifted_sort}
@@ -25,7 +24,8 @@ use Rattle.kernel.specs.Proves.{Proves}
 use Rattle.kernel.proofs.Building.{by_hyp, by_refl, by_subst, by_not_i, by_not_e}
 use Rattle.kernel.specs.declared.proof.Proof.{Proof, Hyp, Refl, Subst, NotI, NotE}
 use Rattle.clause_proofs.specs.Refuting.{theory_of}
-use Rattle.clause_proofs.specs.code.Refuting.{IsTurned, ShowsFrom}
+use Rattle.clause_proofs.specs.Turning.{IsTurned}
+use Rattle.clause_proofs.specs.code.Refuting.{ShowsFrom}
 use Rattle.clause_proofs.proofs.Peeling.{lifted_nothing}
 
 hole_at : (x l : Term) → instance_at x 0 (Eq (Var 0) (lifted_term 1 0 l)) ≡ Eq x l

@@ -3,4 +3,5 @@ pub mod Closed
 pub mod Premises
 pub mod Refuting
 pub mod Shown
+pub mod Turning
 pub mod code

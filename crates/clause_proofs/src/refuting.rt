@@ -5,15 +5,19 @@ ghost use Rattle.fof_terms.specs.Scope.{scope_sorts};
 ghost use Rattle.fof_terms.specs.Sorts.{Sorted};
 ghost use Rattle.clause_form.specs.ClauseView.{form_of_lit as lit_form};
 ghost use Rattle.clause_form.specs.Covers.{AreComplementary, AreSorted, negated as opposite_of};
+ghost use Rattle.clause_form.specs.ClauseView.{stated};
+ghost use Rattle.clause_form.specs.declared.clause.AtomOf.TheVariants.{True};
+ghost use Rattle.clause_rules.specs.Steps.{AreCovered};
 ghost use Rattle.clause_proofs.specs.Bodies.{body_of};
 ghost use Rattle.clause_proofs.specs.code.Refuting.{AllRefute, RefutesUnder};
 ghost use Rattle.clause_proofs.specs.Refuting.{AllSettled, IsDenial, IsGoal, IsSettled, RefutesBody, RefutesIn, ShowsBody, ShowsUnder, body};
 
 use crate::covering::contrary;
+use crate::nodes::truth;
 use crate::opening::Opened;
 use crate::premises::Premise;
 use crate::turning::atom_by;
-use clause_form::{Lit, are_complementary, form_of_atom, form_of_lit};
+use clause_form::{AtomOf, Lit, are_complementary, form_of_atom, form_of_lit};
 use derive_kit::{Part, cases, cut_under, hyp, not_e, not_i, raa};
 use fof_terms::{Form, Scope, Signature};
 use kernel::Proof;
@@ -162,5 +166,35 @@ pub fn by_pivot(
     let fact = denial(alloc, pivot, under)?;
     let other = negated(alloc, pivot)?;
     let rest = refuted(alloc, signature, scope, line, premise, &other)?;
+    cut_under(alloc, fact, form_of_lit(alloc, &other)?, rest)
+}
+
+// The literal truth.
+fn true_lit() -> Lit
+    ensures { result ≡ stated True }
+{
+    Lit {
+        positive: true,
+        atom: AtomOf::True,
+    }
+}
+
+/// Falsehood under the negation of the line's body, by an instance each of whose literals the line covers.
+pub fn refute_covered(
+    alloc: Global,
+    signature: &Signature,
+    scope: &Scope<'_>,
+    line: &Opened,
+    premise: Premise,
+) -> Result<Part, Memory>
+    requires covered { AreCovered line.now.clause.lits premise.lits }
+    requires goal { IsGoal signature.now (scope_sorts scope.now) line.now }
+    requires sorted { AreSorted signature.now (scope_sorts scope.now) premise.lits }
+    ensures { IfOk result (λ part. (formulas : ListOf Formula) → ShowsBody signature.now (scope_sorts scope.now) formulas premise.is_or premise.lits premise.part
+        → RefutesBody signature.now (scope_sorts scope.now) formulas (body line.now) part) }
+{
+    let other = true_lit();
+    let rest = refuted(alloc, signature, scope, line, premise, &other)?;
+    let fact = truth(alloc)?;
     cut_under(alloc, fact, form_of_lit(alloc, &other)?, rest)
 }

@@ -7,7 +7,8 @@ ghost use Rattle.fof_terms.specs.Sorts.{Sorted, sort_of_term};
 ghost use Rattle.clause_form.specs.declared.clause.AtomOf.TheVariants.{Eq as Equal};
 ghost use Rattle.clause_form.specs.ClauseView.{form_of_atom as atom_form, form_of_lit as lit_form};
 ghost use Rattle.clause_form.specs.Covers.{IsSame, IsSameAtom, turned_atom};
-ghost use Rattle.clause_proofs.specs.code.Refuting.{IsTurned, ShowsFrom};
+ghost use Rattle.clause_proofs.specs.Turning.{IsTurned};
+ghost use Rattle.clause_proofs.specs.code.Refuting.{ShowsFrom};
 
 use crate::nodes::refl;
 use clause_form::{AtomOf, Lit, form_of_atom};

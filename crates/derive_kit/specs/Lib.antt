@@ -1,4 +1,2 @@
 pub mod Derived
 pub mod Instances
-pub mod Placed
-pub mod code

@@ -36,10 +36,12 @@ use Rattle.elaborate.specs.ByRule.{Holds, IsFirst, IsNone, symbol_rules, GivesFi
 use Rattle.derive_kit.specs.Derived.{AreOfTheory, IsDerivedFrom, numbers_of}
 use Rattle.derive_kit.proofs.DerivedFacts.{derived_by_lemma}
 use Rattle.elaborate.specs.Answers.{IsStepAnswer, IsLeafAnswer}
-use Rattle.clause_proofs.specs.Shown.{ShowsLine, IsByRule}
+use Rattle.clause_proofs.specs.Shown.{ShowsLine}
+use Rattle.rule_proofs.specs.ByRule.{IsByRule}
 use Rattle.elaborate.specs.code.Proofs.{IsFound, CoversAlone, CoversNowhere, IsCoverAlone, IsFromFirst, IsFirstCover}
 use Rattle.clause_proofs.specs.Refuting.{theory_of}
-use Rattle.clause_proofs.proofs.NormLines.{norm_there, of_theory, parent_at, parent_ready}
+use Rattle.rule_proofs.proofs.NormLines.{norm_there}
+use Rattle.clause_proofs.proofs.ReadyParents.{of_theory, parent_at, parent_ready}
 
 module _ (t u : Statements) where
   abbrev Own : Parent → Type 0

@@ -11,7 +11,7 @@ ghost use Rattle.elaborate.specs.code.Proofs.{IsCoverAlone, IsFirstCover};
 use crate::answer::{Reason, Rule, StepAnswer};
 use crate::steps::lemma;
 use clause_form::Parent;
-use clause_proofs::{by_cover, normed};
+use rule_proofs::{by_cover, normed};
 use clause_rules::first_norm;
 use derive_kit::Part;
 use fof_terms::{Form, Signature};

@@ -2,16 +2,17 @@
 ghost use Rattle.std.specs.Prelude.{OnOk};
 ghost use Rattle.std.specs.List.{list_any};
 ghost use Rattle.fof_terms.specs.Occurs.{occurs_in, occurs_in_term};
-ghost use Rattle.fof_terms.specs.Standing.{GainsOnly};
+ghost use Rattle.fof_terms.specs.Standing.{AppendsOnly, GainsOnly};
 
 use crate::form::Form;
 use crate::term::{SymId, Term};
 use tptp_base::{List, Memory};
 
-/// Adds the symbols that stand in the term to the list, and no others.
+/// Appends the symbols that stand in the term to the list, and no others; only some of them, where memory runs out.
 #[cycle(symbols_of_term)]
 pub fn symbols_of_term(term: &Term, symbols: &mut List<SymId>) -> Result<(), Memory>
-    ensures { OnOk result (GainsOnly symbols.old (λ symbol. occurs_in_term symbol term.now) symbols.new) }
+    ensures ok { OnOk result (GainsOnly symbols.old (λ symbol. occurs_in_term symbol term.now) symbols.new) }
+    ensures appended { AppendsOnly symbols.old (λ symbol. occurs_in_term symbol term.now) symbols.new }
 {
     match term {
         Term::Var(_) => Ok(()),
@@ -23,10 +24,11 @@ pub fn symbols_of_term(term: &Term, symbols: &mut List<SymId>) -> Result<(), Mem
     }
 }
 
-/// Adds the symbols that stand in the terms to the list, and no others.
+/// Appends the symbols that stand in the terms to the list, and no others; only some of them, where memory runs out.
 #[cycle(symbols_of_term)]
 pub fn symbols_of_terms(terms: &[Term], symbols: &mut List<SymId>) -> Result<(), Memory>
-    ensures { OnOk result (GainsOnly symbols.old (λ symbol. list_any (occurs_in_term symbol) terms.now) symbols.new) }
+    ensures ok { OnOk result (GainsOnly symbols.old (λ symbol. list_any (occurs_in_term symbol) terms.now) symbols.new) }
+    ensures appended { AppendsOnly symbols.old (λ symbol. list_any (occurs_in_term symbol) terms.now) symbols.new }
 {
     for term in terms {
         symbols_of_term(term, symbols)?;
@@ -34,10 +36,11 @@ pub fn symbols_of_terms(terms: &[Term], symbols: &mut List<SymId>) -> Result<(),
     Ok(())
 }
 
-/// Adds the symbols that stand in the formula to the list, and no others.
+/// Appends the symbols that stand in the formula to the list, and no others; only some of them, where memory runs out.
 #[cycle(symbols_of)]
 pub fn symbols_of(form: &Form, symbols: &mut List<SymId>) -> Result<(), Memory>
-    ensures { OnOk result (GainsOnly symbols.old (λ symbol. occurs_in symbol form.now) symbols.new) }
+    ensures ok { OnOk result (GainsOnly symbols.old (λ symbol. occurs_in symbol form.now) symbols.new) }
+    ensures appended { AppendsOnly symbols.old (λ symbol. occurs_in symbol form.now) symbols.new }
 {
     match form {
         Form::Atom(head, args) => {
@@ -60,10 +63,11 @@ pub fn symbols_of(form: &Form, symbols: &mut List<SymId>) -> Result<(), Memory>
     }
 }
 
-/// Adds the symbols that stand in the formulas to the list, and no others.
+/// Appends the symbols that stand in the formulas to the list, and no others; only some of them, where memory runs out.
 #[cycle(symbols_of)]
 pub fn symbols_of_all(forms: &[Form], symbols: &mut List<SymId>) -> Result<(), Memory>
-    ensures { OnOk result (GainsOnly symbols.old (λ symbol. list_any (occurs_in symbol) forms.now) symbols.new) }
+    ensures ok { OnOk result (GainsOnly symbols.old (λ symbol. list_any (occurs_in symbol) forms.now) symbols.new) }
+    ensures appended { AppendsOnly symbols.old (λ symbol. list_any (occurs_in symbol) forms.now) symbols.new }
 {
     for form in forms {
         symbols_of(form, symbols)?;

@@ -12,4 +12,6 @@ pub mod OneText
 pub mod OneAnswer
 pub mod ResolvedItems
 pub mod SomeAnswer
+pub mod Sizes
+pub mod SpelledItems
 pub mod PathFacts

@@ -1,5 +1,5 @@
 -- What the laws of the walk through files, and of a resolved problem, say.
-use Rattle.std.specs.Prelude.{⊤, ℕ, ◌<◌, Some}
+use Rattle.std.specs.Prelude.{⊤, ℕ, ◌<◌, List, Contains, Some}
 use Rattle.std.specs.declared.option.Option.{Option}
 use Rattle.tptp_base.specs.declared.item.Item.{Item}
 use Rattle.tptp_base.specs.declared.item.Item.TheVariants.{Comment, Formula, Include}
@@ -7,6 +7,7 @@ use Rattle.tptp_base.specs.Store.{Files}
 use Rattle.include_resolve.specs.Names.{Text}
 use Rattle.include_resolve.specs.Parts.{Answer}
 use Rattle.include_resolve.specs.Resolved.{Resolves}
+use Rattle.include_resolve.specs.Texts.{IsSpelled}
 
 -- the file gives an answer, with all that it includes
 abbrev pub HasAnswer : Files → Option Text → Text → Type 0
@@ -17,3 +18,8 @@ abbrev pub IsResolvedItem : ℕ → Item → Type 0
 IsResolvedItem files (Formula formula) = formula.place.file < files
 IsResolvedItem files (Comment text) = ⊤
 IsResolvedItem files (Include inclusion) = ⊥
+
+-- the item is one of those that the text of some file spells
+abbrev pub IsOfSomeText : Item → Type 0
+IsOfSomeText item =
+    (number : ℕ) × (text : Text) × (items : List Item) × IsSpelled number text items × Contains items item

@@ -1,8 +1,9 @@
 //! Laws of the definitions. Their bodies are empty: what they say is in their contracts.
 ghost use Rattle.std.specs.Prelude.{◌≡◌, ℕ, List, All, Option, Some, Ok, length};
+ghost use Rattle.tptp_base.specs.Sizes.{IsWithin, size_of_items};
 ghost use Rattle.tptp_base.specs.Store.{Files};
 ghost use Rattle.include_resolve.specs.declared.problem.Problem.{Problem};
-ghost use Rattle.include_resolve.specs.Laws.{HasAnswer, IsResolvedItem};
+ghost use Rattle.include_resolve.specs.Laws.{HasAnswer, IsOfSomeText, IsResolvedItem};
 ghost use Rattle.include_resolve.specs.Parts.{Answer};
 ghost use Rattle.include_resolve.specs.Resolved.{Resolves};
 
@@ -18,4 +19,17 @@ pub fn one_answer()
 pub fn all_includes_are_replaced()
     ensures { (told : Option Files) (root : Option (List ℕ)) (name : List ℕ) (problem : Problem) →
         Resolves told root name (Ok problem) → All (IsResolvedItem (length problem.files)) problem.items }
+{}
+
+/// Each item of a resolved problem is one that some text spells. Over every store.
+pub fn resolved_items_are_spelled()
+    ensures { (told : Option Files) (root : Option (List ℕ)) (name : List ℕ) (problem : Problem) →
+        Resolves told root name (Ok problem) → All IsOfSomeText problem.items }
+{}
+
+/// A resolved problem is no larger than what was read. It has at most as many items as bytes were read, no list in them
+/// has more members, and all of them together have no more variables. Over every store.
+pub fn a_problem_is_within_what_was_read()
+    ensures { (told : Option Files) (root : Option (List ℕ)) (name : List ℕ) (problem : Problem) →
+        Resolves told root name (Ok problem) → IsWithin problem.read (size_of_items problem.items) }
 {}

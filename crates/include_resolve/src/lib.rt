@@ -15,6 +15,9 @@ mod selection;
 mod spelling;
 
 pub use fault::{IncludeFault, TextFault};
-pub use law::{all_includes_are_replaced, one_answer};
+pub use law::{
+    a_problem_is_within_what_was_read, all_includes_are_replaced, one_answer,
+    resolved_items_are_spelled,
+};
 pub use problem::{MAX_DEPTH, Problem, TOTAL_SIZE};
 pub use resolving::resolve;

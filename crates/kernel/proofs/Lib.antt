@@ -4,6 +4,7 @@ pub mod ConcludedOver
 pub mod ConcludedLists
 pub mod Added
 pub mod Marked
+pub mod OneFormula
 pub mod Building
 pub mod EntryLaws
 pub mod HypothesesFacts

@@ -1,7 +1,6 @@
 -- When a theory takes an entry, what it is then, and when entries refute a theory.
-use Rattle.std.specs.Prelude.{ℕ, ◌≡◌, ◌<◌, false, List, [], ◌∷◌, ◌++◌, length, reverse, slice_get, Some}
+use Rattle.std.specs.Prelude.{ℕ, zero, suc, ◌≡◌, ◌<◌, false, List, [], ◌∷◌, ◌++◌, length, reverse, slice_get, Some}
 use Rattle.std.specs.List.{All}
-use Rattle.std.proofs.Common.{zero, suc}
 use Rattle.fof_terms.specs.Vocabulary.{IsDeclared}
 use Rattle.fof_terms.specs.Sorts.{Sorted}
 use Rattle.fof_terms.specs.Occurs.{occurs_in}

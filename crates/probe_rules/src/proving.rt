@@ -5,7 +5,7 @@ ghost use Rattle.clause_form.specs.Paths.{reached};
 ghost use Rattle.clause_form.specs.Sizes.{norm_size_of};
 ghost use Rattle.clause_form.specs.declared.clause.Clause.{Clause as Found};
 ghost use Rattle.derive_kit.specs.Instances.{IsInstance};
-ghost use Rattle.derive_kit.specs.Placed.{SortedSomewhere};
+ghost use Rattle.norm_proofs.specs.Placed.{SortedSomewhere};
 ghost use Rattle.fof_terms.specs.Instance.{instance_at};
 ghost use Rattle.fof_terms.specs.Sorts.{Sorted, sort_of_term};
 ghost use Rattle.fof_terms.specs.declared.form.Form.{Eq, Form as Formula, Imp, Or};
@@ -17,9 +17,8 @@ ghost use Rattle.std.specs.Prelude.{IfOk, List, Some, length, true, ℕ, ◌∷�
 
 use crate::{Control, Probe};
 use clause_form::Path;
-use derive_kit::{
-    Part, cases, cut_under, instance_of, norm_back, norm_forth, path_proof, rewrite_in,
-};
+use derive_kit::{Part, cases, cut_under, instance_of, rewrite_in};
+use norm_proofs::{norm_back, norm_forth, path_proof};
 use fof_terms::{Form, SortId, Term};
 use kernel::Proof;
 use std::alloc::Global;

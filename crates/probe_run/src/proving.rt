@@ -8,7 +8,7 @@ ghost use Rattle.kernel.specs.Proves.{Proves};
 ghost use Rattle.clause_rules.specs.Answers.{cover, norm, resolution};
 ghost use Rattle.clause_rules.specs.Steps.{AreReady, IsReady};
 ghost use Rattle.clause_proofs.specs.Refuting.{theory_of};
-ghost use Rattle.clause_proofs.specs.Shown.{AreAlike, IsByRule};
+ghost use Rattle.rule_proofs.specs.ByRule.{AreAlike, IsByRule};
 ghost use Rattle.derive_kit.specs.Derived.{AreOfTheory, IsDerivedFrom, numbers_of};
 ghost use Rattle.skolem_fresh.specs.Justified.{ShowsSkolem};
 ghost use Rattle.skolem_fresh.specs.SkolemRule.{forms_of};
@@ -16,7 +16,7 @@ ghost use Rattle.skolem_proofs.specs.Choosing.{ChooseAndEnd};
 
 use crate::{Control, Probe};
 use clause_form::Parent;
-use clause_proofs::{by_cover, by_norm, by_resolution, normed};
+use rule_proofs::{by_cover, by_norm, by_resolution, normed};
 use derive_kit::Part;
 use fof_terms::{Form, Signature};
 use kernel::{Entry, Theory};

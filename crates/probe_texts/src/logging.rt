@@ -3,7 +3,7 @@ ghost use Rattle.first_fault.specs.Nesting.{Within};
 ghost use Rattle.kernel.specs.Entries.{Refutes};
 ghost use Rattle.kernel.specs.declared.entry.Entry.{Entry as Logged};
 ghost use Rattle.proof_log.specs.Answers as answers;
-ghost use Rattle.proof_log.specs.Checks.{IsCheckFault, IsFaultedFor, IsFirstIllegal, IsNotRefuted};
+ghost use Rattle.proof_log.specs.Checks.{IsCheckFault, IsFaultedFor, IsFirstIllegal, IsNotRefuted, Leaves};
 ghost use Rattle.proof_log.specs.Entries.{AreLogged, AreNumbersInRange, entry_text, log_text, nested_log};
 ghost use Rattle.proof_log.specs.Logs.{IsFirstDeep, IsFirstFault};
 ghost use Rattle.std.specs.Prelude.{IfErr, IsErrOf, List, OnErr, OnOk, length, ℕ, ◌-◌, ◌<◌, ◌↔◌, ◌≡◌, ◌≤◌};
@@ -54,6 +54,7 @@ pub trait Logging {
     fn check_entries(theory: &mut Theory, entries: &[Entry]) -> Result<(), CheckFault>
         ensures ok { OnOk result (Refutes theory.old entries.now) }
         ensures fault { IfErr result (λ fault. IsCheckFault theory.old entries.now fault) }
+        ensures admitted { Leaves theory.old entries.now result theory.new }
         // Each of these answers comes wherever it is true, unless memory runs out.
         ensures refuted { Refutes theory.old entries.now → IfErr result (λ fault. fault ≡ CheckFault.Memory) }
         ensures illegal { (number : ℕ) → IsFirstIllegal theory.old entries.now number →

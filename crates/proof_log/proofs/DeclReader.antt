@@ -19,8 +19,7 @@ use Rattle.proof_log.specs.Words.{Word, word, at_level, nested}
 use Rattle.proof_log.specs.LogText.{number as number_text, numbers_text}
 use Rattle.tptp_base.specs.Quotable.{IsQuotable}
 use Rattle.proof_log.specs.Entries.{quoted as quoted_text, symbol_text, decl_text, HasNoResult, IsWritableDecl, IsSmall, AreSmall, AreNumbersInRange}
-use Rattle.proof_log.specs.Names.{decl_name}
-use Rattle.proof_log.specs.code.Names.{decl_names}
+use Rattle.proof_log.specs.code.Names.{decl_name, decl_names}
 use Rattle.proof_log.specs.code.ReadWords.{is_byte, find, number, listed, both, name, head}
 use Rattle.proof_log.specs.code.ReadEntries.{quoted, function_of, predicate_of, decl_by, declaration}
 use Rattle.proof_log.proofs.Spelling.{Spell, ends, ends_before, level-append}

@@ -14,8 +14,7 @@ use Rattle.proof_log.specs.declared.name.EntryName.TheVariants as n
 use Rattle.proof_log.specs.Words.{small, at_level, nested}
 use Rattle.proof_log.specs.LogText.{form_words, proof_words}
 use Rattle.proof_log.specs.Entries.{decl_text, IsLogged, nested_entry}
-use Rattle.proof_log.specs.Names.{entry_name}
-use Rattle.proof_log.specs.code.Names.{entry_names}
+use Rattle.proof_log.specs.code.Names.{entry_name, entry_names}
 use Rattle.proof_log.specs.code.ReadWords.{is_byte, find, number, both, name}
 use Rattle.proof_log.specs.code.ReadTrees.{behind, form, proof}
 use Rattle.proof_log.specs.code.ReadEntries.{declaration, entry_by, entry}

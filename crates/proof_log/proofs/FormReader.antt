@@ -15,8 +15,7 @@ use Rattle.proof_log.specs.declared.name.FormName.{FormName}
 use Rattle.proof_log.specs.declared.name.FormName.TheVariants as n
 use Rattle.proof_log.specs.Words.{Word, small, node, nested, AreInRange}
 use Rattle.proof_log.specs.LogText.{term_words, form_words, form_node}
-use Rattle.proof_log.specs.Names.{form_name}
-use Rattle.proof_log.specs.code.Names.{form_names}
+use Rattle.proof_log.specs.code.Names.{form_name, form_names}
 use Rattle.proof_log.specs.code.ReadWords.{find, number, listed, both}
 use Rattle.proof_log.specs.code.ReadTrees.{form_by, term, form}
 use Rattle.proof_log.proofs.Spelling.{Spell, ends, pair, good_pair, ranges-append, ranges-deeper}

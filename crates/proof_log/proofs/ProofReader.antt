@@ -16,8 +16,7 @@ use Rattle.proof_log.specs.declared.name.ProofName.{ProofName}
 use Rattle.proof_log.specs.declared.name.ProofName.TheVariants as n
 use Rattle.proof_log.specs.Words.{Word, small, large, node, nested, AreInRange}
 use Rattle.proof_log.specs.LogText.{term_words, form_words, proof_words, proof_node}
-use Rattle.proof_log.specs.Names.{proof_name}
-use Rattle.proof_log.specs.code.Names.{proof_names}
+use Rattle.proof_log.specs.code.Names.{proof_name, proof_names}
 use Rattle.proof_log.specs.code.ReadWords.{find, number, listed, both}
 use Rattle.proof_log.specs.code.ReadTrees.{proof_by, term, form, proof}
 use Rattle.proof_log.proofs.Spelling.{Spell, ends, pair, good_pair, ranges-append, ranges-deeper}

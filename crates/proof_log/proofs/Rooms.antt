@@ -4,8 +4,7 @@ use Rattle.proof_log.specs.declared.stop.Stop.{Stop}
 use Rattle.fof_terms.specs.declared.term.Term.{Term}
 use Rattle.fof_terms.specs.declared.form.Form.{Form}
 use Rattle.kernel.specs.declared.proof.Proof.{Proof}
-use Rattle.proof_log.specs.Names.{term_name, form_name, proof_name}
-use Rattle.proof_log.specs.code.Names.{term_names, form_names, proof_names}
+use Rattle.proof_log.specs.code.Names.{term_name, form_name, proof_name, term_names, form_names, proof_names}
 use Rattle.proof_log.specs.code.Outcomes.{Reads}
 use Rattle.proof_log.specs.code.ReadWords.{head}
 use Rattle.proof_log.specs.code.ReadTrees.{behind, term, term_by, form, form_by, proof, proof_by}

@@ -14,8 +14,7 @@ use Rattle.proof_log.specs.declared.name.TermName.{TermName}
 use Rattle.proof_log.specs.declared.name.TermName.TheVariants as n
 use Rattle.proof_log.specs.Words.{Word, small, node, nested, AreInRange}
 use Rattle.proof_log.specs.LogText.{term_words, term_node}
-use Rattle.proof_log.specs.Names.{term_name}
-use Rattle.proof_log.specs.code.Names.{term_names}
+use Rattle.proof_log.specs.code.Names.{term_name, term_names}
 use Rattle.proof_log.specs.code.ReadWords.{find, number, listed, both}
 use Rattle.proof_log.specs.code.ReadTrees.{term_by, term}
 use Rattle.proof_log.proofs.Spelling.{Spell, ends, pair, good_pair, ranges-deeper}

@@ -1,4 +1,4 @@
--- Why entries do not refute a theory.
+-- Why entries do not refute a theory, and what a check leaves of the theory.
 use Rattle.std.specs.Prelude.{◌≡◌, ◌⊎◌, ℕ, List, take, slice_get, Some, Result, Ok, Err}
 use Rattle.kernel.specs.Statements.{Statements, IsRefuted}
 use Rattle.kernel.specs.Entries.{Legal, Admits}
@@ -30,3 +30,11 @@ IsCheckFault t entries fault.Memory = Unit {0}
 abbrev pub IsFaultedFor : CheckFault → Result (Unit {0}) CheckFault → Type 0
 IsFaultedFor expected (Ok done) = ⊥
 IsFaultedFor expected (Err e) = (e ≡ expected) ⊎ (e ≡ fault.Memory)
+
+-- The theory has the entries before the one that is not legal, or all of them. Where memory ran out, it has some number
+-- of the first.
+abbrev pub Leaves : Statements → List Entry → Result (Unit {0}) CheckFault → Statements → Type 0
+Leaves t entries (Ok done) u = Admits t entries u
+Leaves t entries (Err (fault.Illegal number)) u = Admits t (take number entries) u
+Leaves t entries (Err fault.NotRefuted) u = Admits t entries u
+Leaves t entries (Err fault.Memory) u = (number : ℕ) × Admits t (take number entries) u

@@ -3,6 +3,5 @@ pub mod Checks
 pub mod Entries
 pub mod LogText
 pub mod Logs
-pub mod Names
 pub mod Words
 pub mod code

@@ -1,7 +1,7 @@
 // The entries of a log are checked.
 ghost use Rattle.std.specs.Prelude.{◌≡◌, ℕ, IfErr, OnOk};
 ghost use Rattle.kernel.specs.Entries.{Refutes};
-ghost use Rattle.proof_log.specs.Checks.{IsCheckFault, IsFaultedFor, IsFirstIllegal, IsNotRefuted};
+ghost use Rattle.proof_log.specs.Checks.{IsCheckFault, IsFaultedFor, IsFirstIllegal, IsNotRefuted, Leaves};
 
 use kernel::{AdmitFault, Entry, Theory};
 use thiserror::Error;
@@ -23,11 +23,13 @@ pub enum CheckFault {
 ///
 /// # Errors
 ///
-/// As `CheckFault` tells them. The theory has then the entries before the first illegal one, or all.
+/// As `CheckFault` tells them. The theory has then the entries before the first illegal one, or all; after want of
+/// memory some of the first.
 #[tactic(auto, using(crate::proofs::OneTheory::illegal_alone, crate::proofs::OneTheory::unrefuted_alone))]
 pub fn check_entries(theory: &mut Theory, entries: &[Entry]) -> Result<(), CheckFault>
     ensures ok { OnOk result (Refutes theory.old entries.now) }
     ensures fault { IfErr result (λ fault. IsCheckFault theory.old entries.now fault) }
+    ensures admitted { Leaves theory.old entries.now result theory.new }
     // Each of these answers comes wherever it is true, unless memory runs out.
     ensures refuted { Refutes theory.old entries.now → IfErr result (λ fault. fault ≡ CheckFault.Memory) }
     ensures illegal { (number : ℕ) → IsFirstIllegal theory.old entries.now number → IsFaultedFor (CheckFault.Illegal number) result }
@@ -40,6 +42,7 @@ pub fn check_entries(theory: &mut Theory, entries: &[Entry]) -> Result<(), Check
 fn admit_all(theory: &mut Theory, entries: &[Entry]) -> Result<(), CheckFault>
     ensures ok { OnOk result (Refutes theory.old entries.now) }
     ensures fault { IfErr result (λ fault. IsCheckFault theory.old entries.now fault) }
+    ensures admitted { Leaves theory.old entries.now result theory.new }
 {
     for (number, entry) in entries.iter().enumerate() {
         match theory.admit(entry) {

@@ -1,6 +1,5 @@
 // Entries are read. The room is how deep trees may nest.
-ghost use Rattle.proof_log.specs.Names.{decl_name, entry_name};
-ghost use Rattle.proof_log.specs.code.Names.{decl_names, entry_names};
+ghost use Rattle.proof_log.specs.code.Names.{decl_name, entry_name, decl_names, entry_names};
 ghost use Rattle.proof_log.specs.code.ReadWords.{number, listed, head, name as a_name};
 ghost use Rattle.proof_log.specs.code.ReadTrees.{behind};
 ghost use Rattle.proof_log.specs.code.ReadEntries as spec;

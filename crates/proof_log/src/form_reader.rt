@@ -1,8 +1,7 @@
 // Forms are read. The room is how deep trees may still nest. Each function has few values of its own, since as many
 // calls of it may be open as trees may nest.
 ghost use Rattle.proof_log.specs.code.ReadWords.{listed, head};
-ghost use Rattle.proof_log.specs.Names.{form_name};
-ghost use Rattle.proof_log.specs.code.Names.{form_names};
+ghost use Rattle.proof_log.specs.code.Names.{form_name, form_names};
 ghost use Rattle.proof_log.specs.code.ReadTrees as spec;
 ghost use Rattle.proof_log.specs.code.Outcomes.{Reads};
 

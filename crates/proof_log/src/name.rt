@@ -1,6 +1,6 @@
 // The names that begin the lines and the trees of a log.
 ghost use Rattle.std.specs.Prelude.{◌≡◌, ℕ, List};
-ghost use Rattle.proof_log.specs.Names as names;
+ghost use Rattle.proof_log.specs.code.Names as names;
 
 use crate::write::HEADER;
 

@@ -1,8 +1,7 @@
 // Proofs are read. The room is how deep trees may still nest. Each function has few values of its own, since as many
 // calls of it may be open as trees may nest.
 ghost use Rattle.proof_log.specs.code.ReadWords.{listed, head};
-ghost use Rattle.proof_log.specs.Names.{proof_name};
-ghost use Rattle.proof_log.specs.code.Names.{proof_names};
+ghost use Rattle.proof_log.specs.code.Names.{proof_name, proof_names};
 ghost use Rattle.proof_log.specs.code.ReadTrees as spec;
 ghost use Rattle.proof_log.specs.code.Outcomes.{Reads};
 

@@ -3,8 +3,7 @@ ghost use Rattle.std.specs.Prelude.{◌≡◌, ◌<◌, ◌≤◌, ◌-◌, ◌�
 ghost use Rattle.first_fault.specs.Nesting.{Within};
 ghost use Rattle.kernel.specs.declared.entry.Entry.{Entry as Logged};
 ghost use Rattle.tptp_base.specs.declared.read.TheConstants.{FILE_SIZE as max_size};
-ghost use Rattle.proof_log.specs.Names.{version_line};
-ghost use Rattle.proof_log.specs.code.Names.{versions};
+ghost use Rattle.proof_log.specs.code.Names.{version_line, versions};
 ghost use Rattle.proof_log.specs.code.ReadWords.{name as a_name};
 ghost use Rattle.proof_log.specs.code.ReadEntries as spec;
 ghost use Rattle.proof_log.specs.Entries.{AreLogged, log_text, nested_log};

@@ -2,8 +2,7 @@
 // calls of it may be open as trees may nest.
 ghost use Rattle.first_fault.specs.code.Reading.{mapped};
 ghost use Rattle.proof_log.specs.code.ReadWords.{number, listed, head};
-ghost use Rattle.proof_log.specs.Names.{term_name};
-ghost use Rattle.proof_log.specs.code.Names.{term_names};
+ghost use Rattle.proof_log.specs.code.Names.{term_name, term_names};
 ghost use Rattle.proof_log.specs.code.ReadTrees as spec;
 ghost use Rattle.proof_log.specs.code.Outcomes.{Reads};
 

@@ -1,12 +1,10 @@
 ghost use Rattle.std.specs.Prelude.{◌≡◌, ◌≤◌, true};
 ghost use Rattle.clause_form.specs.Sizes.{norm_size_of};
-ghost use Rattle.derive_kit.specs.Placed.{SortedSomewhere};
+ghost use Rattle.norm_proofs.specs.Placed.{SortedSomewhere};
 
 use clause_form::{Path, clause_of_path, norm_size};
-use derive_kit::{
-    Part, and_e, cases, cut_under, hyp, imp_e, imp_i, instance_of, norm_back, norm_forth, or_i,
-    path_proof, rewrite_in,
-};
+use derive_kit::{Part, and_e, cases, cut_under, hyp, imp_e, imp_i, instance_of, or_i, rewrite_in};
+use norm_proofs::{norm_back, norm_forth, path_proof};
 use fof_terms::{Form, Kind, Signature, SortId, Symbol, Term, equal, well_sorted};
 use kernel::{Entry, Theory};
 use std::alloc::Global;

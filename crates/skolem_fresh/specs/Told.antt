@@ -1,6 +1,5 @@
 -- The entries by which functions come in that choose, and what they show.
-use Rattle.std.specs.Prelude.{ℕ, ◌≡◌, List, [], ◌∷◌, slice_get, Some}
-use Rattle.std.proofs.Common.{suc}
+use Rattle.std.specs.Prelude.{ℕ, suc, ◌≡◌, List, [], ◌∷◌, slice_get, Some}
 use Rattle.fof_terms.specs.declared.signature.Symbol.{Symbol}
 use Rattle.fof_terms.specs.Sorts.{Sorted}
 use Rattle.kernel.specs.Statements.{Statements}

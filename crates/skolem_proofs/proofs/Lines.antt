@@ -23,7 +23,7 @@ use Rattle.kernel.specs.declared.proof.Proof.{Proof, Line, ImpE}
 use Rattle.kernel.specs.declared.entry.Entry.{Entry}
 use Rattle.kernel.specs.declared.entry.Entry.TheVariants.{Lemma}
 use Rattle.derive_kit.specs.Derived.{AreOfTheory, numbers_of, HasCited, Adds, IsDerivedFrom, with_formulas}
-use Rattle.derive_kit.specs.Placed.{SortedSomewhere}
+use Rattle.norm_proofs.specs.Placed.{SortedSomewhere}
 use Rattle.skolem_fresh.specs.declared.just.Use.{Use}
 use Rattle.skolem_fresh.specs.declared.just.SkolemJust.{SkolemJust}
 use Rattle.skolem_fresh.specs.declared.just.SkolemJust.TheVariants.{Skolem, Choice}

@@ -16,7 +16,7 @@ use Rattle.skolem_fresh.proofs.Walking.{first_of}
 use Rattle.skolem_proofs.specs.code.Witnessed.{arm, arms, cases, IsWitnessed, AreWitnessed, none, more}
 use Rattle.skolem_proofs.specs.code.Witnessing.{Goes, MayGo, Went, AllGo, MayAllGo, WentSoFar}
 use Rattle.clause_form.proofs.SizesFacts.{norm_size_of-And}
-use Rattle.derive_kit.proofs.NormsFacts.{few_members}
+use Rattle.norm_proofs.proofs.NormsFacts.{few_members}
 use Rattle.skolem_proofs.proofs.Walked.{proofs_length, each_arm}
 
 -- One formula after another.

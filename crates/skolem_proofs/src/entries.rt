@@ -5,7 +5,7 @@ ghost use Rattle.fof_terms.specs.Sorts.{SortedTo};
 ghost use Rattle.clause_form.specs.declared.path.Parent.{Parent as Stated};
 ghost use Rattle.clause_form.specs.Sizes.{norm_size_of};
 ghost use Rattle.derive_kit.specs.Derived.{AreOfTheory, IsDerivedFrom, numbers_of};
-ghost use Rattle.derive_kit.specs.Placed.{SortedSomewhere};
+ghost use Rattle.norm_proofs.specs.Placed.{SortedSomewhere};
 ghost use Rattle.skolem_fresh.specs.Justified.{ShowsSkolem};
 ghost use Rattle.skolem_fresh.specs.SkolemRule.{forms_of};
 ghost use Rattle.skolem_proofs.specs.Choosing.{ChooseAndEnd};
@@ -13,7 +13,8 @@ ghost use Rattle.skolem_proofs.specs.code.Leading.{LeadsToLine};
 
 use crate::whole::{Skolemized, skolem_proof};
 use clause_form::{Parent, norm_signed};
-use derive_kit::{Part, imp_e, norm_back, norm_forth};
+use derive_kit::{Part, imp_e};
+use norm_proofs::{norm_back, norm_forth};
 use fof_terms::Form;
 use kernel::{Entry, Proof, Theory};
 use skolem_fresh::SkolemJust;

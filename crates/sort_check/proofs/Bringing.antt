@@ -26,7 +26,8 @@ use Rattle.sort_check.specs.declared.terms.Sorted.{Sorted}
 use Rattle.sort_check.specs.Bringing.{IsNamed, Brings}
 use Rattle.sort_check.specs.Outcomes.{Outcome, and_then, mapped, each}
 use Rattle.sort_check.specs.Symbols.{Text, undeclared, with_symbol, is_among, head, head_at, argument_sort, result_sort}
-use Rattle.sort_check.specs.Denotation.{Setting, State, nearest, variable_at, fitting, argument, made, denoted_term, beside, atom, equal, equation, joined, variable_sort, bound_variable, closed, bound, denoted_form}
+use Rattle.sort_check.specs.Denotation.{Setting, State, nearest, variable_at, fitting, argument, made, denoted_term, beside, atom, equal, equation, joined, variable_sort, bound_variable, closed, denoted_form}
+use Rattle.sort_check.specs.code.Denotation.{bound}
 use Rattle.sort_check.proofs.Equations.{denoted_term-Var, denoted_term-App, denoted_form-True, denoted_form-False, denoted_form-Atom, denoted_form-Eq, denoted_form-Neq, denoted_form-Not, denoted_form-And, denoted_form-Or, denoted_form-Binary, denoted_form-Bind}
 use Rattle.sort_check.proofs.Inducing.{term_induction, form_induction}
 use Rattle.sort_check.proofs.Stepping.{at_ok, then_ok, mapped_ok}

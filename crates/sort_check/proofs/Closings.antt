@@ -5,7 +5,7 @@ use Rattle.std.proofs.Math.Seq.{take-append_seam, drop-append_seam}
 use Rattle.tptp_base.specs.declared.surface.Quant.{Quant}
 use Rattle.fof_terms.specs.declared.form.Form.{Form}
 use Rattle.sort_check.specs.declared.scope.Variable.{Variable}
-use Rattle.sort_check.specs.Reach.{Reach}
+use Rattle.sort_check.specs.code.Reach.{Reach}
 use Rattle.sort_check.specs.Denotation.{closed, quantified}
 
 -- the last variables are closed

@@ -17,7 +17,8 @@ use Rattle.fof_terms.specs.declared.form.Form.{Not, And, Or}
 use Rattle.sort_check.specs.declared.scope.Variable.{Variable}
 use Rattle.sort_check.specs.Outcomes.{Outcome, and_then, mapped, each}
 use Rattle.sort_check.specs.Symbols.{Text, head, result_sort}
-use Rattle.sort_check.specs.Denotation.{Setting, State, Meaning, TermOutcome, nearest, variable_at, argument, made, term_step, denoted_term, beside, atom, equation, joined, bound, form_step, denoted_form}
+use Rattle.sort_check.specs.Denotation.{Setting, State, Meaning, TermOutcome, nearest, variable_at, argument, made, term_step, denoted_term, beside, atom, equation, joined, form_step, denoted_form}
+use Rattle.sort_check.specs.code.Denotation.{bound}
 use Rattle.tptp_base.specs.declared.surface.STerm.TheVariants as tm
 use Rattle.tptp_base.specs.declared.surface.STerm.TheOpen as st
 use Rattle.tptp_base.specs.declared.surface.Surface.TheVariants as fm

@@ -28,7 +28,8 @@ use Rattle.sort_check.specs.declared.scope.Variable.{Variable}
 use Rattle.sort_check.specs.declared.terms.Sorted.{Sorted}
 use Rattle.sort_check.specs.Outcomes.{Outcome, and_then, mapped, each}
 use Rattle.sort_check.specs.Symbols.{Text, head, known}
-use Rattle.sort_check.specs.Denotation.{Setting, State, beside, atom, equal, equation, joined, variable_sort, bound_variable, quantified, closed, bound, argument, denoted_term, denoted_form}
+use Rattle.sort_check.specs.Denotation.{Setting, State, beside, atom, equal, equation, joined, variable_sort, bound_variable, quantified, closed, argument, denoted_term, denoted_form}
+use Rattle.sort_check.specs.code.Denotation.{bound}
 use Rattle.sort_check.proofs.Equations.{denoted_form-True, denoted_form-False, denoted_form-Atom, denoted_form-Eq, denoted_form-Neq, denoted_form-Not, denoted_form-And, denoted_form-Or, denoted_form-Binary, denoted_form-Bind}
 use Rattle.sort_check.specs.Sorting.{Extends}
 use Rattle.sort_check.proofs.Inducing.{form_induction}

@@ -18,7 +18,7 @@ use Rattle.sort_check.specs.declared.fault.Stop.TheVariants as stop
 use Rattle.sort_check.specs.declared.scope.Variable.{Variable}
 use Rattle.sort_check.specs.Outcomes.{Outcome, and_then, mapped, each}
 use Rattle.sort_check.specs.code.Outcomes.{Stops}
-use Rattle.sort_check.specs.Reach.{Reach}
+use Rattle.sort_check.specs.code.Reach.{Reach}
 use Rattle.sort_check.specs.Symbols.{Text, head, with_symbol, result_sort}
 use Rattle.sort_check.specs.Denotation.{Setting, State, TermOutcome, argument, denoted_term, made, beside, atom, denoted_form}
 use Rattle.sort_check.specs.code.Denotation.{setting}

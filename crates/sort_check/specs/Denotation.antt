@@ -149,10 +149,6 @@ form_step here (sf.Bind quant xs a) scope s = bind quant xs a scope s
 unfoldable pub denoted_form : Setting → Surface → Meaning
 denoted_form here = fold-Surface Meaning (form_step here)
 
--- a formula under a quantifier
-abbrev pub bound : Setting → Quant → List BoundVar → Surface → Meaning
-bound here quant xs a = bind quant xs (denoted_form here a)
-
 -- ---- clauses: their variables are bound in front, in the order in which they first appear
 
 -- the variable is noted unless it is there, or 250 are

@@ -1,6 +1,5 @@
 pub mod Outcomes
 pub mod Symbols
-pub mod Reach
 pub mod Bringing
 pub mod Denotation
 pub mod Texts

@@ -1,10 +1,9 @@
 -- Names as symbols and sorts (TPTP technical manual, types). A name that a type line of the same text declares has its
 -- one kind and arity; another name is known by name, kind and number of arguments, and has the sort of individuals
 -- throughout.
-use Rattle.std.specs.Prelude.{ℕ, ◌==◌, ◌++◌, Bool, if◌then◌else◌, List, [], ◌∷◌, length, Option, Some, None, Ok, Err, slice_get}
+use Rattle.std.specs.Prelude.{ℕ, ◌==◌, ◌++◌, Bool, if◌then◌else◌, List, [], ◌∷◌, length, Option, Some, None, Ok, Err, slice_get, replicate}
 use Rattle.std.specs.List.{list_any}
 use Rattle.std.specs.Str.{bytes_eq}
-use Rattle.std.proofs.Math.ListN.{replicate}
 use Rattle.tptp_base.specs.declared.limit.LimitName.TheVariants.{Symbols}
 use Rattle.tptp_base.specs.declared.surface.SortName.{SortName}
 use Rattle.fof_terms.specs.Vocabulary.{Vocabulary, found_symbol, found_sort}

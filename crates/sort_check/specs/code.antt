@@ -2,4 +2,5 @@
 pub mod Denotation
 pub mod Namesakes
 pub mod Outcomes
+pub mod Reach
 pub mod Texts

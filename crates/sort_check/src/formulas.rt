@@ -116,7 +116,7 @@ fn denote_bound(
     quant: Quant,
     variables: &[BoundVar],
 ) -> Result<Form, Stop>
-    ensures value { Answers (spec.bound (spec_code.setting declared.now scope.old) quant variables.now body.now scope.old.variables (spec_code.state signature.old scope.old)) result (spec_code.state signature.new scope.new) }
+    ensures value { Answers (spec_code.bound (spec_code.setting declared.now scope.old) quant variables.now body.now scope.old.variables (spec_code.state signature.old scope.old)) result (spec_code.state signature.new scope.new) }
     ensures scope { OnOk result (scope.new ≡ record scope.old { bound = scope.new.bound }) }
     ensures keeps { Extends signature.old signature.new }
 {

@@ -30,7 +30,7 @@ pub struct Scope {
 }
 
 impl Model for Scope {
-    ghost use Rattle.sort_check.specs.Reach.{Reach, IsReach};
+    ghost use Rattle.sort_check.specs.code.Reach.{Reach, IsReach};
 
     ghost Value = { Reach };
 

@@ -16,7 +16,7 @@ use Rattle.clause_rules.specs.Steps.{IsReady}
 use Rattle.kernel.specs.Proves.{Proves}
 use Rattle.kernel.proofs.Building.{by_line, by_hyp, by_not_e, by_iff_r}
 use Rattle.kernel.specs.declared.proof.Proof.{Line, Hyp, NotE, IffR}
-use Rattle.derive_kit.proofs.NumberingFacts.{all_around}
+use Rattle.derive_kit.proofs.Around.{all_around}
 use Rattle.clause_proofs.specs.declared.opening.Opened.{Opened}
 use Rattle.clause_proofs.specs.Bodies.{HasClause, IsOpening}
 use Rattle.clause_proofs.specs.code.Bodies.{IsReadyClause}
@@ -24,7 +24,7 @@ use Rattle.clause_proofs.specs.Closed.{all_tree}
 use Rattle.clause_proofs.specs.Refuting.{theory_of, body, injected_tree}
 use Rattle.clause_proofs.proofs.CoveredLiterals.{injected_shows}
 use Rattle.clause_proofs.proofs.LineGoals.{few_sorts, opened_clause}
-use Rattle.clause_proofs.proofs.NormLines.{full, of_theory, parent_at}
+use Rattle.clause_proofs.proofs.ReadyParents.{full, of_theory, parent_at}
 use Rattle.split_defs.specs.declared.stages.Stage.{Stage}
 use Rattle.split_defs.specs.code.SplitProof.{AreNamed, RefutesClosed, IsStage, AreStages, stage_clauses, name_tree}
 use Rattle.split_defs.specs.SplitRule.{AllName, Names, name_lit}

@@ -36,11 +36,11 @@ use Rattle.clause_proofs.specs.Refuting.{theory_of, body, IsGoal, ShowsBody}
 use Rattle.clause_proofs.specs.Shown.{ShowsLine}
 use Rattle.clause_proofs.proofs.BodySorts.{lit_sorted}
 use Rattle.clause_proofs.proofs.ClosedLines.{inhabited}
-use Rattle.clause_proofs.proofs.CoverLines.{covers_here}
-use Rattle.clause_proofs.proofs.Factors.{one_joint_here, one_sorted, one_shown}
-use Rattle.clause_proofs.proofs.Joints.{instances_are}
+use Rattle.clause_proofs.proofs.CoveredPremises.{covers_here}
+use Rattle.clause_proofs.proofs.OneInstance.{one_joint_here, one_sorted, one_shown}
+use Rattle.clause_proofs.proofs.JointParts.{instances_are}
 use Rattle.clause_proofs.proofs.LineGoals.{Exist, both_exist, few_sorts, own_exist, own_lits, scope_is as reached_scope}
-use Rattle.clause_proofs.proofs.NormLines.{full, of_theory}
+use Rattle.clause_proofs.proofs.ReadyParents.{full, of_theory}
 use Rattle.split_defs.specs.declared.stages.Stage.{Stage}
 use Rattle.split_defs.specs.code.SplitProof.{IsStage, AreStages, AllArms, AreGoals, DeniedAt, stage_clauses, variables_in, goal_of, nest_tree, enclosed_tree}
 use Rattle.split_defs.specs.SplitRule.{together}

@@ -9,7 +9,7 @@ use Rattle.kernel.specs.Proves.{Proves}
 use Rattle.kernel.proofs.Building.{shown_sorted, by_imp_i, by_imp_e, by_iff_i, by_iff_l, by_iff_r}
 use Rattle.kernel.specs.declared.proof.Proof.{Proof, Hyp, ImpI, IffI, IffL, IffR}
 use Rattle.derive_kit.proofs.Built.{ok_map}
-use Rattle.derive_kit.proofs.StepsFacts.{first, second}
+use Rattle.derive_kit.proofs.Members.{first, second}
 use Rattle.split_defs.specs.DefinitionRule.{Relates}
 use Rattle.split_defs.specs.code.DefinitionSearch.{RelatesBy}
 use Rattle.split_defs.specs.code.Trees.{turned_tree, forth_tree, back_tree}

@@ -26,12 +26,12 @@ use Rattle.kernel.specs.Rules.{ProveEach}
 use Rattle.kernel.specs.declared.proof.Proof.{Proof, Raa}
 use Rattle.derive_kit.proofs.Built.{cut_shows}
 use Rattle.derive_kit.specs.Derived.{AreOfTheory}
-use Rattle.derive_kit.proofs.NumberingFacts.{all_around, head_around, twice_form}
+use Rattle.derive_kit.proofs.Around.{all_around, head_around, twice_form}
 use Rattle.clause_proofs.specs.declared.opening.Opened.{Opened}
 use Rattle.clause_proofs.specs.Bodies.{body_of}
 use Rattle.clause_proofs.specs.Closed.{all_tree}
 use Rattle.clause_proofs.specs.Refuting.{theory_of, body}
-use Rattle.clause_proofs.proofs.NormLines.{full}
+use Rattle.clause_proofs.proofs.ReadyParents.{full}
 use Rattle.split_defs.specs.declared.stages.Stage.{Stage}
 use Rattle.split_defs.specs.code.SplitProof.{AreStages, stage_clauses, nest_tree, goal_of, variables_in, EachRefutes, AllArms, DeniedAt}
 use Rattle.split_defs.specs.SplitRule.{together}

@@ -24,9 +24,9 @@ use Rattle.clause_proofs.specs.Bodies.{IsOpening}
 use Rattle.clause_proofs.specs.code.Bodies.{IsReadyClause}
 use Rattle.clause_proofs.specs.Refuting.{theory_of}
 use Rattle.clause_proofs.specs.Shown.{ShowsLine}
-use Rattle.clause_proofs.proofs.Factors.{one_joint_here}
+use Rattle.clause_proofs.proofs.OneInstance.{one_joint_here}
 use Rattle.clause_proofs.proofs.LineGoals.{opened_clause}
-use Rattle.clause_proofs.proofs.NormLines.{parent_ready}
+use Rattle.clause_proofs.proofs.ReadyParents.{parent_ready}
 use Rattle.split_defs.specs.declared.stages.Stage.{Stage}
 use Rattle.split_defs.specs.code.SplitProof.{AreNamed, stage_clauses}
 use Rattle.split_defs.specs.SplitRule.{Names, SplitsAt, together, unfolded}

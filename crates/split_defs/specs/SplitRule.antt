@@ -1,7 +1,6 @@
 -- The rule `split`: the line is a parent clause in which names stand for parts of it, each by a parent that says what the
 -- name stands for.
-use Rattle.std.specs.Prelude.{ℕ, ◌≡◌, ◌<◌, ◌⊎◌, List, [], ◌∷◌, ◌++◌, length, map, Some, slice_get}
-use Rattle.std.proofs.Common.{zero, suc}
+use Rattle.std.specs.Prelude.{ℕ, zero, suc, ◌≡◌, ◌<◌, ◌⊎◌, List, [], ◌∷◌, ◌++◌, length, map, Some, slice_get}
 use Rattle.fof_terms.specs.declared.term.Term.{Term}
 use Rattle.fof_terms.specs.declared.form.Form.{Form, Atom, Iff}
 use Rattle.fof_terms.specs.Vocabulary.{Vocabulary}

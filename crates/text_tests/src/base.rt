@@ -3,7 +3,7 @@ use std::fs;
 use std::test::Fail;
 use tptp_base::{
     LimitName, List, MemorySink, MemoryStore, Name, ReadFault, RealSink, RealStore, SinkFault,
-    SteadyStore, Text, place_at, put_all, read_whole,
+    SteadyStore, Store, Text, place_at, put_all, read_whole,
 };
 
 fn text(alloc: Global, bytes: &[u8]) -> Result<Text, AllocError> {
@@ -29,6 +29,19 @@ fn whole_files_are_read_a_byte_at_a_time(rt: HostRuntime) -> Result<(), Fail> {
     );
     let over = Some(ReadFault::Limit(LimitName::TotalSize));
     assert_eq!(rt; read_whole(alloc, &mut store, "a", 4).err(), over);
+    Ok(())
+}
+
+#[test]
+fn a_slow_read_gives_one_byte(rt: HostRuntime) -> Result<(), Fail> {
+    let alloc = rt.alloc();
+    let mut piece = [0; 4];
+    let mut slow = SteadyStore::slow(alloc, files(alloc)?)?;
+    assert_eq!(rt; slow.read_at("a", 1, &mut piece), Ok(1));
+    assert_eq!(rt; piece[0], b'e');
+    let mut steady = SteadyStore::new(alloc, files(alloc)?)?;
+    assert_eq!(rt; steady.read_at("a", 1, &mut piece), Ok(4));
+    assert_eq!(rt; piece, *b"ello");
     Ok(())
 }
 

@@ -1,5 +1,5 @@
--- What stores and sinks in memory keep beside their bytes: how often they were called, and the numbers of the calls that
--- fail. The first call of a store or a sink is number 1.
+-- What stores and sinks in memory keep beside their bytes: how often they were called, and the numbers of the calls
+-- that fail. The first call of a store or a sink is number 1.
 use Rattle.std.specs.Prelude.{◌≡◌, ℕ, true, List, nat_eq}
 use Rattle.std.specs.List.{list_any}
 use Rattle.tptp_base.specs.declared.memory_sink.MemorySink.{MemorySink}

@@ -6,4 +6,5 @@ pub mod Quotable
 pub mod Read
 pub mod Sink
 pub mod Steady
+pub mod Sizes
 pub mod Store

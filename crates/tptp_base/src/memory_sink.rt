@@ -51,9 +51,12 @@ impl Sink for MemorySink {
 
         ensures bound { IfOk result (λ count. count ≤ length piece.now) }
         ensures progress { IfOk result (λ count. 0 < length piece.now → 0 < count) }
-        ensures ok { IfOk result (λ count. Takes (⟦<MemorySink as Sink>⟧.taken self.old) (⟦<MemorySink as Sink>⟧.taken self.new) (take count piece.now)) }
+        ensures ok { IfOk result (λ count.
+            Takes (⟦<MemorySink as Sink>⟧.taken self.old) (⟦<MemorySink as Sink>⟧.taken self.new)
+            (take count piece.now)) }
         ensures err { OnErr result (⟦<MemorySink as Sink>⟧.taken self.new ≡ ⟦<MemorySink as Sink>⟧.taken self.old) }
-        ensures failed { IsErrOf result SinkFault.Failed → Rose (⟦<MemorySink as Sink>⟧.faults self.old) (⟦<MemorySink as Sink>⟧.faults self.new) }
+        ensures failed { IsErrOf result SinkFault.Failed →
+            Rose (⟦<MemorySink as Sink>⟧.faults self.old) (⟦<MemorySink as Sink>⟧.faults self.new) }
         ensures more_faults { ⟦<MemorySink as Sink>⟧.faults self.old ≤ ⟦<MemorySink as Sink>⟧.faults self.new }
     {
         self.calls = self.calls.saturating_add(1);

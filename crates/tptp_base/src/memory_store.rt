@@ -57,12 +57,18 @@ impl Store for MemoryStore {
         ensures same_failing { failing_reads self.new ≡ failing_reads self.old }
 
         ensures bound { IfOk result (λ count. count ≤ length into.new) }
-        ensures bytes { IfOk result (λ count. HasFile (⟦<MemoryStore as Store>⟧.files self.old) name.now (λ file. GivesAt file offset count into.new)) }
-        ensures given { IfOk result (λ count. ⟦<MemoryStore as Store>⟧.given self.new ≡ count_after count (⟦<MemoryStore as Store>⟧.given self.old)) }
-        ensures none_given { OnErr result (⟦<MemoryStore as Store>⟧.given self.new ≡ ⟦<MemoryStore as Store>⟧.given self.old) }
-        ensures missing { IsErrOf result StoreFault.Absent → IsMissing (⟦<MemoryStore as Store>⟧.files self.old) name.now }
-        ensures absent { IsErrOf result StoreFault.Absent → Rose (⟦<MemoryStore as Store>⟧.absents self.old) (⟦<MemoryStore as Store>⟧.absents self.new) }
-        ensures failed { IsErrOf result StoreFault.Failed → Rose (⟦<MemoryStore as Store>⟧.faults self.old) (⟦<MemoryStore as Store>⟧.faults self.new) }
+        ensures bytes { IfOk result (λ count. HasFile (⟦<MemoryStore as Store>⟧.files self.old) name.now
+            (λ file. GivesAt file offset count into.new)) }
+        ensures given { IfOk result (λ count.
+            ⟦<MemoryStore as Store>⟧.given self.new ≡ count_after count (⟦<MemoryStore as Store>⟧.given self.old)) }
+        ensures none_given { OnErr result
+            (⟦<MemoryStore as Store>⟧.given self.new ≡ ⟦<MemoryStore as Store>⟧.given self.old) }
+        ensures missing { IsErrOf result StoreFault.Absent →
+            IsMissing (⟦<MemoryStore as Store>⟧.files self.old) name.now }
+        ensures absent { IsErrOf result StoreFault.Absent →
+            Rose (⟦<MemoryStore as Store>⟧.absents self.old) (⟦<MemoryStore as Store>⟧.absents self.new) }
+        ensures failed { IsErrOf result StoreFault.Failed →
+            Rose (⟦<MemoryStore as Store>⟧.faults self.old) (⟦<MemoryStore as Store>⟧.faults self.new) }
         ensures same_files { ⟦<MemoryStore as Store>⟧.files self.new ≡ ⟦<MemoryStore as Store>⟧.files self.old }
         ensures more_absents { ⟦<MemoryStore as Store>⟧.absents self.old ≤ ⟦<MemoryStore as Store>⟧.absents self.new }
         ensures more_faults { ⟦<MemoryStore as Store>⟧.faults self.old ≤ ⟦<MemoryStore as Store>⟧.faults self.new }

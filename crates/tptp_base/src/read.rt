@@ -108,7 +108,8 @@ fn read_piece<S: Store>(
     ensures in_piece { IfOk result (λ count. count ≤ length piece.new) }
     ensures given { IfOk result (λ count. S.given store.new ≡ count_after count (S.given store.old)) }
     ensures none_given { OnErr result (S.given store.new ≡ S.given store.old) }
-    ensures bytes { IfOk result (λ count. HasFile (S.files store.old) name.now (λ file. GivesAt file offset count piece.new)) }
+    ensures bytes { IfOk result (λ count. HasFile (S.files store.old) name.now
+        (λ file. GivesAt file offset count piece.new)) }
     ensures missing { IsErrOf result StoreFault.Absent → IsMissing (S.files store.old) name.now }
     ensures absent { IsErrOf result StoreFault.Absent → Rose (S.absents store.old) (S.absents store.new) }
     ensures failed { IsErrOf result StoreFault.Failed → Rose (S.faults store.old) (S.faults store.new) }

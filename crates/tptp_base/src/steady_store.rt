@@ -67,12 +67,18 @@ impl Store for SteadyStore {
         ensures same_most { most_given self.new ≡ most_given self.old }
 
         ensures bound { IfOk result (λ count. count ≤ length into.new) }
-        ensures bytes { IfOk result (λ count. HasFile (⟦<SteadyStore as Store>⟧.files self.old) name.now (λ file. GivesAt file offset count into.new)) }
-        ensures given { IfOk result (λ count. ⟦<SteadyStore as Store>⟧.given self.new ≡ count_after count (⟦<SteadyStore as Store>⟧.given self.old)) }
-        ensures none_given { OnErr result (⟦<SteadyStore as Store>⟧.given self.new ≡ ⟦<SteadyStore as Store>⟧.given self.old) }
-        ensures missing { IsErrOf result StoreFault.Absent → IsMissing (⟦<SteadyStore as Store>⟧.files self.old) name.now }
-        ensures absent { IsErrOf result StoreFault.Absent → Rose (⟦<SteadyStore as Store>⟧.absents self.old) (⟦<SteadyStore as Store>⟧.absents self.new) }
-        ensures failed { IsErrOf result StoreFault.Failed → Rose (⟦<SteadyStore as Store>⟧.faults self.old) (⟦<SteadyStore as Store>⟧.faults self.new) }
+        ensures bytes { IfOk result (λ count. HasFile (⟦<SteadyStore as Store>⟧.files self.old) name.now
+            (λ file. GivesAt file offset count into.new)) }
+        ensures given { IfOk result (λ count.
+            ⟦<SteadyStore as Store>⟧.given self.new ≡ count_after count (⟦<SteadyStore as Store>⟧.given self.old)) }
+        ensures none_given { OnErr result
+            (⟦<SteadyStore as Store>⟧.given self.new ≡ ⟦<SteadyStore as Store>⟧.given self.old) }
+        ensures missing { IsErrOf result StoreFault.Absent →
+            IsMissing (⟦<SteadyStore as Store>⟧.files self.old) name.now }
+        ensures absent { IsErrOf result StoreFault.Absent →
+            Rose (⟦<SteadyStore as Store>⟧.absents self.old) (⟦<SteadyStore as Store>⟧.absents self.new) }
+        ensures failed { IsErrOf result StoreFault.Failed →
+            Rose (⟦<SteadyStore as Store>⟧.faults self.old) (⟦<SteadyStore as Store>⟧.faults self.new) }
         ensures same_files { ⟦<SteadyStore as Store>⟧.files self.new ≡ ⟦<SteadyStore as Store>⟧.files self.old }
         ensures more_absents { ⟦<SteadyStore as Store>⟧.absents self.old ≤ ⟦<SteadyStore as Store>⟧.absents self.new }
         ensures more_faults { ⟦<SteadyStore as Store>⟧.faults self.old ≤ ⟦<SteadyStore as Store>⟧.faults self.new }

@@ -37,7 +37,8 @@ pub trait Store {
     fn read_at(&mut self, name: &str, offset: u64, into: &mut [u8]) -> Result<usize, StoreFault>
         requires { 0 < length into.old }
         ensures bound { IfOk result (λ count. count ≤ length into.new) }
-        ensures bytes { IfOk result (λ count. HasFile (files self.old) name.now (λ file. GivesAt file offset count into.new)) }
+        ensures bytes { IfOk result (λ count. HasFile (files self.old) name.now
+            (λ file. GivesAt file offset count into.new)) }
         ensures given { IfOk result (λ count. given self.new ≡ count_after count (given self.old)) }
         ensures none_given { OnErr result (given self.new ≡ given self.old) }
         ensures missing { IsErrOf result StoreFault.Absent → IsMissing (files self.old) name.now }

@@ -1,3 +1,1 @@
-pub mod Formulas
-pub mod Lines
-pub mod Parts
+pub mod code

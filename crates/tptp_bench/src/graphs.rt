@@ -1,6 +1,6 @@
 //! The graph of a derivation whose lines are each from the two before it by number.
 ghost use Rattle.std.specs.Prelude.{◌≡◌, ◌++◌, IfOk, OnOk, decimal};
-ghost use Rattle.tptp_bench.specs.Lines.{line_of, source_of, number_below};
+ghost use Rattle.tptp_bench.specs.code.Lines.{line_of, source_of, number_below};
 
 use crate::job::{Lines, Order};
 use anyhow::Result;

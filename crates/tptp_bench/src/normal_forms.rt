@@ -1,7 +1,7 @@
 //! Normal forms, and the proofs to them and back.
 ghost use Rattle.std.specs.Prelude.{◌≡◌, ◌≤◌, true};
 ghost use Rattle.clause_form.specs.Sizes.{norm_size_of};
-ghost use Rattle.derive_kit.specs.Placed.{SortedSomewhere};
+ghost use Rattle.norm_proofs.specs.Placed.{SortedSomewhere};
 
 use crate::counting::nodes;
 use crate::formulas::{copies, implications, literals, said_of, twice_denied};
@@ -10,7 +10,7 @@ use crate::parts::quantified;
 use crate::symbols::declare;
 use anyhow::Result;
 use clause_form::{norm, norm_size};
-use derive_kit::{norm_back, norm_forth};
+use norm_proofs::{norm_back, norm_forth};
 use fof_terms::{Form, Kind, Signature, well_sorted};
 use std::alloc::Global;
 use tptp_base::{Boxed, Memory};

@@ -2,7 +2,7 @@
 ghost use Rattle.std.specs.Prelude.{◌≡◌, ◌<◌, [], ◌∷◌, IfOk};
 ghost use Rattle.fof_terms.specs.declared.form.Form.{Not, Or};
 ghost use Rattle.fof_terms.specs.declared.term.Term.{App};
-ghost use Rattle.tptp_bench.specs.Parts.{atom_of, closed, tree as tree_of};
+ghost use Rattle.tptp_bench.specs.code.Parts.{atom_of, closed, tree as tree_of};
 
 use fof_terms::{Form, Term};
 use std::alloc::Global;

@@ -11,7 +11,8 @@ use Rattle.tptp_base.specs.declared.item.Item.TheVariants as it
 use Rattle.tptp_grammar.specs.Tokens.{Text, Tokens}
 use Rattle.tptp_grammar.specs.Items as g
 use Rattle.tptp_grammar.specs.Items.{IsItem}
-use Rattle.tptp_grammar.specs.Solid.{Placed, is_comment, is_remark, solid, BeginsSolid}
+use Rattle.tptp_grammar.specs.Solid.{Placed, is_comment, is_remark, solid}
+use Rattle.tptp_grammar.specs.code.Solid.{BeginsSolid}
 use Rattle.tptp_grammar.specs.Files.{token, IsFile, end_of_file, comment, input, SpellsWithin}
 use Rattle.tptp_grammar.specs.code.ReadItems.{item}
 use Rattle.tptp_grammar.specs.code.ReadFile.{FileOutcome, with_item, file}

@@ -15,6 +15,7 @@ pub mod ExactAnnotations
 pub mod ExactItems
 pub mod SolidItems
 pub mod SpelledNames
+pub mod SpelledSizes
 pub mod ExactFile
 pub mod AmongComments
 pub mod FirstFaults
@@ -24,3 +25,4 @@ pub mod Digits
 pub mod Refusals
 pub mod Stuck
 pub mod OneAnswer
+pub mod OneList

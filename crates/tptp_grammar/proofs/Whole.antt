@@ -15,7 +15,8 @@ use Rattle.tptp_grammar.specs.declared.stop.Stop.TheVariants as stop
 use Rattle.tptp_grammar.specs.declared.fault.GrammarFault.TheVariants as fault
 use Rattle.tptp_grammar.specs.Tokens.{Text, Tokens}
 use Rattle.tptp_grammar.specs.Items.{IsItem}
-use Rattle.tptp_grammar.specs.Solid.{Placed, is_comment, is_remark, solid, BeginsSolid}
+use Rattle.tptp_grammar.specs.Solid.{Placed, is_comment, is_remark, solid}
+use Rattle.tptp_grammar.specs.code.Solid.{BeginsSolid}
 use Rattle.tptp_grammar.specs.Files.{IsFile, Spells, SpellsWithin, IsPossible, IsPossibleWithin}
 use Rattle.tptp_grammar.specs.Faults.{max_nesting, is_outside, IsImpossible, IsUnfinished, IsDeep}
 use Rattle.tptp_grammar.specs.code.Outcomes.{Fails}

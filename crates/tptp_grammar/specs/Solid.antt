@@ -1,5 +1,5 @@
 -- Tokens with their places, and which of them are no comments.
-use Rattle.std.specs.Prelude.{◌≡◌, Bool, true, false, if◌then◌else◌, List, [], ◌∷◌}
+use Rattle.std.specs.Prelude.{Bool, true, false, if◌then◌else◌, List, [], ◌∷◌}
 use Rattle.tptp_lexer.specs.declared.token.Token.{Token}
 use Rattle.tptp_lexer.specs.declared.token.Token.TheVariants.{Comment}
 use Rattle.tptp_base.specs.declared.place.Place.{Place}
@@ -19,8 +19,3 @@ is_remark entry = is_comment entry.0
 abbrev pub solid : List Placed → List Token
 solid [] = []
 solid (entry ∷ rest) = if is_remark entry then solid rest else entry.0 ∷ solid rest
-
--- it begins with no comment
-abbrev pub BeginsSolid : List Placed → Type 0
-BeginsSolid [] = Unit {0}
-BeginsSolid (entry ∷ rest) = is_remark entry ≡ false

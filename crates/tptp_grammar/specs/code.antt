@@ -8,3 +8,4 @@ pub mod ReadGeneral
 pub mod ReadItems
 pub mod ReadTerms
 pub mod ReadTypes
+pub mod Solid

@@ -3,7 +3,8 @@ ghost use Rattle.std.specs.Prelude.{◌≡◌, length};
 ghost use Rattle.std.specs.Option.{option_copied};
 ghost use Rattle.first_fault.specs.code.Reading.{next, tail, expect, sees, after_seen};
 ghost use Rattle.tptp_grammar.specs.Solid as solids;
-ghost use Rattle.tptp_grammar.specs.Solid.{solid, BeginsSolid};
+ghost use Rattle.tptp_grammar.specs.Solid.{solid};
+ghost use Rattle.tptp_grammar.specs.code.Solid.{BeginsSolid};
 ghost use Rattle.tptp_grammar.specs.code.ReadTerms as spec;
 ghost use Rattle.tptp_grammar.specs.code.Outcomes.{Reads};
 
@@ -22,7 +23,8 @@ pub struct Cursor<'a> {
 impl<'a> Model for Cursor<'a> {
     ghost use Rattle.std.specs.Prelude.{◌≡◌, List, length};
     ghost use Rattle.tptp_lexer.specs.declared.token.Token.{Token};
-    ghost use Rattle.tptp_grammar.specs.Solid.{solid, BeginsSolid};
+    ghost use Rattle.tptp_grammar.specs.Solid.{solid};
+    ghost use Rattle.tptp_grammar.specs.code.Solid.{BeginsSolid};
 
     ghost Value = { List Token };
 

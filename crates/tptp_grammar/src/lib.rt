@@ -17,5 +17,5 @@ mod terms;
 mod words;
 
 pub use fault::GrammarFault;
-pub use law::{names_are_quotable, one_answer};
+pub use law::{items_are_within_their_text, names_are_quotable, one_answer, one_list_of_items};
 pub use reading::parse;

@@ -14,7 +14,6 @@ pub mod Parsed
 pub mod Refuted
 pub mod Sources
 pub mod Spelled
-pub mod Stop
 pub mod Verifying
 pub mod Words
 pub mod code

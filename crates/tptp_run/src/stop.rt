@@ -2,7 +2,7 @@
 ghost use Rattle.std.specs.Prelude.{◌≡◌, string_bytes};
 ghost use Rattle.tptp_run.specs.declared.stop.Halt.TheVariants.{Stopped};
 ghost use Rattle.tptp_run.specs.declared.stop.Stop.TheVariants.{Memory as StopMemory};
-ghost use Rattle.tptp_run.specs.Stop.{stop_of, stop_of_run};
+ghost use Rattle.tptp_run.specs.code.Stop.{stop_of, stop_of_run};
 
 use std::alloc::AllocError;
 use tptp_base::{Memory, SinkFault, Text};

@@ -1,20 +1,14 @@
 -- What private contracts say, beside the definitions of specs/Refuting.
-use Rattle.std.specs.Prelude.{ℕ, ◌≡◌, ◌<◌, List, [], ◌∷◌, length, Some, slice_get}
-use Rattle.fof_terms.specs.declared.term.Term.{Term, Var}
-use Rattle.fof_terms.specs.declared.form.Form.{Form, Eq, Or, Not}
+use Rattle.std.specs.Prelude.{ℕ, ◌≡◌, List, [], ◌∷◌, Some, slice_get}
+use Rattle.fof_terms.specs.declared.form.Form.{Form, Or, Not}
 use Rattle.fof_terms.specs.Vocabulary.{Vocabulary}
-use Rattle.fof_terms.specs.Lift.{lifted_term}
-use Rattle.fof_terms.specs.Sorts.{sort_of_term, Sorted}
+use Rattle.fof_terms.specs.Sorts.{Sorted}
 use Rattle.clause_form.specs.declared.clause.Lit.{Lit}
 use Rattle.clause_form.specs.ClauseView.{form_of_lit}
 use Rattle.kernel.specs.Statements.{Statements}
 use Rattle.kernel.specs.Proves.{Proves}
-use Rattle.kernel.specs.declared.proof.Proof.{Proof, Refl, Subst}
+use Rattle.kernel.specs.declared.proof.Proof.{Proof}
 use Rattle.clause_proofs.specs.Refuting.{theory_of}
-
--- the part has the equation of l and some other term turned round, by a part that shows the equation
-abbrev pub IsTurned : Vocabulary → List ℕ → Term → Proof → Proof → Type 0
-IsTurned w v l p made = (s : ℕ) × (sort_of_term w v l ≡ Some s) × (s < length w.sorts) × (made ≡ Subst s (Eq (Var 0) (lifted_term 1 0 l)) p (Refl l))
 
 -- from hypothesis number n, which is a, the part shows b
 abbrev pub ShowsFrom : Vocabulary → List ℕ → ℕ → Form → Form → Proof → Type 0

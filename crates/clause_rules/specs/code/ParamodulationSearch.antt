@@ -1,5 +1,5 @@
 -- How far the search for a paramodulation has come.
-use Rattle.std.specs.Prelude.{ℕ, Bool, true, false, ◌≡◌, List, [], ◌∷◌, ◌++◌, Option, Some, None, slice_get}
+use Rattle.std.specs.Prelude.{ℕ, suc, Bool, true, false, ◌≡◌, List, [], ◌∷◌, ◌++◌, Option, Some, None, slice_get}
 use Rattle.fof_terms.specs.Vocabulary.{Vocabulary}
 use Rattle.fof_terms.specs.declared.term.Term.{Term}
 use Rattle.clause_form.specs.declared.clause.AtomOf.{AtomOf}
@@ -17,7 +17,6 @@ use Rattle.clause_rules.specs.Places.{lit_term_at}
 use Rattle.clause_rules.specs.code.PlaceSearch.{places_of}
 use Rattle.clause_rules.specs.Settled.{IsFit}
 use Rattle.clause_rules.specs.Steps.{scope_of_both, equation, IsJoint, images_of_parents}
-use Rattle.std.proofs.Common.{suc}
 
 -- no paramodulation changes the clause at this place
 abbrev pub NeverAt : Clause → Clause → Site → Type 0

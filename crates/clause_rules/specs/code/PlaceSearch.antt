@@ -1,6 +1,5 @@
 -- All places of a literal, in order, and terms below other ones.
-use Rattle.std.specs.Prelude.{ℕ, List, [], ◌∷◌, ◌++◌, map, slice_get, slice_set, Option, Some, None}
-use Rattle.std.proofs.Common.{suc}
+use Rattle.std.specs.Prelude.{ℕ, suc, List, [], ◌∷◌, ◌++◌, map, slice_get, slice_set, Option, Some, None}
 use Rattle.fof_terms.specs.declared.term.Term.{Term, Var, App}
 use Rattle.fof_terms.specs.declared.term.Term.TheFolds.{fold-Term}
 use Rattle.clause_form.specs.declared.clause.Lit.{Lit}

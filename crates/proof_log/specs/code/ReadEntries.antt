@@ -11,8 +11,7 @@ use Rattle.proof_log.specs.declared.name.EntryName.{EntryName}
 use Rattle.proof_log.specs.declared.name.LogVersion.{LogVersion}
 use Rattle.tptp_base.specs.Quotable.{is_printable}
 use Rattle.proof_log.specs.Entries.{is_special}
-use Rattle.proof_log.specs.Names.{decl_name, entry_name, version_line}
-use Rattle.proof_log.specs.code.Names.{decl_names, entry_names, versions}
+use Rattle.proof_log.specs.code.Names.{decl_name, entry_name, version_line, decl_names, entry_names, versions}
 use Rattle.proof_log.specs.code.ReadWords.{is_byte, number, listed, both, name, head}
 use Rattle.proof_log.specs.code.ReadTrees.{behind, form, proof}
 use Rattle.proof_log.specs.declared.name.DeclName.TheVariants as d

@@ -7,8 +7,7 @@ use Rattle.kernel.specs.declared.proof.Proof.{Proof, Line, Hyp, AndI, AndE, OrI,
 use Rattle.proof_log.specs.declared.name.TermName.{TermName}
 use Rattle.proof_log.specs.declared.name.FormName.{FormName}
 use Rattle.proof_log.specs.declared.name.ProofName.{ProofName}
-use Rattle.proof_log.specs.Names.{term_name, form_name, proof_name}
-use Rattle.proof_log.specs.code.Names.{term_names, form_names, proof_names}
+use Rattle.proof_log.specs.code.Names.{term_name, form_name, proof_name, term_names, form_names, proof_names}
 use Rattle.proof_log.specs.code.ReadWords.{number, listed, both, head, deep_head}
 use Rattle.proof_log.specs.declared.name.TermName.TheVariants as t
 use Rattle.proof_log.specs.declared.name.FormName.TheVariants as f

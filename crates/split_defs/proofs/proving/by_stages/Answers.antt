@@ -2,8 +2,8 @@ use Rattle.std.proofs.Common.{ap, ◌∙◌, arith, List, [], length, refl}
 use Rattle.fof_terms.specs.Scope.{scope_sorts}
 use Rattle.fof_terms.specs.declared.sorting.Scope.{Outside}
 use Rattle.derive_kit.proofs.Built.{ok_map}
-use Rattle.clause_proofs.proofs.CoverLines.{few_here}
-use Rattle.clause_proofs.proofs.Joints.{part_is}
+use Rattle.clause_proofs.proofs.CoveredPremises.{few_here}
+use Rattle.clause_proofs.proofs.JointParts.{part_is}
 use Rattle.split_defs.specs.declared.stages.Stage.{Stage}
 use Rattle.split_defs.specs.code.SplitProof.{stage_clauses}
 use Rattle.split_defs.specs.SplitRule.{together}

@@ -1,7 +1,7 @@
 use Rattle.std.proofs.Common.{rules, subst, ◌∙◌}
 use Rattle.fof_terms.specs.declared.form.Form.{Form}
 use Rattle.clause_proofs.specs.Bodies.{IsOpening}
-use Rattle.clause_proofs.proofs.NormLines.{parent_ready}
+use Rattle.clause_proofs.proofs.ReadyParents.{parent_ready}
 use Rattle.std.proofs.Common.{Some}
 use Rattle.split_defs.proofs.Contraries.{is_equivalence, name_stage, stage_clause, stage_is, stage_name, stage_opened, stage_there}
 use Rattle.split_defs.proofs.stages.named_stage.Goals as goal

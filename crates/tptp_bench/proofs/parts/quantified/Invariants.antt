@@ -1,5 +1,5 @@
 use Rattle.std.proofs.Common.{◌≡◌}
-use Rattle.tptp_bench.specs.Parts.{closed}
+use Rattle.tptp_bench.specs.code.Parts.{closed}
 use Rattle.tptp_bench.proofs.parts.quantified.Given as goal
 
 abbrev pub invariant-loop : goal.invariant-loop

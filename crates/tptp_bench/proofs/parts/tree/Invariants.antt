@@ -1,5 +1,5 @@
 use Rattle.std.proofs.Common.{◌≡◌}
-use Rattle.tptp_bench.specs.Parts.{tree as tree_of}
+use Rattle.tptp_bench.specs.code.Parts.{tree as tree_of}
 use Rattle.tptp_bench.proofs.parts.tree.Given as goal
 
 abbrev pub invariant-loop : goal.invariant-loop

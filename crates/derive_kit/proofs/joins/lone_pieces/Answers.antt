@@ -1,8 +1,0 @@
-use Rattle.std.proofs.Common.{◌∙◌}
-use Rattle.derive_kit.specs.code.Joining.{lone_tree}
-use Rattle.derive_kit.proofs.Gathered.{numbered_after}
-use Rattle.derive_kit.proofs.joins.lone_pieces.Goals as goal
-
-pub loop-place-preserved : goal.loop-place-preserved
-loop-place-preserved c =
-    c.in_ok-push.ensures.ok ∙ numbered_after (lone_tree c.args.kind c.args.flat.now) c.args.start c.loop-place.place c.loop-place.made c.into_inner.result c.loop-place.invariant (c.into_inner.ensures ∙ c.in_ok-piece.ensures)

@@ -1,5 +1,0 @@
-use Rattle.derive_kit.proofs.RoutesFacts.{ArmsUpTo}
-use Rattle.derive_kit.proofs.paths.+along.Given as goal
-
-abbrev pub invariant-arms-loop-number : goal.invariant-arms-loop-number
-invariant-arms-loop-number l = ArmsUpTo l.whole l.forms l.clauses l.before l.start l.number l.made

@@ -1,6 +1,0 @@
-use Rattle.std.proofs.Common.{◌≡◌, ◌-◌, drop, length}
-use Rattle.derive_kit.specs.code.Numbering.{general}
-use Rattle.derive_kit.proofs.widening.general.Given as goal
-
-abbrev pub invariant-loop-i : goal.invariant-loop-i
-invariant-loop-i l = l.made ≡ general (drop (length l.sorts - l.i) l.sorts) l.fn.part

@@ -1,6 +1,0 @@
-use Rattle.std.proofs.Common.{◌≡◌, ◌-◌}
-use Rattle.derive_kit.specs.code.Numbering.{near}
-use Rattle.derive_kit.proofs.widening.near.Given as goal
-
-abbrev pub invariant-loop-i : goal.invariant-loop-i
-invariant-loop-i l = near l.first (l.count - l.i) l.made ≡ near l.first l.count l.fn.part

@@ -1,0 +1,47 @@
+-- Lines whose normal form is that of a parent.
+use Rattle.std.specs.Prelude.{ℕ, ◌≡◌, ◌≤◌, true, List, [], length, Some, slice_get, get_or, Option}
+use Rattle.std.proofs.Common.{ap, sym, subst, ◌∙◌, arith}
+use Rattle.fof_terms.specs.declared.form.Form.{Form, Imp}
+use Rattle.fof_terms.specs.Vocabulary.{Vocabulary}
+use Rattle.fof_terms.specs.Sorts.{Sorted}
+use Rattle.clause_form.specs.declared.path.Parent.{Parent}
+use Rattle.clause_form.specs.Norm.{norm_of}
+use Rattle.clause_rules.specs.NormRule.{HasNorm, HasLinesNorm}
+use Rattle.clause_rules.specs.Answers.{IsAnswer, norm}
+use Rattle.clause_rules.specs.declared.just.Just.{Just}
+use Rattle.clause_rules.specs.declared.just.Just.TheVariants.{Norm}
+use Rattle.clause_rules.specs.Steps.{IsReady}
+use Rattle.kernel.specs.Statements.{Statements}
+use Rattle.kernel.specs.Proves.{Proves}
+use Rattle.kernel.proofs.Building.{by_line, by_imp_e}
+use Rattle.kernel.specs.declared.proof.Proof.{Proof, Line, ImpE}
+use Rattle.rule_proofs.specs.ByRule.{AreAlike}
+use Rattle.clause_proofs.specs.Refuting.{theory_of}
+use Rattle.clause_proofs.proofs.ReadyParents.{parent_at, full}
+
+abbrev pub Forth : Form → Proof → Type 0
+Forth a p = (t : Statements) (v : List ℕ) (h : List Form) → length v ≤ 1000000000 → Sorted t.vocabulary v a → Proves t v h p (Imp a (norm_of true a))
+
+abbrev pub Back : Form → Proof → Type 0
+Back a p = (t : Statements) (v : List ℕ) (h : List Form) → length v ≤ 1000000000 → Sorted t.vocabulary v a → Proves t v h p (Imp (norm_of true a) a)
+
+pub norm_shown : (w : Vocabulary) (line : Form) (parent : Parent) (forth back : Proof) → IsReady w parent.form → IsReady w line → AreAlike parent.form line → Forth parent.form forth → Back line back
+    → (formulas : List Form) → slice_get formulas parent.number ≡ Some parent.form → Proves (theory_of w formulas) [] [] (ImpE back (ImpE forth (Line parent.number))) line
+norm_shown w line parent forth back ready line_ready alike f b formulas known =
+    let t = theory_of w formulas in
+    let norms : norm_of true parent.form ≡ norm_of true line = alike.of_first.same ∙ sym alike.of_second.same in
+    let sorted = full w parent.form ready in
+    let own = by_imp_e t [] [] forth (Line parent.number) parent.form (norm_of true parent.form) (f t [] [] (omega arith) sorted) (by_line t [] [] parent.number parent.form sorted known) in
+    by_imp_e t [] [] back _ (norm_of true line) line (b t [] [] (omega arith) (full w line line_ready)) (subst (λ (x : Form). Proves t [] [] (ImpE forth (Line parent.number)) x) norms own)
+
+-- the parent of that number has the line's normal form
+pub alike_at : (parents : List Parent) (line : Form) (a : ℕ) (r : Parent) → HasLinesNorm parents line a → r ≡ get_or parents a r → AreAlike r.form line
+alike_at parents line a r has is =
+    let same = parent_at parents a has.of_parent.parent r has.of_parent.there is in
+    record { made = has.made; of_first = subst (λ (q : Parent). HasNorm q.form has.made) (sym same) has.of_parent.alike; of_second = has.of_line }
+
+pub norm_there : (parents : List Parent) (line : Form) (a : ℕ) (r : Parent) → HasLinesNorm parents line a → r ≡ get_or parents a r → slice_get parents a ≡ Some r
+norm_there parents line a r has is = has.of_parent.there ∙ ap Some (sym (parent_at parents a has.of_parent.parent r has.of_parent.there is))
+
+pub norm_shows : (w : Vocabulary) (parents : List Parent) (line : Form) (answer : Option Just) (a : ℕ) → answer ≡ Some (Norm a) → IsAnswer w parents line norm answer → HasLinesNorm parents line a
+norm_shows w parents line answer a is x = (subst (IsAnswer w parents line norm) is x).1

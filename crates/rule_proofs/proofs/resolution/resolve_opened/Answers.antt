@@ -1,0 +1,46 @@
+use Rattle.std.proofs.Common.{ap, length, ◌+◌, arith}
+use Rattle.fof_terms.specs.Scope.{scope_sorts}
+use Rattle.fof_terms.specs.declared.sorting.Scope.{Outside}
+use Rattle.derive_kit.proofs.Built.{ok_map}
+use Rattle.clause_proofs.proofs.JointParts.{part_is}
+use Rattle.rule_proofs.proofs.Joints.{reach_is, parents_exist, resolvent_of, left_premise_sorted, right_premise_sorted, left_shown, right_shown}
+use Rattle.clause_proofs.proofs.LineGoals.{scope_is}
+use Rattle.rule_proofs.proofs.WholeLines.{goal_in, shown_in}
+use Rattle.rule_proofs.proofs.resolution.resolve_opened.Goals as goal
+
+pub resolvent-requires-clause-resolvent : goal.resolvent-requires-clause-resolvent
+resolvent-requires-clause-resolvent c = (
+  c.requires.resolves.0,
+  resolvent_of c.args.signature.now c.args.opened.now.clause c.args.subst.now c.args.left.now.form c.args.right.now.form c.args.left_opened.now c.args.right_opened.now c.requires.left c.requires.right c.requires.joint
+      c.in_ok-left_images.left_images c.in_ok-right_images.right_images (part_is c.args.subst.now c.in_ok-left_images.left_images _ _ (length c.args.left_opened.now.clause.sorts) (length c.args.opened.now.clause.sorts) c.in_ok-left_images.ensures (ap length c.as_slice-left_sorts.ensures) (ap length c.as_slice-own.ensures)) (part_is c.args.subst.now c.in_ok-right_images.right_images _ _ (length c.args.right_opened.now.clause.sorts) (length c.args.opened.now.clause.sorts + length c.args.left_opened.now.clause.sorts) c.in_ok-right_images.ensures (ap length c.as_slice-right_sorts.ensures) (omega (arith, ap length c.as_slice-own.ensures, ap length c.as_slice-left_sorts.ensures))) c.args.left.now.number c.args.right.now.number c.in_ok-left_premise.left_premise c.in_ok-right_premise.right_premise c.in_ok-left_premise.ensures c.in_ok-right_premise.ensures
+      c.args.left_lit c.requires.resolves.0 c.requires.resolves.1,
+)
+
+pub resolvent-requires-clause-goal : goal.resolvent-requires-clause-goal
+resolvent-requires-clause-goal c =
+    goal_in c.args.signature.now c.args.line.now c.args.opened.now c.as_slice-own.result.now c.in_ok-reach.reach.more c.requires.line.ready c.requires.line.opening c.as_slice-own.ensures c.in_ok-reach.ensures.few (parents_exist c.args.signature.now c.args.left.now.form c.args.right.now.form c.args.left_opened.now c.args.right_opened.now c.as_slice-left_sorts.result.now c.as_slice-right_sorts.result.now c.in_ok-reach.reach.more c.requires.left c.requires.right c.in_ok-reach.ensures.more c.as_slice-left_sorts.ensures c.as_slice-right_sorts.ensures)
+    (scope_sorts (Outside c.as_slice.result)) (scope_is c.as_slice.result c.in_ok-reach.reach.sorts c.as_slice-own.result.now c.in_ok-reach.reach.more c.as_slice.ensures c.in_ok-reach.ensures.sorts)
+
+pub resolvent-requires-clause-left : goal.resolvent-requires-clause-left
+resolvent-requires-clause-left c =
+    left_premise_sorted c.args.signature.now c.args.opened.now.clause c.args.subst.now c.args.left.now.form c.args.right.now.form c.args.left_opened.now c.args.right_opened.now c.requires.left c.requires.right c.requires.joint
+    c.in_ok-left_images.left_images c.in_ok-right_images.right_images (part_is c.args.subst.now c.in_ok-left_images.left_images _ _ (length c.args.left_opened.now.clause.sorts) (length c.args.opened.now.clause.sorts) c.in_ok-left_images.ensures (ap length c.as_slice-left_sorts.ensures) (ap length c.as_slice-own.ensures)) (part_is c.args.subst.now c.in_ok-right_images.right_images _ _ (length c.args.right_opened.now.clause.sorts) (length c.args.opened.now.clause.sorts + length c.args.left_opened.now.clause.sorts) c.in_ok-right_images.ensures (ap length c.as_slice-right_sorts.ensures) (omega (arith, ap length c.as_slice-own.ensures, ap length c.as_slice-left_sorts.ensures))) c.args.left.now.number c.args.right.now.number c.in_ok-left_premise.left_premise c.in_ok-right_premise.right_premise c.in_ok-left_premise.ensures c.in_ok-right_premise.ensures
+    (scope_sorts (Outside c.as_slice.result)) (reach_is (scope_sorts (Outside c.as_slice.result)) c.as_slice-own.result.now c.as_slice-left_sorts.result.now c.as_slice-right_sorts.result.now c.args.opened.now.clause.sorts c.args.left_opened.now.clause.sorts c.args.right_opened.now.clause.sorts c.in_ok-reach.reach.more (scope_is c.as_slice.result c.in_ok-reach.reach.sorts c.as_slice-own.result.now c.in_ok-reach.reach.more c.as_slice.ensures c.in_ok-reach.ensures.sorts) c.in_ok-reach.ensures.more c.as_slice-own.ensures c.as_slice-left_sorts.ensures c.as_slice-right_sorts.ensures)
+
+pub resolvent-requires-clause-right : goal.resolvent-requires-clause-right
+resolvent-requires-clause-right c =
+    right_premise_sorted c.args.signature.now c.args.opened.now.clause c.args.subst.now c.args.left.now.form c.args.right.now.form c.args.left_opened.now c.args.right_opened.now c.requires.left c.requires.right c.requires.joint
+    c.in_ok-left_images.left_images c.in_ok-right_images.right_images (part_is c.args.subst.now c.in_ok-left_images.left_images _ _ (length c.args.left_opened.now.clause.sorts) (length c.args.opened.now.clause.sorts) c.in_ok-left_images.ensures (ap length c.as_slice-left_sorts.ensures) (ap length c.as_slice-own.ensures)) (part_is c.args.subst.now c.in_ok-right_images.right_images _ _ (length c.args.right_opened.now.clause.sorts) (length c.args.opened.now.clause.sorts + length c.args.left_opened.now.clause.sorts) c.in_ok-right_images.ensures (ap length c.as_slice-right_sorts.ensures) (omega (arith, ap length c.as_slice-own.ensures, ap length c.as_slice-left_sorts.ensures))) c.args.left.now.number c.args.right.now.number c.in_ok-left_premise.left_premise c.in_ok-right_premise.right_premise c.in_ok-left_premise.ensures c.in_ok-right_premise.ensures
+    (scope_sorts (Outside c.as_slice.result)) (reach_is (scope_sorts (Outside c.as_slice.result)) c.as_slice-own.result.now c.as_slice-left_sorts.result.now c.as_slice-right_sorts.result.now c.args.opened.now.clause.sorts c.args.left_opened.now.clause.sorts c.args.right_opened.now.clause.sorts c.in_ok-reach.reach.more (scope_is c.as_slice.result c.in_ok-reach.reach.sorts c.as_slice-own.result.now c.in_ok-reach.reach.more c.as_slice.ensures c.in_ok-reach.ensures.sorts) c.in_ok-reach.ensures.more c.as_slice-own.ensures c.as_slice-left_sorts.ensures c.as_slice-right_sorts.ensures)
+
+pub returns : goal.returns
+returns c =
+    let sc = (goal_in c.args.signature.now c.args.line.now c.args.opened.now c.as_slice-own.result.now c.in_ok-reach.reach.more c.requires.line.ready c.requires.line.opening c.as_slice-own.ensures c.in_ok-reach.ensures.few (parents_exist c.args.signature.now c.args.left.now.form c.args.right.now.form c.args.left_opened.now c.args.right_opened.now c.as_slice-left_sorts.result.now c.as_slice-right_sorts.result.now c.in_ok-reach.reach.more c.requires.left c.requires.right c.in_ok-reach.ensures.more c.as_slice-left_sorts.ensures c.as_slice-right_sorts.ensures) (scope_sorts (Outside c.as_slice.result)) (scope_is c.as_slice.result c.in_ok-reach.reach.sorts c.as_slice-own.result.now c.in_ok-reach.reach.more c.as_slice.ensures c.in_ok-reach.ensures.sorts)).sorted.scope_fits in
+    ok_map c.closed.result
+    (λ made e formulas tl tr. rw e (rw c.as_slice-2.ensures
+    (shown_in c.args.signature.now c.args.line.now c.args.opened.now c.as_slice-own.result.now c.in_ok-reach.reach.more c.requires.line.ready c.requires.line.opening c.as_slice-own.ensures c.in_ok-reach.ensures.few (parents_exist c.args.signature.now c.args.left.now.form c.args.right.now.form c.args.left_opened.now c.args.right_opened.now c.as_slice-left_sorts.result.now c.as_slice-right_sorts.result.now c.in_ok-reach.reach.more c.requires.left c.requires.right c.in_ok-reach.ensures.more c.as_slice-left_sorts.ensures c.as_slice-right_sorts.ensures)
+    (scope_sorts (Outside c.as_slice.result)) formulas c.in_ok-part.part (scope_is c.as_slice.result c.in_ok-reach.reach.sorts c.as_slice-own.result.now c.in_ok-reach.reach.more c.as_slice.ensures c.in_ok-reach.ensures.sorts)
+    (c.in_ok-part.ensures formulas
+    (left_shown c.args.signature.now c.args.opened.now.clause c.args.subst.now c.args.left.now.form c.args.right.now.form c.args.left_opened.now c.args.right_opened.now c.requires.left c.requires.right c.requires.joint c.in_ok-left_images.left_images c.in_ok-right_images.right_images (part_is c.args.subst.now c.in_ok-left_images.left_images _ _ (length c.args.left_opened.now.clause.sorts) (length c.args.opened.now.clause.sorts) c.in_ok-left_images.ensures (ap length c.as_slice-left_sorts.ensures) (ap length c.as_slice-own.ensures)) (part_is c.args.subst.now c.in_ok-right_images.right_images _ _ (length c.args.right_opened.now.clause.sorts) (length c.args.opened.now.clause.sorts + length c.args.left_opened.now.clause.sorts) c.in_ok-right_images.ensures (ap length c.as_slice-right_sorts.ensures) (omega (arith, ap length c.as_slice-own.ensures, ap length c.as_slice-left_sorts.ensures))) c.args.left.now.number c.args.right.now.number c.in_ok-left_premise.left_premise c.in_ok-right_premise.right_premise c.in_ok-left_premise.ensures c.in_ok-right_premise.ensures (scope_sorts (Outside c.as_slice.result)) (reach_is (scope_sorts (Outside c.as_slice.result)) c.as_slice-own.result.now c.as_slice-left_sorts.result.now c.as_slice-right_sorts.result.now c.args.opened.now.clause.sorts c.args.left_opened.now.clause.sorts c.args.right_opened.now.clause.sorts c.in_ok-reach.reach.more (scope_is c.as_slice.result c.in_ok-reach.reach.sorts c.as_slice-own.result.now c.in_ok-reach.reach.more c.as_slice.ensures c.in_ok-reach.ensures.sorts) c.in_ok-reach.ensures.more c.as_slice-own.ensures c.as_slice-left_sorts.ensures c.as_slice-right_sorts.ensures) formulas sc tl)
+    (right_shown c.args.signature.now c.args.opened.now.clause c.args.subst.now c.args.left.now.form c.args.right.now.form c.args.left_opened.now c.args.right_opened.now c.requires.left c.requires.right c.requires.joint c.in_ok-left_images.left_images c.in_ok-right_images.right_images (part_is c.args.subst.now c.in_ok-left_images.left_images _ _ (length c.args.left_opened.now.clause.sorts) (length c.args.opened.now.clause.sorts) c.in_ok-left_images.ensures (ap length c.as_slice-left_sorts.ensures) (ap length c.as_slice-own.ensures)) (part_is c.args.subst.now c.in_ok-right_images.right_images _ _ (length c.args.right_opened.now.clause.sorts) (length c.args.opened.now.clause.sorts + length c.args.left_opened.now.clause.sorts) c.in_ok-right_images.ensures (ap length c.as_slice-right_sorts.ensures) (omega (arith, ap length c.as_slice-own.ensures, ap length c.as_slice-left_sorts.ensures))) c.args.left.now.number c.args.right.now.number c.in_ok-left_premise.left_premise c.in_ok-right_premise.right_premise c.in_ok-left_premise.ensures c.in_ok-right_premise.ensures (scope_sorts (Outside c.as_slice.result)) (reach_is (scope_sorts (Outside c.as_slice.result)) c.as_slice-own.result.now c.as_slice-left_sorts.result.now c.as_slice-right_sorts.result.now c.args.opened.now.clause.sorts c.args.left_opened.now.clause.sorts c.args.right_opened.now.clause.sorts c.in_ok-reach.reach.more (scope_is c.as_slice.result c.in_ok-reach.reach.sorts c.as_slice-own.result.now c.in_ok-reach.reach.more c.as_slice.ensures c.in_ok-reach.ensures.sorts) c.in_ok-reach.ensures.more c.as_slice-own.ensures c.as_slice-left_sorts.ensures c.as_slice-right_sorts.ensures) formulas sc tr)))))
+    c.closed.ensures

@@ -1,0 +1,56 @@
+//! Lines whose normal form is that of a parent.
+ghost use Rattle.std.specs.Prelude.{◌≡◌, [], Some, slice_get, List as ListOf, IfOk};
+ghost use Rattle.fof_terms.specs.declared.form.Form.{Form as Formula};
+ghost use Rattle.kernel.specs.Proves.{Proves};
+ghost use Rattle.clause_rules.specs.Steps.{AreReady, IsReady};
+ghost use Rattle.clause_rules.specs.Answers.{norm as norm_rule};
+ghost use Rattle.rule_proofs.specs.ByRule.{AreAlike, IsByRule};
+ghost use Rattle.clause_proofs.specs.Refuting.{theory_of};
+
+use clause_proofs::line as formula;
+use clause_form::Parent;
+use clause_rules::{Just, norm_step};
+use derive_kit::{Part, imp_e};
+use norm_proofs::{norm_back, norm_forth};
+use fof_terms::{Form, Signature};
+use std::alloc::Global;
+use tptp_base::Memory;
+
+/// A proof of the line by the rule `norm`; None exactly where the rule doesn't give it.
+pub fn by_norm(
+    alloc: Global,
+    signature: &Signature,
+    parents: &[Parent],
+    line: &Form,
+) -> Result<Option<Part>, Memory>
+    requires ready { AreReady signature.now parents.now }
+    requires line { IsReady signature.now line.now }
+    ensures { IfOk result (IsByRule signature.now parents.now line.now norm_rule) }
+{
+    match norm_step(alloc, signature, parents, line)? {
+        Some(Just::Norm { parent }) => {
+            let proof = normed(alloc, signature, &parents[parent as usize], line)?;
+            Ok(Some(proof))
+        }
+        Some(_) => unreachable!(),
+        None => Ok(None),
+    }
+}
+
+/// A proof of the line, by a parent that has the line's normal form.
+pub fn normed(
+    alloc: Global,
+    signature: &Signature,
+    parent: &Parent,
+    line: &Form,
+) -> Result<Part, Memory>
+    requires parent { IsReady signature.now parent.now.form }
+    requires line { IsReady signature.now line.now }
+    requires alike { AreAlike parent.now.form line.now }
+    ensures { IfOk result (λ proof. (formulas : ListOf Formula) → slice_get formulas parent.now.number ≡ Some parent.now.form → Proves (theory_of signature.now formulas) [] [] proof line.now) }
+{
+    let forth = norm_forth(alloc, &parent.form)?;
+    let own = imp_e(alloc, forth, formula(alloc, parent.number)?)?;
+    let back = norm_back(alloc, line)?;
+    imp_e(alloc, back, own)
+}
