@@ -15,9 +15,9 @@ use Rattle.clause_form.specs.declared.clause.AtomOf.TheVariants.{Pred, Eq, True,
 use Rattle.clause_form.specs.declared.clause.Lit.{Lit}
 use Rattle.clause_form.specs.declared.clause.Clause.{Clause}
 use Rattle.clause_form.specs.Covers.{lit_apart, scope_of, is_sorted_atom}
-use Rattle.clause_rules.specs.code.Reach.{atom_reach}
+use Rattle.clause_rules.specs.Reach.{atom_reach}
 use Rattle.clause_rules.specs.declared.joint.Joint.{Joint}
-use Rattle.clause_rules.specs.code.JointClauses.{IsJoined}
+use Rattle.clause_rules.specs.JointClauses.{IsJoined}
 use Rattle.clause_rules.specs.Settled.{IsFit}
 use Rattle.clause_rules.specs.Steps.{scope_of_both}
 use Rattle.clause_rules.proofs.LitImages.{lits_twice}

@@ -6,9 +6,10 @@ use Rattle.fof_terms.specs.declared.term.Term.{Term, Var, App}
 use Rattle.clause_form.specs.declared.clause.AtomOf.TheVariants.{Pred, Eq, True, False}
 use Rattle.clause_form.specs.declared.clause.Lit.{Lit}
 use Rattle.clause_rules.specs.Places.{args_of, with_args, term_at, put_at, args_of_atom, sides_of, lit_term_at}
-use Rattle.clause_rules.specs.code.PlaceSearch.{numbered, places_within, go_on, below, set_on, put_below}
+use Rattle.clause_rules.specs.PlaceSearch.{numbered, places_within}
+use Rattle.clause_rules.specs.code.PlaceSearch.{go_on, below, set_on, put_below}
 use Rattle.clause_rules.proofs.PlaceSearchFacts.{places_within-App}
-use Rattle.clause_rules.proofs.Opened.{mapped_more, take_all}
+use Rattle.clause_rules.proofs.TakenLists.{mapped_more, take_all}
 use Rattle.clause_rules.proofs.PlaceLaws.{args_of-Var, args_of-App, with_args-Var, with_args-App, term_below, put_is_below}
 
 numbered_more : (gs : List (List ℕ → List (List ℕ))) (g : List ℕ → List (List ℕ)) (steps : List ℕ) (n : ℕ) → numbered (gs ++ g ∷ []) steps n ≡ numbered gs steps n ++ g (steps ++ (n + length gs) ∷ [])

@@ -11,7 +11,8 @@ use Rattle.clause_form.specs.declared.clause.AtomOf.TheVariants.{Pred, Eq, True,
 use Rattle.clause_form.specs.declared.clause.Lit.{Lit}
 use Rattle.clause_form.specs.Covers.{at_terms, in_lit}
 use Rattle.clause_rules.specs.Places.{args_of, args_of_layer, with_args, with_args_layer, down_into, term_at, down_with, put_at, args_of_atom, sides_of, atom_with_args, lit_term_at, lit_put_at}
-use Rattle.clause_rules.specs.code.PlaceSearch.{numbered, places_within, places_of, go_on, below, set_on, put_below}
+use Rattle.clause_rules.specs.PlaceSearch.{numbered, places_within, places_of}
+use Rattle.clause_rules.specs.code.PlaceSearch.{go_on, below, set_on, put_below}
 use Rattle.clause_rules.proofs.PlaceSearchFacts.{places_within-Var, places_within-App}
 use Rattle.clause_rules.proofs.Equations.{map_set}
 

@@ -6,7 +6,7 @@ use Rattle.fof_terms.specs.declared.term.Term.{Term, Var, App}
 use Rattle.fof_terms.specs.declared.term.Term.TheFolds.{fold-Term}
 use Rattle.clause_form.specs.declared.clause.Lit.{Lit}
 use Rattle.clause_rules.specs.Places.{args_of, with_args, args_of_atom}
-use Rattle.clause_rules.specs.code.PlaceSearch.{numbered, place_step, places_within}
+use Rattle.clause_rules.specs.PlaceSearch.{numbered, place_step, places_within}
 use Rattle.fof_terms.specs.declared.term.Term.TheOpen as term
 
 -- The equations of this word.

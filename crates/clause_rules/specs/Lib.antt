@@ -10,4 +10,7 @@ pub mod RewriteRule
 pub mod Settled
 pub mod Steps
 pub mod TautologyRule
+pub mod JointClauses
+pub mod PlaceSearch
+pub mod Reach
 pub mod code

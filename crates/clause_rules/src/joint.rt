@@ -1,11 +1,11 @@
 //! Two clauses and the line over one list of variables: those of the line come first and stand for themselves.
 ghost use Rattle.std.specs.Prelude.{◌≡◌, ◌≤◌, ◌++◌, length, map, IfOk};
 ghost use Rattle.clause_form.specs.Covers.{lit_apart, scope_of};
-ghost use Rattle.clause_rules.specs.code.JointClauses.{IsJoined, IsJoinedOne};
+ghost use Rattle.clause_rules.specs.JointClauses.{IsJoined, IsJoinedOne};
 ghost use Rattle.clause_rules.specs.Settled.{IsFit};
 ghost use Rattle.clause_rules.specs.Steps.{scope_of_both};
 
-use crate::apart::apart;
+use crate::keeping_apart::apart;
 use crate::scopes::scope_of_clause;
 use clause_form::{Clause, Lit};
 use fof_terms::{Signature, SortId};

@@ -1,7 +1,8 @@
 //! Places in literals: all of them, the term at one, and the literal with another term there.
 ghost use Rattle.std.specs.Prelude.{◌≡◌, ◌<◌, ◌++◌, ◌∷◌, [], drop, length, map, option_copied, IfOk, OnOk};
 ghost use Rattle.clause_rules.specs.Places.{args_of_atom, atom_with_args, lit_put_at, lit_term_at, put_at, sides_of};
-ghost use Rattle.clause_rules.specs.code.PlaceSearch.{numbered, places_within, places_of, below, put_below};
+ghost use Rattle.clause_rules.specs.PlaceSearch.{numbered, places_within, places_of};
+ghost use Rattle.clause_rules.specs.code.PlaceSearch.{below, put_below};
 
 use crate::numbers::number;
 use crate::position::Position;

@@ -11,11 +11,11 @@ ghost use Rattle.elaborate.specs.code.Proofs.{IsCoverAlone, IsFirstCover};
 use crate::answer::{Reason, Rule, StepAnswer};
 use crate::steps::lemma;
 use clause_form::Parent;
-use rule_proofs::{by_cover, normed};
-use clause_rules::first_norm;
 use derive_kit::Part;
 use fof_terms::{Form, Signature};
 use kernel::Theory;
+use rule_proofs::{by_cover, normed};
+use rule_steps::first_norm;
 use std::alloc::Global;
 use tptp_base::{List, Memory};
 

@@ -11,10 +11,12 @@ ghost use Rattle.elaborate.specs.code.Proofs.{IsFound};
 use crate::answer::{Reason, Rule, StepAnswer};
 use crate::naming::{chosen, defined, skolemized, split};
 use clause_form::Parent;
-use rule_proofs::{by_cover, by_eqfactor, by_norm, by_paramodulation, by_resolution, by_rewrite, by_tautology};
 use derive_kit::Part;
 use fof_terms::Form;
 use kernel::{Entry, Theory};
+use rule_proofs::{
+    by_cover, by_eqfactor, by_norm, by_paramodulation, by_resolution, by_rewrite, by_tautology,
+};
 use std::alloc::Global;
 use tptp_base::{List, Memory};
 

@@ -9,8 +9,8 @@ ghost use Rattle.norm_proofs.specs.code.Links.{kind_of};
 ghost use Rattle.norm_proofs.specs.code.Bound.{at_variable, by_variable, bound_tree, dropped_tree};
 
 use crate::links::Way;
-use derive_kit::{Part, all_e, all_i, ex_e, ex_i, hyp, imp_e, inhabit, not_e, not_i, raa};
 use crate::steps::{Normed, Whole, copy, denied, signed, then, under};
+use derive_kit::{Part, all_e, all_i, ex_e, ex_i, hyp, imp_e, inhabit, not_e, not_i, raa};
 use fof_terms::{Form, SortId, Term, has_variable, instantiate, lift};
 use std::alloc::Global;
 use tptp_base::{Boxed, List, Memory};

@@ -10,11 +10,11 @@ ghost use Rattle.norm_proofs.specs.code.Links.{Arms, kind_of};
 use crate::connectives::{both_sides, iff_sides, imp_sides, sides, sides_back, two};
 use crate::joins::{flatten, join_step};
 use crate::links::{Way, arm, link, toward};
-use derive_kit::Part;
 use crate::steps::{
     Normed, Whole, between_denied, copy, denied, node, signed, then, twice_denied, unchanged,
 };
 use clause_form::{join_flat, norm_signed};
+use derive_kit::Part;
 use fof_terms::Form;
 use kernel::Proof;
 use std::alloc::Global;

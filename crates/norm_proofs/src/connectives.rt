@@ -2,10 +2,10 @@ ghost use Rattle.std.specs.Prelude.{◌≡◌, ◌∷◌, [], true, IfOk};
 ghost use Rattle.kernel.specs.declared.proof.Proof.{Raa, NotE, Hyp, OrI, OrE, IffI};
 ghost use Rattle.norm_proofs.specs.code.Connectives.{sides as sides_of, sides_back as sides_back_of, both_sides as both_sides_of, contrary as contrary_tree, side_at as side_tree, imp_tree, iff_tree};
 
+use crate::steps::{copy, node, under};
 use derive_kit::{
     Part, and_e, and_i, hyp, iff_i, iff_l, iff_r, imp_e, imp_i, not_e, or_e, or_i, raa,
 };
-use crate::steps::{copy, node, under};
 use fof_terms::{Form, copy_all};
 use kernel::Proof;
 use std::alloc::Global;

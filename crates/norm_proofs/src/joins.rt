@@ -8,9 +8,9 @@ ghost use Rattle.norm_proofs.specs.code.Joining.{numbered, spread_tree, lone_tre
 ghost use Rattle.norm_proofs.specs.code.Settled.{ended_tree, alone_tree};
 
 use crate::links::{plain_link, toward};
-use derive_kit::{Part, and_e, and_i, hyp, or_e, or_i};
 use crate::steps::{copy, node, same, then, under};
 use clause_form::{is_end, join_flat, own_members, push_members};
+use derive_kit::{Part, and_e, and_i, hyp, or_e, or_i};
 use fof_terms::{Form, copy_all, equal_all};
 use kernel::Proof;
 use std::alloc::Global;

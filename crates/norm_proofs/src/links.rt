@@ -3,8 +3,8 @@ ghost use Rattle.fof_terms.specs.declared.form.Form.{Not, Or};
 ghost use Rattle.kernel.specs.declared.proof.Proof.{ImpI, OrE, Hyp};
 ghost use Rattle.norm_proofs.specs.code.Links.{kind_of, arm_tree, link_tree};
 
-use derive_kit::{Part, and_e, and_i, hyp, imp_e, not_e, not_i, or_e, or_i, raa};
 use crate::steps::{denied, node, under};
+use derive_kit::{Part, and_e, and_i, hyp, imp_e, not_e, not_i, or_e, or_i, raa};
 use fof_terms::{Form, copy_all};
 use kernel::Proof;
 use std::alloc::Global;

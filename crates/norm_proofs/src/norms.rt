@@ -16,10 +16,10 @@ use crate::connecting::{
 };
 use crate::effort::is_shorter_denied;
 use crate::links::Way;
-use derive_kit::Part;
 use crate::normal::is_normal;
 use crate::steps::{Normed, copy, unchanged};
 use clause_form::norm_signed;
+use derive_kit::Part;
 use fof_terms::{Form, SortId, equal};
 use std::alloc::Global;
 use tptp_base::{Boxed, List, Memory};

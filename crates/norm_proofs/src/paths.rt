@@ -17,10 +17,10 @@ ghost use Rattle.norm_proofs.specs.code.Steps.{Between};
 ghost use Rattle.norm_proofs.specs.code.Alongside.{ArmAt, pick_tree, under_tree};
 ghost use Rattle.norm_proofs.specs.code.Routes.{IsAlong};
 
-use derive_kit::{Part, all_e, all_i, and_e, hyp, imp_e, or_e};
 use crate::steps::{copy, node, same, under};
 use crate::widening::widen;
 use clause_form::{Clause, Path, all_beside, clauses_of_paths, close, forms_of_lits};
+use derive_kit::{Part, all_e, all_i, and_e, hyp, imp_e, or_e};
 use fof_terms::{Form, SortId, Term, equal_all};
 use kernel::Proof;
 use std::alloc::Global;

@@ -5,9 +5,9 @@ ghost use Rattle.norm_proofs.specs.code.Joining.{numbered};
 ghost use Rattle.norm_proofs.specs.code.Numbering.{general as general_tree, near as near_tree};
 ghost use Rattle.norm_proofs.specs.code.Alongside.{chosen as chosen_tree, by_segment as segment_tree, member_tree};
 
-use derive_kit::{Part, all_e, all_i, hyp, imp_e, imp_i, or_e, or_i};
 use crate::steps::{Whole, copy, node};
 use clause_form::{Clause, close};
+use derive_kit::{Part, all_e, all_i, hyp, imp_e, imp_i, or_e, or_i};
 use fof_terms::{Form, SortId, Term, copy_all};
 use kernel::Proof;
 use std::alloc::Global;

@@ -18,9 +18,9 @@ ghost use Rattle.std.specs.Prelude.{IfOk, List, Some, length, true, ℕ, ◌∷�
 use crate::{Control, Probe};
 use clause_form::Path;
 use derive_kit::{Part, cases, cut_under, instance_of, rewrite_in};
-use norm_proofs::{norm_back, norm_forth, path_proof};
 use fof_terms::{Form, SortId, Term};
 use kernel::Proof;
+use norm_proofs::{norm_back, norm_forth, path_proof};
 use std::alloc::Global;
 use tptp_base::{List as Items, Memory};
 

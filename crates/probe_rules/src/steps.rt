@@ -8,11 +8,12 @@ ghost use Rattle.std.specs.Prelude.{IfOk, IsTrue, MatchOption, ◌↔◌};
 
 use crate::{Control, Probe};
 use clause_form::{Clause, Parent};
-use clause_rules::{
-    Just, cover_clause, cover_step, eqfactor_step, first_norm, is_ready, norm_step,
-    paramodulation_step, recognise, resolution_step, rewrite_step, tautology_step,
-};
+use clause_rules::{Just, is_ready};
 use fof_terms::{Form, Signature};
+use rule_steps::{
+    cover_clause, cover_step, eqfactor_step, first_norm, norm_step, paramodulation_step, recognise,
+    resolution_step, rewrite_step, tautology_step,
+};
 use std::alloc::Global;
 use tptp_base::Memory;
 use unify_terms::Subst;

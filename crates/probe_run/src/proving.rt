@@ -16,10 +16,10 @@ ghost use Rattle.skolem_proofs.specs.Choosing.{ChooseAndEnd};
 
 use crate::{Control, Probe};
 use clause_form::Parent;
-use rule_proofs::{by_cover, by_norm, by_resolution, normed};
 use derive_kit::Part;
 use fof_terms::{Form, Signature};
 use kernel::{Entry, Theory};
+use rule_proofs::{by_cover, by_norm, by_resolution, normed};
 use skolem_fresh::SkolemJust;
 use skolem_proofs::skolem_entries;
 use std::alloc::Global;

@@ -4,9 +4,9 @@ ghost use Rattle.norm_proofs.specs.Placed.{SortedSomewhere};
 
 use clause_form::{Path, clause_of_path, norm_size};
 use derive_kit::{Part, and_e, cases, cut_under, hyp, imp_e, imp_i, instance_of, or_i, rewrite_in};
-use norm_proofs::{norm_back, norm_forth, path_proof};
 use fof_terms::{Form, Kind, Signature, SortId, Symbol, Term, equal, well_sorted};
 use kernel::{Entry, Theory};
+use norm_proofs::{norm_back, norm_forth, path_proof};
 use std::alloc::Global;
 use std::test::Fail;
 use tptp_base::{Boxed, List, Memory};

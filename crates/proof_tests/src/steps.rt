@@ -1,9 +1,10 @@
 use clause_form::Parent;
-use clause_rules::{
-    Just, are_ready, cover_step, eqfactor_step, is_ready, norm_step, paramodulation_step,
-    recognise, resolution_step, rewrite_step, tautology_step,
-};
+use clause_rules::{Just, are_ready, is_ready};
 use fof_terms::{Form, Kind, Signature, SymId, Symbol, Term};
+use rule_steps::{
+    cover_step, eqfactor_step, norm_step, paramodulation_step, recognise, resolution_step,
+    rewrite_step, tautology_step,
+};
 use std::alloc::Global;
 use std::test::Fail;
 use tptp_base::{Boxed, List, Memory};

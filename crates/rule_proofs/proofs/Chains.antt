@@ -24,7 +24,7 @@ use Rattle.clause_rules.specs.declared.just.Just.TheVariants.{Rewrite}
 use Rattle.clause_rules.specs.RewriteRule.{AreLitsRewritten, IsRewriteStep, Rewrites, StandsIn}
 use Rattle.clause_rules.specs.Steps.{AreCovered, IsJoint, equation, images_of_parents, scope_of_both}
 use Rattle.clause_rules.proofs.Equations.{equation_image}
-use Rattle.clause_rules.proofs.ParamodulatedAt.{sorted_at}
+use Rattle.rule_steps.proofs.ParamodulatedAt.{sorted_at}
 use Rattle.clause_proofs.specs.declared.opening.Opened.{Opened}
 use Rattle.clause_proofs.specs.declared.premises.Premise.{Premise}
 use Rattle.clause_proofs.specs.code.Bodies.{IsReadyClause}

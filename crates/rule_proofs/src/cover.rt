@@ -20,15 +20,16 @@ ghost use Rattle.rule_proofs.specs.ByRule.{IsByRule};
 ghost use Rattle.clause_proofs.specs.Shown.{ShowsLine};
 ghost use Rattle.clause_proofs.specs.Refuting.{theory_of};
 
+use clause_form::{Clause, FormFault, Parent, Path, clause_of_path, norm};
 use clause_proofs::{
     Opened, closed, few_variables_of, instance_of_part, known_clause, line as formula,
     refute_covered, some_images,
 };
-use clause_form::{Clause, FormFault, Parent, Path, clause_of_path, norm};
-use clause_rules::{Just, cover_step};
+use clause_rules::Just;
 use derive_kit::{Part, imp_e};
-use norm_proofs::{norm_forth, path_proof};
 use fof_terms::{Form, Scope, Signature};
+use norm_proofs::{norm_forth, path_proof};
+use rule_steps::cover_step;
 use std::alloc::Global;
 use tptp_base::Memory;
 use unify_terms::Subst;

@@ -19,15 +19,16 @@ ghost use Rattle.clause_proofs.specs.Shown.{ShowsLine};
 ghost use Rattle.clause_proofs.specs.Refuting.{IsGoal, RefutesBody, RefutesIn, ShowsBody, body, theory_of};
 ghost use Rattle.clause_proofs.specs.code.Refuting.{ShowsFrom};
 
+use crate::rewriting::{picked, read};
+use clause_form::{AtomOf, Lit, Parent, form_of_lit};
 use clause_proofs::{
     Opened, Premise, by_pivot, closed, contrary, denial, few_variables_of, instance_by,
     known_clause, known_sort, some_images, turned,
 };
-use crate::rewriting::{picked, read};
-use clause_form::{AtomOf, Lit, Parent, form_of_lit};
-use clause_rules::{Just, eqfactor_step};
+use clause_rules::Just;
 use derive_kit::{Part, cut_under, hyp, subst};
 use fof_terms::{Form, Scope, Signature, Term, lift_term};
+use rule_steps::eqfactor_step;
 use std::alloc::Global;
 use tptp_base::Memory;
 use unify_terms::Subst;

@@ -7,12 +7,13 @@ ghost use Rattle.clause_rules.specs.Answers.{norm as norm_rule};
 ghost use Rattle.rule_proofs.specs.ByRule.{AreAlike, IsByRule};
 ghost use Rattle.clause_proofs.specs.Refuting.{theory_of};
 
-use clause_proofs::line as formula;
 use clause_form::Parent;
-use clause_rules::{Just, norm_step};
+use clause_proofs::line as formula;
+use clause_rules::Just;
 use derive_kit::{Part, imp_e};
-use norm_proofs::{norm_back, norm_forth};
 use fof_terms::{Form, Signature};
+use norm_proofs::{norm_back, norm_forth};
+use rule_steps::norm_step;
 use std::alloc::Global;
 use tptp_base::Memory;
 

@@ -18,12 +18,15 @@ ghost use Rattle.clause_proofs.specs.Shown.{ShowsLine};
 ghost use Rattle.clause_proofs.specs.Refuting.{IsGoal, RefutesBody, ShowsBody, body, theory_of};
 ghost use Rattle.rule_proofs.specs.code.Rewriting.{AreInstances};
 
-use clause_proofs::{Opened, Premise, closed, instance_by, known_clause, some_images, variables_of};
 use crate::rewriting::by_equation;
 use clause_form::{Lit, Parent, copy_lits};
-use clause_rules::{Just, Position, paramodulation_step, put_in};
+use clause_proofs::{
+    Opened, Premise, closed, instance_by, known_clause, some_images, variables_of,
+};
+use clause_rules::{Just, Position, put_in};
 use derive_kit::Part;
 use fof_terms::{Form, Scope, Signature, Term};
+use rule_steps::paramodulation_step;
 use std::alloc::Global;
 use tptp_base::{List, Memory};
 use unify_terms::Subst;

@@ -14,14 +14,15 @@ ghost use Rattle.clause_proofs.specs.code.Bodies.{IsReadyClause};
 ghost use Rattle.clause_proofs.specs.Refuting.{IsGoal, RefutesBody, ShowsBody, body, theory_of};
 ghost use Rattle.kernel.specs.Proves.{Proves};
 
+use clause_form::Parent;
 use clause_proofs::{
     Opened, Premise, by_pivot, closed, instance_by, known_clause, refuted, some_images,
     variables_of,
 };
-use clause_form::Parent;
-use clause_rules::{Just, resolution_step};
+use clause_rules::Just;
 use derive_kit::Part;
 use fof_terms::{Form, Scope, Signature};
+use rule_steps::resolution_step;
 use std::alloc::Global;
 use tptp_base::Memory;
 use unify_terms::Subst;

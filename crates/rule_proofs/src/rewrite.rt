@@ -17,14 +17,15 @@ ghost use Rattle.clause_proofs.specs.Shown.{ShowsLine};
 ghost use Rattle.clause_proofs.specs.Refuting.{IsGoal, RefutesBody, ShowsBody, body, theory_of};
 ghost use Rattle.rule_proofs.specs.code.Rewriting.{IsRewriting, chained_images};
 
+use crate::rewriting::by_equation;
+use clause_form::{Lit, Parent};
 use clause_proofs::{
     Opened, Premise, closed, images_of, instance_by, known_clause, some_images, variables_of,
 };
-use crate::rewriting::by_equation;
-use clause_form::{Lit, Parent};
-use clause_rules::{Just, replace_in_lits, rewrite_step};
+use clause_rules::{Just, replace_in_lits};
 use derive_kit::Part;
 use fof_terms::{Form, Scope, Signature, Term};
+use rule_steps::rewrite_step;
 use std::alloc::Global;
 use tptp_base::Memory;
 use unify_terms::Subst;

@@ -14,10 +14,10 @@ ghost use Rattle.clause_proofs.specs.Refuting.{AllSettled, IsGoal, RefutesBody, 
 ghost use Rattle.clause_proofs.specs.code.Refuting.{ShowsFrom};
 ghost use Rattle.rule_proofs.specs.code.Rewriting.{IsMarked, IsRewriting, filled as filled_lits, with_hole};
 
+use clause_form::{AtomOf, Lit};
 use clause_proofs::{
     Opened, Premise, by_pivot, form_of_body, images_of_lits, known_sort, refuted, turned,
 };
-use clause_form::{AtomOf, Lit};
 use derive_kit::{Part, hyp, rewrite_in};
 use fof_terms::{Form, Scope, Signature, Term, copy_terms, lift_terms};
 use std::alloc::Global;

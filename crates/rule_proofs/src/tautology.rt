@@ -13,11 +13,11 @@ ghost use Rattle.rule_proofs.specs.ByRule.{IsByRule};
 ghost use Rattle.rule_proofs.specs.code.Shown.{ShowsAlone};
 ghost use Rattle.clause_proofs.specs.Refuting.{IsGoal, RefutesBody, body};
 
-use clause_proofs::{Opened, closed, contrary, denial, few_variables_of, known_clause, negated};
 use clause_form::{Lit, Parent, are_complementary, denies, form_of_lit};
-use clause_rules::tautology_step;
+use clause_proofs::{Opened, closed, contrary, denial, few_variables_of, known_clause, negated};
 use derive_kit::{Part, cut_under};
 use fof_terms::{Form, Scope, Signature};
+use rule_steps::tautology_step;
 use std::alloc::Global;
 use tptp_base::Memory;
 

@@ -16,7 +16,7 @@ use Rattle.clause_form.specs.ClauseView.{clause_of}
 use Rattle.clause_rules.specs.Settled.{IsFit}
 use Rattle.clause_rules.specs.Steps.{AreReady, IsReady}
 use Rattle.clause_rules.proofs.Firsts.{one_at}
-use Rattle.clause_rules.proofs.ResolutionLoops.{form_fits}
+use Rattle.rule_steps.proofs.ResolutionLoops.{form_fits}
 use Rattle.split_defs.specs.declared.names.Named.{Named}
 use Rattle.split_defs.specs.SplitRule.{Names, AllName}
 use Rattle.split_defs.specs.code.SplitSearch.{IsNamed}

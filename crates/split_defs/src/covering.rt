@@ -6,8 +6,8 @@ ghost use Rattle.split_defs.specs.code.SplitSearch.{IsCoveredAmong, IsCovering};
 ghost use Rattle.split_defs.specs.SplitSearch.{forms_of};
 
 use clause_form::{Clause, Parent, as_clause};
-use clause_rules::cover_clause;
 use fof_terms::{Form, Signature};
+use rule_steps::cover_clause;
 use std::alloc::Global;
 use tptp_base::Memory;
 use unify_terms::Subst;

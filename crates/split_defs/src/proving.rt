@@ -22,7 +22,10 @@ use crate::just::SplitJust;
 use crate::stages::{Stage, all_stages};
 use crate::together::{few_variables, together};
 use clause_form::{Clause, Parent};
-use clause_proofs::{Opened, Premise, body_form, for_all, inhabited, instance_by, known_clause, refute_covered, some_images, variables_of};
+use clause_proofs::{
+    Opened, Premise, body_form, for_all, inhabited, instance_by, known_clause, refute_covered,
+    some_images, variables_of,
+};
 use derive_kit::{Part, cases, imp_e, imp_i, raa};
 use fof_terms::{Form, Scope, Signature, SortId};
 use kernel::{Entry, Theory};

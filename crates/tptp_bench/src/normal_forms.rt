@@ -10,8 +10,8 @@ use crate::parts::quantified;
 use crate::symbols::declare;
 use anyhow::Result;
 use clause_form::{norm, norm_size};
-use norm_proofs::{norm_back, norm_forth};
 use fof_terms::{Form, Kind, Signature, well_sorted};
+use norm_proofs::{norm_back, norm_forth};
 use std::alloc::Global;
 use tptp_base::{Boxed, Memory};
 

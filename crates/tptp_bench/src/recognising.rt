@@ -2,8 +2,9 @@
 use crate::job::StepShape;
 use crate::steps::{Step, made};
 use crate::symbols::declare;
-use clause_rules::{Just, are_ready, is_ready, recognise};
+use clause_rules::{Just, are_ready, is_ready};
 use fof_terms::{Kind, Signature};
+use rule_steps::recognise;
 use std::alloc::Global;
 use tptp_base::Memory;
 

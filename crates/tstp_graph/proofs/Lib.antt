@@ -8,3 +8,6 @@ pub mod Settling
 pub mod Texts
 pub mod Wholes
 pub mod Readings
+pub mod SameSources
+pub mod SameNodes
+pub mod OneNodeEach

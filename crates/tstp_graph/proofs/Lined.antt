@@ -10,9 +10,10 @@ use Rattle.tstp_graph.specs.declared.cite.Reading.{Reading}
 use Rattle.tstp_graph.specs.declared.fault.GraphFault.{GraphFault}
 use Rattle.tstp_graph.specs.declared.fault.GraphFault.TheVariants.{DuplicateLine, BadSource}
 use Rattle.tstp_graph.specs.Lines.{is_typing}
-use Rattle.tstp_graph.specs.Meaning.{Means, resolved}
-use Rattle.tstp_graph.specs.Sources.{source_of}
-use Rattle.tstp_graph.specs.Nodes.{is_first, resolved_line, read_line, line_answer, item_answer, go_on, nodes_from}
+use Rattle.tstp_graph.specs.Meaning.{Means}
+use Rattle.tstp_graph.specs.code.Meaning.{resolved}
+use Rattle.tstp_graph.specs.code.Sources.{source_of}
+use Rattle.tstp_graph.specs.code.Nodes.{is_first, resolved_line, read_line, line_answer, item_answer, go_on, nodes_from}
 use Rattle.tstp_graph.specs.code.Graphs.{AreLines}
 
 resolved_at : (at : ℕ) (formula : Annotated) (is_step : Bool) (answer : Result (List Ref) Name) (node : Node) → resolved_line at formula is_step answer ≡ Ok (Some node) → node.item ≡ at

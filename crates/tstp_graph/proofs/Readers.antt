@@ -5,7 +5,7 @@ use Rattle.std.proofs.lemmas.List.{take_more, take_all, append-nil}
 use Rattle.tptp_base.specs.declared.item.GTerm.{GTerm}
 use Rattle.tstp_graph.specs.declared.cite.Cite.{Cite}
 use Rattle.tstp_graph.specs.declared.cite.Reading.{Reading}
-use Rattle.tstp_graph.specs.Sources.{reading, list_reading}
+use Rattle.tstp_graph.specs.code.Sources.{reading, list_reading}
 
 map_last : {X Y : Type 0} (f : X → Y) (xs : List X) (x : X) → map f (xs ++ x ∷ []) ≡ map f xs ++ f x ∷ []
 map_last f [] x = refl

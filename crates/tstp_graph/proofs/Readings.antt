@@ -9,7 +9,7 @@ use Rattle.tptp_base.specs.declared.item.GTerm.TheFolds.{fold-roll-GTerm}
 use denote.Hole.Carrier.{roll}
 use Rattle.tstp_graph.specs.declared.cite.Reading.{Reading}
 use Rattle.tstp_graph.specs.Words.{record_kind}
-use Rattle.tstp_graph.specs.Sources.{nothing, word_reading, number_reading, list_reading, pair_reading, record_reading, row, reading}
+use Rattle.tstp_graph.specs.code.Sources.{nothing, word_reading, number_reading, list_reading, pair_reading, record_reading, row, reading}
 use Rattle.tptp_base.specs.declared.item.GTerm.TheVariants as term
 use Rattle.tptp_base.specs.declared.item.GTerm.TheOpen as open_term
 

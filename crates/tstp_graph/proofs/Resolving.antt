@@ -12,12 +12,13 @@ use Rattle.tstp_graph.specs.declared.shape.Node.{Node}
 use Rattle.tstp_graph.specs.declared.cite.Cite.{Cite}
 use Rattle.tstp_graph.specs.declared.refs.Marks.{Marks}
 use Rattle.tstp_graph.specs.declared.fault.GraphFault.{GraphFault}
-use Rattle.tstp_graph.specs.Meaning.{Means, same_ref, with_ref, with_refs, meaning, is_known, cite_name, resolved}
+use Rattle.tstp_graph.specs.Meaning.{Means, same_ref, with_ref, with_refs, meaning, is_known, cite_name}
+use Rattle.tstp_graph.specs.code.Meaning.{resolved}
 use Rattle.tstp_graph.specs.code.RefSets.{noted, Notes, AreMembers}
-use Rattle.tstp_graph.specs.Nodes.{is_first, resolved_line, read_line, line_answer, item_answer, go_on, nodes_from}
+use Rattle.tstp_graph.specs.code.Nodes.{is_first, resolved_line, read_line, line_answer, item_answer, go_on, nodes_from}
 use Rattle.tstp_graph.specs.code.Nodes.{IsStep}
 use Rattle.tstp_graph.specs.code.Outcomes.{Yields}
-use Rattle.tstp_graph.specs.Sources.{source_of}
+use Rattle.tstp_graph.specs.code.Sources.{source_of}
 use Rattle.tstp_graph.specs.Lines.{is_typing}
 use Rattle.tstp_graph.specs.declared.cite.Reading.{Reading}
 use Rattle.tstp_graph.specs.declared.fault.GraphFault.TheVariants.{DuplicateLine, BadSource}

@@ -10,10 +10,12 @@ use Rattle.tstp_graph.specs.declared.fault.GraphFault.{GraphFault}
 use Rattle.tstp_graph.specs.declared.fault.GraphFault.TheVariants.{Memory, Cycle}
 use Rattle.tstp_graph.specs.Lines.{IsOverLimit}
 use Rattle.tstp_graph.specs.Meaning.{Means, means_of}
-use Rattle.tstp_graph.specs.Nodes.{nodes_from}
+use Rattle.tstp_graph.specs.code.Nodes.{nodes_from}
 use Rattle.tstp_graph.specs.Order.{IsOrder, is_taken, first_left}
-use Rattle.tstp_graph.specs.code.Graphs.{AreLines, IsFormula, IsFormulaAt}
-use Rattle.tstp_graph.specs.Graphs.{IsOrdered, IsGraph, IsGraphBy, IsFaultBy, IsCycleIn, IsCycleOf, IsCycleAt, LeavesOne, IsFault}
+use Rattle.tstp_graph.specs.code.Graphs.{AreLines, IsFormula, IsFormulaAt, IsGraphBy, IsFaultBy}
+use Rattle.tstp_graph.specs.Graphs.{IsOrdered, IsGraph, IsCycleIn, IsCycleOf, IsCycleAt, LeavesOne, IsFault}
+use Rattle.tstp_graph.specs.Graphs as plain
+use Rattle.tstp_graph.proofs.SameNodes.{same_nodes}
 
 pub whole_graph : (means : Means) (items : List Item) (nodes : List Node) (r : Result Graph GraphFault) → nodes_from means 0 items [] ≡ Ok nodes → IfOk r (IsOrdered nodes) → IfOk r (IsGraphBy means items)
 whole_graph means items nodes (Ok graph) is ordered = record {
@@ -32,13 +34,22 @@ pub item_fault : (means : Means) (items : List Item) (fault : GraphFault) → (f
 item_fault means items fault (inl memory) = inl memory
 item_fault means items fault (inr is) = inr (inl is)
 
+-- the nodes that the code finds are those of the derivation
+plain_graph : (items : List Item) (given : List Name) (graph : Graph) → IsGraphBy (means_of items given) items graph → plain.IsGraphBy (means_of items given) items graph
+plain_graph items given graph is = record { nodes = sym (same_nodes items given) ∙ is.nodes; order = is.order; all = is.all }
+
+plain_fault : (items : List Item) (given : List Name) (fault : GraphFault) → IsFaultBy (means_of items given) items fault → plain.IsFaultBy (means_of items given) items fault
+plain_fault items given fault (inl memory) = inl memory
+plain_fault items given fault (inr (inl is)) = inr (inl (sym (same_nodes items given) ∙ is))
+plain_fault items given fault (inr (inr (nodes, is, leaves))) = inr (inr (nodes, sym (same_nodes items given) ∙ is, leaves))
+
 pub known_graph : (items : List Item) (given : List Name) (means : Means) (r : Result Graph GraphFault) → (IsOverLimit items → ⊥) → means ≡ means_of items given → IfOk r (IsGraphBy means items) → IfOk r (IsGraph items given)
-known_graph items given means (Ok graph) few same is = record { few = few; is_graph = subst (λ (m : Means). IsGraphBy m items graph) same is }
+known_graph items given means (Ok graph) few same is = record { few = few; is_graph = plain_graph items given graph (subst (λ (m : Means). IsGraphBy m items graph) same is) }
 known_graph items given means (Err fault) few same is = tt
 
 pub known_fault : (items : List Item) (given : List Name) (means : Means) (r : Result Graph GraphFault) → (IsOverLimit items → ⊥) → means ≡ means_of items given → IfErr r (IsFaultBy means items) → IfErr r (IsFault items given)
 known_fault items given means (Ok graph) few same is = tt
-known_fault items given means (Err fault) few same is = inr (few, subst (λ (m : Means). IsFaultBy m items fault) same is)
+known_fault items given means (Err fault) few same is = inr (few, plain_fault items given fault (subst (λ (m : Means). IsFaultBy m items fault) same is))
 
 pub wanting : (items : List Item) (given : List Name) → (IsOverLimit items → ⊥) → IsFault items given Memory
 wanting items given few = inr (few, inl refl)

@@ -1,6 +1,6 @@
 -- The graph of a derivation, and why items have none: the answer is determined by the items and the names of the given
 -- formulas.
-use Rattle.std.specs.Prelude.{ℕ, ◌≡◌, ◌⊎◌, List, [], None, Some, Ok, Err, slice_get}
+use Rattle.std.specs.Prelude.{ℕ, ◌≡◌, ◌⊎◌, List, None, Some, Ok, Err, slice_get}
 use Rattle.tptp_base.specs.declared.name.Name.{Name}
 use Rattle.tptp_base.specs.declared.limit.LimitName.TheVariants.{Lines}
 use Rattle.tptp_base.specs.declared.item.Annotated.{Annotated}
@@ -12,7 +12,7 @@ use Rattle.tstp_graph.specs.declared.fault.GraphFault.{GraphFault}
 use Rattle.tstp_graph.specs.declared.fault.GraphFault.TheVariants.{Cycle, Limit, Memory}
 use Rattle.tstp_graph.specs.Lines.{IsOverLimit}
 use Rattle.tstp_graph.specs.Meaning.{Means, means_of}
-use Rattle.tstp_graph.specs.Nodes.{nodes_from}
+use Rattle.tstp_graph.specs.Nodes.{nodes_of}
 use Rattle.tstp_graph.specs.Order.{IsOrder, is_taken, first_left}
 
 -- The graph has these nodes, and its order takes them all.
@@ -43,7 +43,7 @@ pub record LeavesOne (items : List Item) (nodes : List Node) (fault : GraphFault
 
 -- Where names mean this, the nodes of the graph are those of the lines, and its order takes them all.
 pub record IsGraphBy (means : Means) (items : List Item) (graph : Graph) : Type 0 where
-  pub nodes : nodes_from means 0 items [] ≡ Ok graph.nodes
+  pub nodes : nodes_of means items ≡ Ok graph.nodes
   pub order : IsOrder graph.nodes graph.order
   pub all : first_left (is_taken graph.order) 0 graph.nodes ≡ None
 
@@ -54,11 +54,11 @@ pub record IsGraph (items : List Item) (given : List Name) (graph : Graph) : Typ
 
 -- a line is in a cycle, or waits for one, and this is the first
 abbrev pub IsCycle : Means → List Item → GraphFault → Type 0
-IsCycle means items fault = (nodes : List Node) × (nodes_from means 0 items [] ≡ Ok nodes) × LeavesOne items nodes fault
+IsCycle means items fault = (nodes : List Node) × (nodes_of means items ≡ Ok nodes) × LeavesOne items nodes fault
 
 -- where names mean this, the fault is that of the first faulty item, or else a cycle
 abbrev pub IsFaultBy : Means → List Item → GraphFault → Type 0
-IsFaultBy means items fault = (fault ≡ Memory) ⊎ ((nodes_from means 0 items [] ≡ Err fault) ⊎ IsCycle means items fault)
+IsFaultBy means items fault = (fault ≡ Memory) ⊎ ((nodes_of means items ≡ Err fault) ⊎ IsCycle means items fault)
 
 -- Why items have no graph: there are too many formulas; or else an item has a fault, the first; or else there is a
 -- cycle. Want of memory is never ruled out.

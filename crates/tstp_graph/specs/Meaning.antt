@@ -1,7 +1,7 @@
 -- What the names in a source mean: a line of the derivation, or given formulas, as derivations in the TPTP's language
 -- refer to them.
-use Rattle.std.specs.Prelude.{ℕ, ◌==◌, ◌&&◌, ◌||◌, Bool, true, false, not, List, [], ◌∷◌, ◌++◌, map, Result, Ok, Err, if◌then◌else◌}
-use Rattle.std.specs.List.{list_any}
+use Rattle.std.specs.Prelude.{ℕ, ◌==◌, ◌||◌, Bool, true, false, List, [], ◌∷◌, ◌++◌, map, Option, None, Some, if◌then◌else◌}
+use Rattle.std.specs.List.{flat_map, list_any}
 use Rattle.tptp_base.specs.declared.name.Name.{Name}
 use Rattle.tptp_base.specs.declared.item.Item.{Item}
 use Rattle.tstp_graph.specs.declared.shape.Ref.{Ref}
@@ -64,12 +64,14 @@ abbrev pub with_refs : List Ref → List Ref → List Ref
 with_refs refs [] = refs
 with_refs refs (ref ∷ more) = with_refs (with_ref refs ref) more
 
--- The refs so far with what further parents mean, each once in the order in which they appear; or the name of the
--- first that means nothing, where each must mean something.
-abbrev pub resolved : Bool → Means → List Ref → List Cite → Result (List Ref) Name
-resolved is_strict means refs [] = Ok refs
-resolved is_strict means refs (cite ∷ cites) =
-    if is_strict && not (is_known means cite) then Err (cite_name cite) else resolved is_strict means (with_refs refs (meaning means cite)) cites
+-- what parents mean, each once in the order in which they appear
+abbrev pub parents : Means → List Cite → List Ref
+parents means cites = with_refs [] (flat_map (meaning means) cites)
+
+-- the name of the first parent that means nothing
+abbrev pub first_unknown : Means → List Cite → Option Name
+first_unknown means [] = None
+first_unknown means (cite ∷ cites) = if is_known means cite then first_unknown means cites else Some (cite_name cite)
 
 abbrev pub is_some_ref : List Ref → Bool
 is_some_ref [] = false

@@ -1,56 +1,56 @@
--- The nodes of a derivation, and the first item at which it is faulty.
-use Rattle.std.specs.Prelude.{ℕ, ◌+◌, ◌==◌, Bool, false, not, List, [], ◌∷◌, ◌++◌, length, Option, None, Some, Result, Ok, Err, if◌then◌else◌}
+-- The nodes of a derivation: one for each line, in the order of the text, unless an item is faulty.
+use Rattle.std.specs.Prelude.{ℕ, ◌+◌, Bool, false, not, List, [], ◌∷◌, ◌++◌, Option, None, Some, Result, Ok, Err, if◌then◌else◌}
+use Rattle.std.specs.List.{list_any}
 use Rattle.tptp_base.specs.declared.name.Name.{Name}
 use Rattle.tptp_base.specs.declared.item.Annotated.{Annotated}
 use Rattle.tptp_base.specs.declared.item.Item.{Item}
 use Rattle.tstp_graph.specs.declared.shape.Ref.{Ref}
 use Rattle.tstp_graph.specs.declared.shape.Node.{Node}
-use Rattle.tstp_graph.specs.declared.cite.Reading.{Reading}
 use Rattle.tstp_graph.specs.declared.fault.GraphFault.{GraphFault}
 use Rattle.tstp_graph.specs.declared.fault.GraphFault.TheVariants.{UnknownParent, DuplicateLine, BadSource, Include}
 use Rattle.tstp_graph.specs.Lines.{is_typing}
-use Rattle.tstp_graph.specs.Meaning.{Means, is_some_ref, resolved}
-use Rattle.tstp_graph.specs.Sources.{source_of}
+use Rattle.tstp_graph.specs.Meaning.{Means, parents, first_unknown, is_some_ref}
+use Rattle.tstp_graph.specs.Sources.{Source, source_of}
+use Rattle.tstp_graph.specs.Tables.{same_name}
 use Rattle.tptp_base.specs.declared.item.Item.TheVariants as item
 
--- the first of these places is this one
-abbrev pub is_first : List ℕ → ℕ → Bool
-is_first [] number = false
-is_first (place ∷ places) number = place == number
-
--- the node of a line whose source is read so, and whose parents are these
+-- the node of a step or a leaf with these parents, which stands at this place among the items
 abbrev pub node_of : ℕ → Bool → List Ref → Node
 node_of at is_step refs = record { item = at; leaf = not is_step; cited = if is_step then false else is_some_ref refs; parents = refs }
 
--- a line whose parents are resolved, or the parent that means nothing
-abbrev pub resolved_line : ℕ → Annotated → Bool → Result (List Ref) Name → Result (Option Node) GraphFault
-resolved_line at formula is_step (Ok refs) = Ok (Some (node_of at is_step refs))
-resolved_line at formula is_step (Err parent) = Err (UnknownParent formula.place formula.name parent)
+-- the node, unless a parent means nothing
+abbrev pub known_line : Annotated → Option Name → Node → Result Node GraphFault
+known_line line None node = Ok node
+known_line line (Some unknown) node = Err (UnknownParent line.place line.name unknown)
 
--- a line whose source is read so
-abbrev pub read_line : Means → ℕ → Annotated → Reading → Result (Option Node) GraphFault
-read_line means at formula source =
-    if source.is_good then resolved_line at formula source.is_step (resolved source.is_step means [] source.gives) else Err (BadSource formula.place formula.name)
+-- the node of a line that is read so, unless its source is malformed, or is that of a step and a parent means nothing
+abbrev pub read_line : Means → ℕ → Annotated → Option Source → Result Node GraphFault
+read_line means at line None = Err (BadSource line.place line.name)
+read_line means at line (Some source) =
+    known_line line (if source.is_step then first_unknown means source.gives else None) (node_of at source.is_step (parents means source.gives))
 
--- the line of this number
-abbrev pub line_answer : Means → ℕ → ℕ → Annotated → Result (Option Node) GraphFault
-line_answer means at number formula =
-    if is_first (means.lines formula.name) number then read_line means at formula (source_of formula.source) else Err (DuplicateLine formula.place formula.name)
+-- the node of a line behind lines of these names, unless one of them has its name
+abbrev pub line_answer : Means → List Name → ℕ → Annotated → Result Node GraphFault
+line_answer means earlier at line =
+    if list_any (λ name. same_name name line.name) earlier then Err (DuplicateLine line.place line.name)
+    else read_line means at line (source_of line.source)
 
--- An item, behind so many items and lines: an include is no part of a derivation, and a comment or a type line makes no
--- node.
-abbrev pub item_answer : Means → ℕ → ℕ → Item → Result (Option Node) GraphFault
-item_answer means at number (item.Comment text) = Ok None
-item_answer means at number (item.Include include) = Err (Include include.place)
-item_answer means at number (item.Formula formula) = if is_typing formula.role then Ok None else line_answer means at number formula
+-- a node before others; the first fault stands for them all
+abbrev pub before : Result Node GraphFault → Result (List Node) GraphFault → Result (List Node) GraphFault
+before (Err fault) rest = Err fault
+before (Ok node) (Err fault) = Err fault
+before (Ok node) (Ok nodes) = Ok (node ∷ nodes)
 
--- an item's fault, or the nodes with its own if it has one, as they go on
-abbrev pub go_on : Result (Option Node) GraphFault → (List Node → Result (List Node) GraphFault) → List Node → Result (List Node) GraphFault
-go_on (Err fault) rest nodes = Err fault
-go_on (Ok None) rest nodes = rest nodes
-go_on (Ok (Some node)) rest nodes = rest (nodes ++ node ∷ [])
+-- The nodes of the lines among further items, behind lines of these names and so many items, or the fault of the first
+-- that is faulty. A comment and a type line make no node, and an include is no part of a derivation.
+abbrev pub nodes_from : Means → List Name → ℕ → List Item → Result (List Node) GraphFault
+nodes_from means earlier at [] = Ok []
+nodes_from means earlier at (item.Comment text ∷ items) = nodes_from means earlier (at + 1) items
+nodes_from means earlier at (item.Include include ∷ items) = Err (Include include.place)
+nodes_from means earlier at (item.Formula line ∷ items) =
+    if is_typing line.role then nodes_from means earlier (at + 1) items
+    else before (line_answer means earlier at line) (nodes_from means (earlier ++ line.name ∷ []) (at + 1) items)
 
--- The nodes so far with those of further items, behind so many items, or the first fault of these.
-abbrev pub nodes_from : Means → ℕ → List Item → List Node → Result (List Node) GraphFault
-nodes_from means at [] nodes = Ok nodes
-nodes_from means at (item ∷ items) nodes = go_on (item_answer means at (length nodes) item) (nodes_from means (at + 1) items) nodes
+-- the nodes of a derivation, or the fault of its first faulty item
+abbrev pub nodes_of : Means → List Item → Result (List Node) GraphFault
+nodes_of means items = nodes_from means [] 0 items

@@ -1,88 +1,73 @@
 -- How a source is read, in the words of the TPTP's annotations: what a general term gives as a member of a list of
--- parents, what it makes of a line whose source it is, and where it is malformed.
-use Rattle.std.specs.Prelude.{ℕ, ◌==◌, ◌&&◌, ◌||◌, nat_le, Bool, true, false, List, [], ◌∷◌, length, slice_get, Option, None, Some, is_some, if◌then◌else◌}
-use Rattle.std.specs.List.{flat_map, list_all}
-use Rattle.std.specs.Option.{option_map_or}
+-- parents, and what it makes of a line whose source it is. Terms in a list stand in a row, `more_of-GTerm` before each
+-- and `end_of-GTerm` behind them all.
+use Rattle.std.specs.Prelude.{Bool, true, false, not, List, [], ◌∷◌, ◌++◌, Option, None, Some, if◌then◌else◌}
+use Rattle.std.specs.Option.{option_map, option_map_or}
 use Rattle.tptp_base.specs.declared.name.Name.{Name}
-use Rattle.tptp_base.specs.declared.name.Name.TheVariants.{Word, Integer}
-use Rattle.tptp_base.specs.declared.item.GTerm.{GTerm}
-use Rattle.tptp_base.specs.declared.item.GTerm.TheFolds.{fold-GTerm}
+use Rattle.tptp_base.specs.declared.name.Name.TheVariants.{Integer}
+use Rattle.tptp_base.specs.declared.item.GTerm.{GTerm, Word, Number, Func', List', Pair', Row_of-GTerm, end_of-GTerm, more_of-GTerm}
 use Rattle.tstp_graph.specs.declared.word.RecordKind.{RecordKind}
 use Rattle.tstp_graph.specs.declared.word.RecordKind.TheVariants.{Inference, Introduced, File, Theory, Other}
 use Rattle.tstp_graph.specs.declared.cite.Cite.{Cite}
 use Rattle.tstp_graph.specs.declared.cite.Cite.TheVariants.{Named, Filed}
-use Rattle.tstp_graph.specs.declared.cite.Reading.{Reading}
 use Rattle.tstp_graph.specs.Words.{is_unknown, is_integer, record_kind}
-use Rattle.tptp_base.specs.declared.item.GTerm.TheOpen as term
+use Rattle.tptp_base.specs.declared.name.Name.TheVariants as name
 
--- a term that gives nothing, and makes a leaf that is not cited
-abbrev pub nothing : Reading
-nothing = record { name = None; is_list = false; is_good = true; is_step = false; is_read = true; gives = [] }
+-- the name that a term is, if it is one: a word or an integer
+abbrev pub name_of : GTerm → Option Name
+name_of (Word word) = Some (name.Word word)
+name_of (Number number) = if is_integer number then Some (Integer number) else None
+name_of other = None
 
--- a name gives what it means, and makes a step from it
-abbrev pub named : Name → Reading
-named name = record { name = Some name; is_list = false; is_good = true; is_step = true; is_read = true; gives = Named name ∷ [] }
+-- the parent of this name; the word `unknown` names none
+abbrev pub cited : (Name → Cite) → Name → List Cite
+cited cite (name.Word word) = if is_unknown word then [] else cite (name.Word word) ∷ []
+cited cite (Integer number) = cite (Integer number) ∷ []
 
--- the word `unknown` is a name, and gives nothing
-abbrev pub word_reading : List ℕ → Reading
-word_reading word = if is_unknown word then record nothing { name = Some (Word word) } else named (Word word)
+abbrev pub is_list : GTerm → Bool
+is_list (List' n terms) = true
+is_list other = false
 
--- of the numbers the integers are names
-abbrev pub number_reading : List ℕ → Reading
-number_reading number = if is_integer number then named (Integer number) else nothing
+-- what both give, unless one of them is malformed
+abbrev pub both : Option (List Cite) → Option (List Cite) → Option (List Cite)
+both None rest = None
+both (Some first) None = None
+both (Some first) (Some rest) = Some (first ++ rest)
 
--- a list gives what its members give, and makes a step from it
-abbrev pub list_reading : List Reading → Reading
-list_reading members = record {
-  name = None;
-  is_list = true;
-  is_good = list_all (λ member. member.is_good) members;
-  is_step = true;
-  is_read = true;
-  gives = flat_map (λ member. member.gives) members;
-}
+unfoldable mutual
+  -- What a term gives as a member of a list of parents, or none where it is malformed: a name gives the parent of that
+  -- name, a pair what its left side gives, and what is neither this nor a record nor a list gives nothing.
+  pub member : GTerm → Option (List Cite)
+  member (Func' word n args) = of_record (record_kind word) args
+  member (List' n terms) = members terms
+  member (Pair' u (more_of-GTerm left end_of-GTerm) w right) = member left
+  member term = Some (option_map_or (cited Named) (name_of term) [])
 
--- a pair gives what its left side gives, and makes a leaf as each other term does
-abbrev pub pair_reading : Reading → Reading
-pair_reading left = record { name = None; is_list = false; is_good = left.is_good; is_step = false; is_read = false; gives = left.gives }
+  -- what each of these gives, in turn
+  pub members : {n : _} → Row_of-GTerm n → Option (List Cite)
+  members end_of-GTerm = Some []
+  members (more_of-GTerm term terms) = both (member term) (members terms)
 
--- what the argument at a place gives
-abbrev pub gives_at : List Reading → ℕ → List Cite
-gives_at args at = option_map_or (λ arg. arg.gives) (slice_get args at) []
+  -- what the members of a list give, where there has to be a list
+  pub listed : GTerm → Option (List Cite)
+  listed (List' n terms) = members terms
+  listed other = None
 
-abbrev pub is_list_at : List Reading → ℕ → Bool
-is_list_at args at = option_map_or (λ arg. arg.is_list) (slice_get args at) false
-
--- the argument at a place is a list whose members are well formed
-abbrev pub is_good_list_at : List Reading → ℕ → Bool
-is_good_list_at args at = option_map_or (λ arg. arg.is_list && arg.is_good) (slice_get args at) false
-
-abbrev pub name_at : List Reading → ℕ → Option Name
-name_at args at = option_map_or (λ arg. arg.name) (slice_get args at) None
-
--- the given formulas of a name other than `unknown`
-abbrev pub filed : Option Name → List Cite
-filed None = []
-filed (Some (Word word)) = if is_unknown word then [] else Filed (Word word) ∷ []
-filed (Some (Integer number)) = Filed (Integer number) ∷ []
-
--- what a record gives: an inference and what is introduced the members of the third argument, a file the formulas
--- that its second argument names
-abbrev pub record_gives : RecordKind → List Reading → List Cite
-record_gives Inference args = gives_at args 2
-record_gives Introduced args = gives_at args 2
-record_gives File args = filed (name_at args 1)
-record_gives Theory args = []
-record_gives Other args = []
-
--- Where a record is well formed: an inference has three arguments, of which the last two are lists; what is
--- introduced at most three, of which the third is a list; a file one or two, of which the second is a name.
-abbrev pub is_good_record : RecordKind → List Reading → Bool
-is_good_record Inference args = length args == 3 && is_list_at args 1 && is_good_list_at args 2
-is_good_record Introduced args = nat_le (length args) 2 || (length args == 3 && is_good_list_at args 2)
-is_good_record File args = length args == 1 || (length args == 2 && is_some (name_at args 1))
-is_good_record Theory args = true
-is_good_record Other args = true
+  -- What a record gives. An inference has three arguments, of which the last two are lists, and gives the members of
+  -- the third; what is introduced has at most three, and gives the members of the third, a list; a file has one or two,
+  -- and gives the given formulas that the second names.
+  pub of_record : {n : _} → RecordKind → Row_of-GTerm n → Option (List Cite)
+  of_record Inference (more_of-GTerm rule (more_of-GTerm info (more_of-GTerm parents end_of-GTerm))) =
+      if is_list info then listed parents else None
+  of_record Inference args = None
+  of_record Introduced (more_of-GTerm kind (more_of-GTerm info (more_of-GTerm parents end_of-GTerm))) = listed parents
+  of_record Introduced (more_of-GTerm a (more_of-GTerm b (more_of-GTerm c (more_of-GTerm d more)))) = None
+  of_record Introduced fewer = Some []
+  of_record File (more_of-GTerm source end_of-GTerm) = Some []
+  of_record File (more_of-GTerm source (more_of-GTerm name end_of-GTerm)) = option_map (cited Filed) (name_of name)
+  of_record File args = None
+  of_record Theory args = Some []
+  of_record Other args = Some []
 
 -- a record makes a step, but for a file and what is no record
 abbrev pub is_step_record : RecordKind → Bool
@@ -92,32 +77,21 @@ is_step_record File = false
 is_step_record Theory = true
 is_step_record Other = false
 
-abbrev pub record_reading : RecordKind → List Reading → Reading
-record_reading kind args = record {
-  name = None;
-  is_list = false;
-  is_good = is_good_record kind args;
-  is_step = is_step_record kind;
-  is_read = true;
-  gives = record_gives kind args;
-}
+-- a line of this source is a step: names, lists and records make one
+abbrev pub makes_step : GTerm → Bool
+makes_step (Word word) = not (is_unknown word)
+makes_step (Number number) = is_integer number
+makes_step (Func' word n args) = is_step_record (record_kind word)
+makes_step (List' n terms) = true
+makes_step other = false
 
--- one row for each kind of general term
-abbrev pub row : term.GTerm-F Reading → Reading
-row (term.Word word) = word_reading word
-row (term.Func word args) = record_reading (record_kind word) args
-row (term.Var name) = nothing
-row (term.Number number) = number_reading number
-row (term.Distinct text) = nothing
-row (term.Formula lang formula) = nothing
-row (term.Term t) = nothing
-row (term.List members) = list_reading members
-row (term.Pair left right) = pair_reading left
+-- A source as it is read: whether its line is a step, and which parents it names.
+pub record Source : Type 0 where
+  pub is_step : Bool
+  pub gives : List Cite
 
-unfoldable pub reading : GTerm → Reading
-reading = fold-GTerm Reading row
-
--- the source of a line: a line without one is a leaf that is not cited
-abbrev pub source_of : Option GTerm → Reading
-source_of None = nothing
-source_of (Some source) = if (reading source).is_read then reading source else nothing
+-- the source of a line, or none where it is malformed: without one, and by a pair, it is a leaf that names no parents
+abbrev pub source_of : Option GTerm → Option Source
+source_of None = Some (record { is_step = false; gives = [] })
+source_of (Some (Pair' u left w right)) = Some (record { is_step = false; gives = [] })
+source_of (Some term) = option_map (λ cites. record { is_step = makes_step term; gives = cites }) (member term)

@@ -6,4 +6,5 @@ pub mod Nodes
 pub mod Outcomes
 pub mod Queue
 pub mod RefSets
+pub mod Sources
 pub mod Tables

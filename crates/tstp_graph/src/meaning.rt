@@ -2,8 +2,7 @@
 ghost use Rattle.std.specs.Prelude.{◌≡◌, ◌&&◌, [], not, map, IfOk};
 ghost use Rattle.tstp_graph.specs.declared.shape.Ref.TheVariants.{Given};
 ghost use Rattle.tstp_graph.specs.Meaning;
-ghost use Rattle.tstp_graph.specs.code.Meaning.{means_in};
-ghost use Rattle.tstp_graph.specs.Meaning.{resolved};
+ghost use Rattle.tstp_graph.specs.code.Meaning.{means_in, resolved};
 
 use crate::cite::Cite;
 use crate::refs::RefSet;

@@ -2,9 +2,9 @@
 ghost use Rattle.std.specs.Prelude.{◌≡◌, ◌⊎◌, ◌+◌, ◌<◌, ◌≤◌, ◌^◌, [], length, IfOk, OnOk, IfErr, Err};
 ghost use Rattle.tstp_graph.specs.code.Outcomes.{Yields};
 ghost use Rattle.tstp_graph.specs.code.Meaning.{means_in};
-ghost use Rattle.tstp_graph.specs.Nodes;
-ghost use Rattle.tstp_graph.specs.Nodes.{item_answer, line_answer, nodes_from};
-ghost use Rattle.tstp_graph.specs.code.Nodes.{IsStep};
+ghost use Rattle.tstp_graph.specs.code.Nodes;
+ghost use Rattle.tstp_graph.specs.code.Nodes.{IsStep, item_answer, line_answer, nodes_from};
+ghost use Rattle.tstp_graph.specs.Nodes.{node_of as node_from};
 
 use crate::GraphFault;
 use crate::cite::Reading;
@@ -136,7 +136,7 @@ fn is_first(places: &[u32], number: u32) -> bool
 
 // The node of a line whose source makes a step or a leaf, and whose parents are these.
 fn node_of(item: u32, is_step: bool, parents: List<Ref>) -> Node
-    ensures { result ≡ Nodes.node_of item is_step parents }
+    ensures { result ≡ node_from item is_step parents }
 {
     Node {
         item,

@@ -1,7 +1,8 @@
 // Records: words with arguments, as sources.
 ghost use Rattle.std.specs.Prelude.{◌≡◌, ◌∷◌, [], is_some, IfOk};
-ghost use Rattle.tstp_graph.specs.Sources;
-ghost use Rattle.tstp_graph.specs.Sources.{gives_at, name_at, record_gives, record_reading, filed};
+ghost use Rattle.tstp_graph.specs.code.Sources;
+ghost use Rattle.tstp_graph.specs.Sources.{is_step_record as makes_step};
+ghost use Rattle.tstp_graph.specs.code.Sources.{gives_at, name_at, record_gives, record_reading, filed};
 
 use crate::cite::{Cite, Reading};
 use crate::word::{RecordKind, is_unknown};
@@ -25,7 +26,7 @@ pub fn read_record(alloc: Global, kind: RecordKind, args: List<Reading>) -> Resu
 
 // Whether a record makes a step.
 fn is_step_record(kind: RecordKind) -> bool
-    ensures { result ≡ Sources.is_step_record kind }
+    ensures { result ≡ makes_step kind }
 {
     match kind {
         RecordKind::Inference => true,

@@ -2,8 +2,8 @@
 ghost use Rattle.std.specs.Prelude.{◌≡◌, ◌⊎◌, ◌<◌, ◌^◌, length, IfOk, IfErr};
 ghost use Rattle.tstp_graph.specs.code.Meaning.{means_in};
 ghost use Rattle.tstp_graph.specs.Order.{IsOrder, is_taken, first_left};
-ghost use Rattle.tstp_graph.specs.Graphs.{IsGraph, IsGraphBy, IsFaultBy, IsOrdered, IsFault, IsCycleIn, IsCycleOf, IsCycleAt, LeavesOne};
-ghost use Rattle.tstp_graph.specs.code.Graphs.{AreLines, IsFormula, IsFormulaAt};
+ghost use Rattle.tstp_graph.specs.Graphs.{IsGraph, IsOrdered, IsFault, IsCycleIn, IsCycleOf, IsCycleAt, LeavesOne};
+ghost use Rattle.tstp_graph.specs.code.Graphs.{AreLines, IsFaultBy, IsFormula, IsFormulaAt, IsGraphBy};
 
 use crate::GraphFault;
 use crate::lines::{MOST_FORMULAS, formula_count};

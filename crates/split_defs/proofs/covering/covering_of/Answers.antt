@@ -1,5 +1,5 @@
 use Rattle.std.proofs.Common.{sym, ◌∙◌}
-use Rattle.clause_rules.proofs.ResolutionLoops.{form_fits}
+use Rattle.rule_steps.proofs.ResolutionLoops.{form_fits}
 use Rattle.split_defs.proofs.covering.covering_of.Goals as goal
 
 pub cover_clause-requires-clause-clause : goal.cover_clause-requires-clause-clause

@@ -1,6 +1,6 @@
 use Rattle.std.proofs.Common.{sym, ◌∙◌}
 use Rattle.derive_kit.proofs.Built.{ok_map}
-use Rattle.clause_rules.proofs.ResolutionLoops.{form_fits}
+use Rattle.rule_steps.proofs.ResolutionLoops.{form_fits}
 use Rattle.split_defs.proofs.split.split_step.Goals as goal
 
 pub split_clause-requires-clause-line : goal.split_clause-requires-clause-line

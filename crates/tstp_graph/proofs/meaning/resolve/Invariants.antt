@@ -1,6 +1,6 @@
 use Rattle.std.proofs.Common.{◌≡◌, [], drop}
 use Rattle.tstp_graph.specs.code.Meaning.{means_in}
-use Rattle.tstp_graph.specs.Meaning.{resolved}
+use Rattle.tstp_graph.specs.code.Meaning.{resolved}
 use Rattle.tstp_graph.specs.code.RefSets.{AreMembers}
 use Rattle.tstp_graph.proofs.meaning.resolve.Given as goal
 

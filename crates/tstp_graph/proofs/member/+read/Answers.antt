@@ -1,5 +1,5 @@
 use Rattle.std.proofs.Common.{map}
-use Rattle.tstp_graph.specs.Sources.{reading}
+use Rattle.tstp_graph.specs.code.Sources.{reading}
 use Rattle.tstp_graph.proofs.Readers.{taken_all, list_read}
 use Rattle.tstp_graph.proofs.member.+read.Goals as goal
 

@@ -1,6 +1,6 @@
 use Rattle.std.proofs.Common.{◌≡◌, map, take}
 use Rattle.std.specs.List.{flat_map, list_all}
-use Rattle.tstp_graph.specs.Sources.{reading}
+use Rattle.tstp_graph.specs.code.Sources.{reading}
 use Rattle.tstp_graph.proofs.member.+read.Given as goal
 
 abbrev pub invariant-read_all-loop-term : goal.invariant-read_all-loop-term

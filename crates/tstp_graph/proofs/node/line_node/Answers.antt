@@ -1,6 +1,6 @@
 use Rattle.std.proofs.Common.{rules, ◌≡◌, true, sym}
 use Rattle.tstp_graph.specs.code.Meaning.{means_in}
-use Rattle.tstp_graph.specs.Nodes.{is_first}
+use Rattle.tstp_graph.specs.code.Nodes.{is_first}
 use Rattle.tstp_graph.proofs.Resolving.{line_resolves, not_false_is}
 use Rattle.tstp_graph.proofs.node.line_node.Goals as goal
 

@@ -1,6 +1,6 @@
 use Rattle.std.proofs.Common.{length, subst, arith}
 use Rattle.tstp_graph.specs.code.Meaning.{means_in}
-use Rattle.tstp_graph.specs.Nodes.{item_answer}
+use Rattle.tstp_graph.specs.code.Nodes.{item_answer}
 use Rattle.tstp_graph.specs.code.Nodes.{IsStep}
 use Rattle.tstp_graph.proofs.Resolving.{nodes_more}
 use Rattle.tstp_graph.proofs.node.nodes_of.Goals as goal

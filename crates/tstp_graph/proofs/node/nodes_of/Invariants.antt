@@ -1,6 +1,6 @@
 use Rattle.std.proofs.Common.{◌≡◌, ◌≤◌, [], length, drop}
 use Rattle.tstp_graph.specs.code.Meaning.{means_in}
-use Rattle.tstp_graph.specs.Nodes.{nodes_from}
+use Rattle.tstp_graph.specs.code.Nodes.{nodes_from}
 use Rattle.tstp_graph.proofs.node.nodes_of.Given as goal
 
 abbrev pub invariant-loop-item : goal.invariant-loop-item

@@ -1,5 +1,0 @@
-use Rattle.clause_rules.proofs.Unmet.{NoneBefore}
-use Rattle.clause_rules.proofs.chances.+may_be_met.Given as goal
-
-abbrev pub invariant-may_one_be_met-loop-at : goal.invariant-may_one_be_met-loop-at
-invariant-may_one_be_met-loop-at l = NoneBefore l.rigid l.goals l.at

@@ -1,7 +1,0 @@
-use Rattle.std.proofs.Common.{ℕ, ◌<◌, ◌≡◌, Some, slice_get}
-use Rattle.clause_form.specs.declared.clause.Clause.{Clause}
-use Rattle.clause_rules.specs.code.EqFactorSearch.{NoneIn}
-use Rattle.clause_rules.proofs.eqfactor_rule.factor_among.Given as goal
-
-abbrev pub invariant-loop-a : goal.invariant-loop-a
-invariant-loop-a l = (a : ℕ) → a < l.a → (c : Clause) → slice_get l.clauses a ≡ Some (Some c) → NoneIn l.sig c l.line

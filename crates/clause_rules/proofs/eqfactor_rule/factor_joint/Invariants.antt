@@ -1,6 +1,0 @@
-use Rattle.std.proofs.Common.{ℕ, ◌<◌}
-use Rattle.clause_rules.specs.code.EqFactorSearch.{NoneFrom}
-use Rattle.clause_rules.proofs.eqfactor_rule.factor_joint.Given as goal
-
-abbrev pub invariant-loop-i : goal.invariant-loop-i
-invariant-loop-i l = (i : ℕ) → i < l.i → NoneFrom l.sig l.clause l.line i

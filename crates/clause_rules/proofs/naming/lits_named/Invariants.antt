@@ -1,6 +1,0 @@
-use Rattle.std.proofs.Common.{◌≡◌, take, map}
-use Rattle.clause_rules.specs.code.CoverSearch.{named, near}
-use Rattle.clause_rules.proofs.naming.lits_named.Given as goal
-
-abbrev pub invariant-loop-lit : goal.invariant-loop-lit
-invariant-loop-lit l = l.made ≡ map (named (near l.names)) (take l.lit-index l.lits)

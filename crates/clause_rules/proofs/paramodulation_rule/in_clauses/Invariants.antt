@@ -1,6 +1,0 @@
-use Rattle.std.proofs.Common.{ℕ, ◌<◌, None}
-use Rattle.clause_rules.specs.code.ParamodulationSearch.{FoundInClause}
-use Rattle.clause_rules.proofs.paramodulation_rule.in_clauses.Given as goal
-
-abbrev pub invariant-loop-a : goal.invariant-loop-a
-invariant-loop-a l = (a : ℕ) → a < l.a → FoundInClause l.sig l.clauses l.readings l.line a None

@@ -1,7 +1,0 @@
-use Rattle.std.proofs.Common.{ℕ, ◌<◌, ◌≡◌, Some, slice_get}
-use Rattle.fof_terms.specs.declared.form.Form.{Form}
-use Rattle.clause_rules.specs.code.Screens.{NeverReached}
-use Rattle.clause_rules.proofs.reaching.+may_reach.Given as goal
-
-abbrev pub invariant-may_reach_one-loop-at : goal.invariant-may_reach_one-loop-at
-invariant-may_reach_one-loop-at l = (i : ℕ) → i < l.at → (a : Form) → slice_get l.forms i ≡ Some a → NeverReached l.line a

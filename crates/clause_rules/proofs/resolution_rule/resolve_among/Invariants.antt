@@ -1,7 +1,0 @@
-use Rattle.std.proofs.Common.{ℕ, ◌<◌, List}
-use Rattle.fof_terms.specs.declared.term.Term.{Term}
-use Rattle.clause_rules.specs.code.ResolutionSearch.{ResolvesFrom}
-use Rattle.clause_rules.proofs.resolution_rule.resolve_among.Given as goal
-
-abbrev pub invariant-loop-a : goal.invariant-loop-a
-invariant-loop-a l = (a : ℕ) → a < l.a → (b i j : ℕ) (more : List ℕ) (s : ℕ → Term) → ResolvesFrom l.sig l.clauses l.line a b i j more s → ⊥

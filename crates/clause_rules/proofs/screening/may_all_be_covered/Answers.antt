@@ -1,7 +1,0 @@
-use Rattle.clause_rules.proofs.Firsts.{there_at}
-use Rattle.clause_rules.proofs.Uncovered.{never_all}
-use Rattle.clause_rules.proofs.screening.may_all_be_covered.Goals as goal
-
-pub returns-then-not-may_be_covered : goal.returns-then-not-may_be_covered
-returns-then-not-may_be_covered c = λ _.
-    never_all c.args.line.now c.args.lits.now c.loop-at.at c.index-lits-at.result (there_at c.args.lits.now c.loop-at.at c.index-lits-at.result c.loop-at-test.true c.index-lits-at.is) (c.may_be_covered.ensures c.if-not-may_be_covered.true)

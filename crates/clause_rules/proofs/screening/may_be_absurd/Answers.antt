@@ -1,5 +1,0 @@
-use Rattle.clause_rules.proofs.Uncovered.{never_absurd_sides}
-use Rattle.clause_rules.proofs.screening.may_be_absurd.Goals as goal
-
-pub returns-else-lit : goal.returns-else-lit
-returns-else-lit c = λ e. never_absurd_sides c.args.lit.now c.in-Eq.left c.in-Eq.right c.in-Eq.is (c.may_meet.ensures e)

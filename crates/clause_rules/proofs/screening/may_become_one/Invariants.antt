@@ -1,5 +1,0 @@
-use Rattle.clause_rules.proofs.Uncovered.{NotYet}
-use Rattle.clause_rules.proofs.screening.may_become_one.Given as goal
-
-abbrev pub invariant-loop-target : goal.invariant-loop-target
-invariant-loop-target l = NotYet l.targets l.lit l.target-index

@@ -1,6 +1,0 @@
-use Rattle.std.proofs.Common.{◌≡◌, ◌++◌, take}
-use Rattle.clause_rules.specs.code.ParamodulationSearch.{sites_of_places}
-use Rattle.clause_rules.proofs.sites.add_places.Given as goal
-
-abbrev pub invariant-loop-place : goal.invariant-loop-place
-invariant-loop-place l = l.sites ≡ l.initial.sites ++ sites_of_places l.clause l.lit (take l.place-index l.place-items)

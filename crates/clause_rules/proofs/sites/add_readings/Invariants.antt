@@ -1,6 +1,0 @@
-use Rattle.std.proofs.Common.{◌≡◌, ◌++◌, take}
-use Rattle.clause_rules.specs.code.ParamodulationSearch.{readings_of_lits}
-use Rattle.clause_rules.proofs.sites.add_readings.Given as goal
-
-abbrev pub invariant-loop-at : goal.invariant-loop-at
-invariant-loop-at l = l.readings ≡ l.initial.readings ++ readings_of_lits l.clause 0 (take l.at l.lits)

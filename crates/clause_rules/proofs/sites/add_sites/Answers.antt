@@ -1,9 +1,0 @@
-use Rattle.clause_form.specs.declared.clause.Lit.{Lit}
-use Rattle.clause_rules.specs.code.ParamodulationSearch.{sites_of_places}
-use Rattle.clause_rules.specs.code.PlaceSearch.{places_of}
-use Rattle.clause_rules.proofs.Indexed.{indexed_more}
-use Rattle.clause_rules.proofs.sites.add_sites.Goals as goal
-
-pub loop-at-preserved : goal.loop-at-preserved
-loop-at-preserved c =
-    indexed_more (λ i (k : Lit). sites_of_places c.args.clause i (places_of k)) c.args.lits.now c.loop-at.at c.in_ok-number.field-0 c.index-lits-at.result c.args.sites.now c.loop-at.sites c.add_places.new.sites c.loop-at-test.true c.index-lits-at.is c.in_ok-number.ensures c.loop-at.invariant c.in_ok-add_places.ensures

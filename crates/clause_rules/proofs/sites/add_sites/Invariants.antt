@@ -1,6 +1,0 @@
-use Rattle.std.proofs.Common.{◌≡◌, ◌++◌, take}
-use Rattle.clause_rules.specs.code.ParamodulationSearch.{sites_of_lits}
-use Rattle.clause_rules.proofs.sites.add_sites.Given as goal
-
-abbrev pub invariant-loop-at : goal.invariant-loop-at
-invariant-loop-at l = l.sites ≡ l.initial.sites ++ sites_of_lits l.clause 0 (take l.at l.lits)

@@ -1,6 +1,0 @@
-use Rattle.std.proofs.Common.{◌≡◌}
-use Rattle.clause_rules.specs.code.CoverSearch.{near, down}
-use Rattle.clause_rules.proofs.taking.numbers_below.Given as goal
-
-abbrev pub invariant-loop-i : goal.invariant-loop-i
-invariant-loop-i l = near l.numbers ≡ down 0 l.i

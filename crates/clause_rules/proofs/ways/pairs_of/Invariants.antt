@@ -1,6 +1,0 @@
-use Rattle.std.proofs.Common.{◌≡◌, take}
-use Rattle.clause_rules.specs.code.Ways.{zip_pairs}
-use Rattle.clause_rules.proofs.ways.pairs_of.Given as goal
-
-abbrev pub invariant-loop-at : goal.invariant-loop-at
-invariant-loop-at l = l.pairs ≡ zip_pairs (take l.at l.left) (take l.at l.right)

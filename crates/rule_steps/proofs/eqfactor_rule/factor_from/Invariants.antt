@@ -1,0 +1,6 @@
+use Rattle.std.proofs.Common.{ℕ, ◌<◌}
+use Rattle.rule_steps.specs.code.EqFactorSearch.{NoneWith}
+use Rattle.rule_steps.proofs.eqfactor_rule.factor_from.Given as goal
+
+abbrev pub invariant-loop-j : goal.invariant-loop-j
+invariant-loop-j l = (j : ℕ) → j < l.j → NoneWith l.sig l.clause l.line l.i j

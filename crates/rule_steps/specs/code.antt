@@ -1,0 +1,9 @@
+-- What private contracts alone say of the code. Nothing public rests on this.
+pub mod Beside
+pub mod CoverFound
+pub mod EqFactorSearch
+pub mod NormRule
+pub mod ParamodulationSearch
+pub mod ResolutionSearch
+pub mod RewriteSearch
+pub mod SlotFits

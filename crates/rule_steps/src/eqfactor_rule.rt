@@ -1,0 +1,309 @@
+ghost use Rattle.std.specs.Prelude.{◌≡◌, ◌<◌, length, slice_set, Some, IfOk};
+ghost use Rattle.clause_form.specs.Covers.{scope_of};
+ghost use Rattle.clause_rules.specs.declared.just.Just.TheVariants.{EqFactor};
+ghost use Rattle.clause_rules.specs.Answers.{IsAnswer, eqfactor};
+ghost use Rattle.clause_rules.specs.EqFactorRule.{Factors};
+ghost use Rattle.rule_steps.specs.code.EqFactorSearch.{FoundFactor, FoundInParent, FoundInParents, NoneRead, NoneWith, NoneFrom, NoneIn};
+ghost use Rattle.clause_rules.specs.JointClauses.{IsJoinedOne};
+ghost use Rattle.clause_rules.specs.Settled.{IsFit, Settles};
+ghost use Rattle.rule_steps.specs.code.SlotFits.{IsSlotFit, AllFit};
+ghost use Rattle.clause_rules.specs.Steps.{unequal, AreReady, IsReady};
+
+use crate::sides::{Sides, sides_of};
+use clause_form::{AtomOf, Clause, Lit, Parent, as_clause, copy_lits};
+use clause_rules::{Joint, Just, join_one, number};
+use fof_terms::{Form, Signature, Term};
+use std::alloc::Global;
+use substitution_search::{clauses_of_parents, may_others_be_covered, settle_beside};
+use tptp_base::{List, Memory};
+use unify_terms::Subst;
+
+/// Two equations of a clause, how they are read, and a substitution.
+#[derive(Drop)]
+pub struct Factor {
+    pub first: u32,
+    pub first_flipped: bool,
+    pub second: u32,
+    pub second_flipped: bool,
+    pub subst: Subst,
+}
+
+/// A justification by the rule `eqfactor`: two equations of a parent get one side in common, and their other sides are
+/// denied to be equal in place of the first. None exactly where there is none.
+pub fn eqfactor_step(
+    alloc: Global,
+    sig: &Signature,
+    parents: &[Parent],
+    line: &Form,
+) -> Result<Option<Just>, Memory>
+    requires parents { AreReady sig.now parents.now }
+    requires line { IsReady sig.now line.now }
+    ensures { IfOk result (λ answer. IsAnswer sig.now parents.now line.now eqfactor answer) }
+{
+    match as_clause(alloc, line)? {
+        Some(line) => {
+            let clauses = clauses_of_parents(alloc, parents)?;
+            factor_among(alloc, sig, clauses.as_slice(), &line)
+        }
+        None => Ok(None),
+    }
+}
+
+// The literals with the denied equation of the right sides in place of literal i.
+fn with_denied(
+    alloc: Global,
+    lits: &[Lit],
+    i: usize,
+    first: &Sides<'_>,
+    second: &Sides<'_>,
+) -> Result<List<Lit>, Memory>
+    requires { i < length lits.now }
+    ensures { IfOk result (λ made. made ≡ slice_set lits.now i (unequal first.now.right.now second.now.right.now)) }
+{
+    let mut made = copy_lits(alloc, lits)?;
+    made.set(i, unequal_lit(alloc, first.right, second.right)?);
+    Ok(made)
+}
+
+// The denied equation.
+fn unequal_lit(alloc: Global, left: &Term, right: &Term) -> Result<Lit, Memory>
+    ensures { IfOk result (λ lit. lit ≡ unequal left.now right.now) }
+{
+    let atom = AtomOf::Eq(left.copy(alloc)?, right.copy(alloc)?);
+    Ok(Lit {
+        positive: false,
+        atom,
+    })
+}
+
+// A substitution that shows the factoring at these literals, read so; None exactly where there is none.
+fn factor_at(
+    alloc: Global,
+    sig: &Signature,
+    clause: &Clause,
+    line: &Clause,
+    joint: &Joint,
+    i: usize,
+    first_flipped: bool,
+    j: usize,
+    second_flipped: bool,
+) -> Result<Option<Subst>, Memory>
+    requires clause { IsFit sig.now clause.now }
+    requires line { IsFit sig.now line.now }
+    requires joint { IsJoinedOne line.now clause.now joint.now }
+    requires first { i < length joint.now.left }
+    requires second { j < length joint.now.left }
+    ensures { IfOk result (λ found. Settles sig.now line.now (scope_of clause.now) (Factors sig.now clause.now line.now i first_flipped j second_flipped) found) }
+{
+    if i == j {
+        return Ok(None);
+    }
+    let lits = joint.left.as_slice();
+    match sides_of(&lits[i], first_flipped) {
+        Some(first) => match sides_of(&lits[j], second_flipped) {
+            Some(second) => {
+                let made = with_denied(alloc, lits, i, &first, &second)?;
+                settle_beside(
+                    alloc,
+                    sig,
+                    &joint.scope,
+                    first.left,
+                    second.left,
+                    made.as_slice(),
+                    line.lits.as_slice(),
+                )
+            }
+            None => Ok(None),
+        },
+        None => Ok(None),
+    }
+}
+
+// A factoring at these literals, the first of them read so.
+fn factor_read(
+    alloc: Global,
+    sig: &Signature,
+    clause: &Clause,
+    line: &Clause,
+    joint: &Joint,
+    i: usize,
+    first_flipped: bool,
+    j: usize,
+) -> Result<Option<Factor>, Memory>
+    requires clause { IsFit sig.now clause.now }
+    requires line { IsFit sig.now line.now }
+    requires joint { IsJoinedOne line.now clause.now joint.now }
+    requires first { i < length joint.now.left }
+    requires second { j < length joint.now.left }
+    ensures { IfOk result (λ found. FoundFactor sig.now clause.now line.now (NoneRead sig.now clause.now line.now i first_flipped j) found) }
+{
+    let straight = factor_at(alloc, sig, clause, line, joint, i, first_flipped, j, false)?;
+    if let Some(subst) = straight {
+        return factored(i, first_flipped, j, false, subst);
+    }
+    let flipped = factor_at(alloc, sig, clause, line, joint, i, first_flipped, j, true)?;
+    if let Some(subst) = flipped {
+        return factored(i, first_flipped, j, true, subst);
+    }
+    Ok(None)
+}
+
+// The factoring with these literals.
+fn factored(
+    i: usize,
+    first_flipped: bool,
+    j: usize,
+    second_flipped: bool,
+    subst: Subst,
+) -> Result<Option<Factor>, Memory>
+    ensures { IfOk result (λ made. made ≡ Some (record { first = i; first_flipped = first_flipped; second = j; second_flipped = second_flipped; subst = subst })) }
+{
+    let first = number(i)?;
+    let second = number(j)?;
+    Ok(Some(Factor {
+        first,
+        first_flipped,
+        second,
+        second_flipped,
+        subst,
+    }))
+}
+
+// A factoring at these literals.
+fn factor_with(
+    alloc: Global,
+    sig: &Signature,
+    clause: &Clause,
+    line: &Clause,
+    joint: &Joint,
+    i: usize,
+    j: usize,
+) -> Result<Option<Factor>, Memory>
+    requires clause { IsFit sig.now clause.now }
+    requires line { IsFit sig.now line.now }
+    requires joint { IsJoinedOne line.now clause.now joint.now }
+    requires first { i < length joint.now.left }
+    requires second { j < length joint.now.left }
+    ensures { IfOk result (λ found. FoundFactor sig.now clause.now line.now (NoneWith sig.now clause.now line.now i j) found) }
+{
+    let straight = factor_read(alloc, sig, clause, line, joint, i, false, j)?;
+    if let Some(factor) = straight {
+        return Ok(Some(factor));
+    }
+    let flipped = factor_read(alloc, sig, clause, line, joint, i, true, j)?;
+    if let Some(factor) = flipped {
+        return Ok(Some(factor));
+    }
+    Ok(None)
+}
+
+// A factoring whose first equation is literal i. A cheap test of the other literals comes first.
+fn factor_from(
+    alloc: Global,
+    sig: &Signature,
+    clause: &Clause,
+    line: &Clause,
+    joint: &Joint,
+    i: usize,
+) -> Result<Option<Factor>, Memory>
+    requires clause { IsFit sig.now clause.now }
+    requires line { IsFit sig.now line.now }
+    requires joint { IsJoinedOne line.now clause.now joint.now }
+    requires first { i < length joint.now.left }
+    ensures { IfOk result (λ found. FoundFactor sig.now clause.now line.now (NoneFrom sig.now clause.now line.now i) found) }
+{
+    if !may_others_be_covered(line.lits.as_slice(), clause.lits.as_slice(), i) {
+        return Ok(None);
+    }
+    for j in 0..joint.left.len() {
+        let found = factor_with(alloc, sig, clause, line, joint, i, j)?;
+        if let Some(factor) = found {
+            return Ok(Some(factor));
+        }
+    }
+    Ok(None)
+}
+
+// A factoring over this scope.
+fn factor_joint(
+    alloc: Global,
+    sig: &Signature,
+    clause: &Clause,
+    line: &Clause,
+    joint: &Joint,
+) -> Result<Option<Factor>, Memory>
+    requires clause { IsFit sig.now clause.now }
+    requires line { IsFit sig.now line.now }
+    requires joint { IsJoinedOne line.now clause.now joint.now }
+    ensures { IfOk result (λ found. FoundFactor sig.now clause.now line.now (NoneIn sig.now clause.now line.now) found) }
+{
+    for i in 0..joint.left.len() {
+        let found = factor_from(alloc, sig, clause, line, joint, i)?;
+        if let Some(factor) = found {
+            return Ok(Some(factor));
+        }
+    }
+    Ok(None)
+}
+
+// A factoring of the clause, if it is one.
+fn factor_slot(
+    alloc: Global,
+    sig: &Signature,
+    slot: &Option<Clause>,
+    line: &Clause,
+) -> Result<Option<Factor>, Memory>
+    requires slot { IsSlotFit sig.now slot.now }
+    requires line { IsFit sig.now line.now }
+    ensures { IfOk result (λ found. FoundInParent sig.now slot.now line.now found) }
+{
+    match slot {
+        Some(clause) => {
+            let joint = join_one(alloc, sig, line, clause)?;
+            factor_joint(alloc, sig, clause, line, &joint)
+        }
+        None => Ok(None),
+    }
+}
+
+// A factoring of one of the clauses.
+fn factor_among(
+    alloc: Global,
+    sig: &Signature,
+    clauses: &[Option<Clause>],
+    line: &Clause,
+) -> Result<Option<Just>, Memory>
+    requires clauses { AllFit sig.now clauses.now }
+    requires line { IsFit sig.now line.now }
+    ensures { IfOk result (λ found. FoundInParents sig.now clauses.now line.now found) }
+{
+    for a in 0..clauses.len() {
+        let found = factor_slot(alloc, sig, &clauses[a], line)?;
+        if let Some(factor) = found {
+            return justified(a, factor);
+        }
+    }
+    Ok(None)
+}
+
+// The justification with this clause.
+fn justified(a: usize, factor: Factor) -> Result<Option<Just>, Memory>
+    ensures { IfOk result (λ just. just ≡ Some (EqFactor a factor.first factor.first_flipped factor.second factor.second_flipped factor.subst)) }
+{
+    let parent = number(a)?;
+    let Factor {
+        first,
+        first_flipped,
+        second,
+        second_flipped,
+        subst,
+    } = factor;
+    Ok(Some(Just::EqFactor {
+        parent,
+        first,
+        first_flipped,
+        second,
+        second_flipped,
+        subst,
+    }))
+}

@@ -1,0 +1,34 @@
+ghost use Rattle.rule_steps.specs.code.EqFactorSearch.{HasSides};
+
+use clause_form::{AtomOf, Lit};
+use fof_terms::Term;
+
+/// The sides of an equation, as it is read.
+#[derive(Clone, Copy)]
+pub struct Sides<'a> {
+    pub left: &'a Term,
+    pub right: &'a Term,
+}
+
+/// The sides of a positive equation, read from left to right, or from right to left where flipped. None where the
+/// literal is none.
+pub fn sides_of(lit: &Lit, flipped: bool) -> Option<Sides<'_>>
+    ensures { HasSides lit.now flipped result }
+{
+    if !lit.positive {
+        return None;
+    }
+    match &lit.atom {
+        AtomOf::Eq(left, right) => {
+            if flipped {
+                Some(Sides {
+                    left: right,
+                    right: left,
+                })
+            } else {
+                Some(Sides { left, right })
+            }
+        }
+        AtomOf::Pred(_, _) | AtomOf::True | AtomOf::False => None,
+    }
+}

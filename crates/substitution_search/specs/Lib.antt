@@ -1,0 +1,6 @@
+pub mod CoverSearch
+pub mod Screens
+pub mod Settled
+pub mod Taken
+pub mod Ways
+pub mod code
