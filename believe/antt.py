@@ -7,7 +7,6 @@ SIGNATURE = re.compile(r'^' + MARKS + r'(\S+)\s+:(?:\s|$)')
 SHAPE = re.compile(r'^' + MARKS + r'(data|record|ruleset)\s+([^\s(){}:]+)')
 BLOCK = re.compile(r'^(?:unfoldable )?(?:mutual|module)\b')
 MEMBER = re.compile(r'^((?:[^\s(){}:]+ )+):(?:\s|$)')
-NAME = re.compile(r'[^\s(){}\[\];,"`@=|λ→∀]+')
 
 
 def without_comment(line):
@@ -47,7 +46,6 @@ class Module:
         self.crate, self.path, self.file = crate, path, file
         self.imports = {}
         self.definitions = []
-        self.head = []
 
     def shown(self):
         return os.path.relpath(self.file, 'crates')
@@ -115,13 +113,16 @@ class Reader:
         if not text.strip():
             return
         depth = len(text) - len(text.lstrip())
+        if depth < self.indent:
+            self.indent = depth
         if depth == 0:
-            self.block, self.indent, self.unfoldable = None, 0, False
-            if BLOCK.match(text):
-                self.block, self.indent, self.current = number, 2, None
-                self.unfoldable = text.startswith('unfoldable')
-                return
-        self.inside(text.strip() if depth == self.indent else None, text)
+            self.block, self.unfoldable = None, False
+        item = text.strip() if depth == self.indent else None
+        if item and BLOCK.match(item):
+            self.block, self.indent, self.current = number, depth + 2, None
+            self.unfoldable = item.startswith('unfoldable')
+        else:
+            self.inside(item, text)
 
     def inside(self, item, text):
         shape = item and SHAPE.match(item)
@@ -153,10 +154,6 @@ def read_module(crate, path, file):
     module = Module(crate, path, file)
     with open(file, encoding='utf-8') as text:
         lines = text.read().split('\n')
-    for line in lines:
-        if not line.startswith('--'):
-            break
-        module.head.append(line[2:].strip())
     uses, rest = joined_uses(lines)
     module.imports = imports_of(uses)
     reader = Reader(module)

@@ -5,6 +5,7 @@ stands behind that clause in these crates, without what stands in a list before.
 stand, as `Store and Sink`: what stands behind their contracts. `<!-- sizes -->` begins the table of sizes, and
 `<!-- std -->` the names of std that stand behind all clauses. The sentence on each file is written by hand and kept.
 """
+import os
 import re
 import textwrap
 
@@ -72,7 +73,7 @@ class Lists:
     def __init__(self, repository):
         self.repository = repository
         self.clauses = layout.call_clauses(repository)
-        self.read, self.types = set(), set()
+        self.read, self.types, self.order = set(), {}, list(self.clauses)
 
     def behind(self, name):
         if name in self.clauses:
@@ -84,9 +85,11 @@ class Lists:
         return self.repository.behind_clauses(found)[0]
 
     def new_types(self, some):
-        met = {path for one in some for path in self.repository.behind(one)[1]} - self.types
-        self.types |= met
-        return rust_types(met)
+        met = rust_types({path for one in some for path in self.repository.behind(one)[1]})
+        new = {file: names - self.types.get(file, set()) for file, names in met.items()}
+        for file, names in new.items():
+            self.types[file] = self.types.get(file, set()) | names
+        return {file: names for file, names in new.items() if names}
 
     def made(self, mark, lines):
         """The lines of a list, with the sentences that stand in it."""
@@ -112,11 +115,8 @@ class Lists:
 
     def sizes(self):
         out = ['| clause | definitions | lines | files | lines not behind the clauses above |', '|---|---|---|---|---|']
-        together, order = set(), [layout.HEADLINE] + [name for name in self.clauses if name != layout.HEADLINE]
-        for name in sorted(order[1:], key=lambda n: lines_of(self.behind(n)), reverse=True):
-            order.remove(name)
-            order.insert(1, name)
-        for name in order:
+        together = set()
+        for name in self.order:
             behind = self.behind(name)
             new = lines_of(behind - together)
             together |= behind
@@ -128,8 +128,10 @@ class Lists:
 
 def remade(repository, text):
     """The document with its lists as they should be, and what is wrong besides."""
-    lists, out, wrong = Lists(repository), [], []
-    for block in blocks_of(text):
+    lists, out, wrong, blocks = Lists(repository), [], [], blocks_of(text)
+    marked = [block[0].split(': ')[0] for block in blocks if not isinstance(block, str)]
+    lists.order.sort(key=lambda name: marked.index(name) if name in marked else len(marked))
+    for block in blocks:
         if isinstance(block, str):
             out.append(block)
         else:
@@ -146,6 +148,7 @@ def faults(repository, file):
     with open(file, encoding='utf-8') as source:
         text = source.read()
     made, wrong = remade(repository, text)
+    wrong += [f'{file}: there is no {path}' for path in re.findall(r'`(crates/\S+?)`', text) if not os.path.exists(path)]
     if made != text:
         wrong.append(f'{file}: its lists are not what stands behind the clauses (python3 believe write)')
     return wrong

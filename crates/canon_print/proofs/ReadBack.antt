@@ -1,4 +1,4 @@
--- What `tokens` and `parse` read from a text, they read from its canonical text again.
+-- What some text spells, `tokens` and `parse` read from the canonical text again.
 use Rattle.std.proofs.Common.{◌≡◌, ℕ, ◌≤◌, ◌-◌, List, [], length, Result, Ok, Err, inl, inr, refl, sym, subst, arith}
 use Rattle.std.proofs.lemmas.List.{take_all}
 use Rattle.tptp_base.specs.declared.item.Item.{Item}
@@ -17,16 +17,12 @@ use Rattle.tptp_grammar.specs.Faults.{max_nesting}
 use Rattle.tptp_grammar.specs.Laws as laws
 use Rattle.tptp_grammar.proofs.OneAnswer as parsing
 use Rattle.canon_print.specs.Canonical.{canonical_text}
-use Rattle.canon_print.specs.RoundTrip.{AreSame, TextSpells, whole, ReadsItems, ParsesAs, ReadsAs}
+use Rattle.canon_print.specs.RoundTrip.{AreSame, TextSpells, whole, ParsesAs, ReadsAs}
 use Rattle.canon_print.proofs.FilesShown.{read_again}
 
 -- a text is all of itself
 whole_part : (text : Text) → lexer.part text (whole text) ≡ text
 whole_part text = take_all (length text - 0) text (omega arith)
-
-text_spells : (file : ℕ) (text : Text) (items : List Item) → ReadsItems file text items → TextSpells file max_nesting items text
-text_spells file text items (tokens, (fits, (offset, cut, is)), spells) =
-    (tokens.items, offset, subst (λ (z : Text). Cut Problem (placed file text) 0 z tokens.items offset []) (whole_part text) cut, spells)
 
 -- the answer of `parse`, where these items are one
 parsed : (items again : List Item) → AreSame again items → (result : Result (List Item) GrammarFault) → laws.IsOne (Ok again) result → ParsesAs items result
@@ -40,11 +36,11 @@ cut_as items tokens reads answer (inl e) = subst (ReadsAs items) e reads
 cut_as items tokens reads answer (inr (inl e)) = cc
 cut_as items tokens reads answer (inr (inr e)) = subst (ReadsAs items) (sym e) tt
 
-pub reads_back : (file : ℕ) (items : List Item) (text : Text) (answer : Result Tokens LexFault) → ReadsItems file text items → length (canonical_text items) ≤ FILE_SIZE
+pub reads_back : (file : ℕ) (items : List Item) (text : Text) (answer : Result Tokens LexFault) → TextSpells file max_nesting items text → length (canonical_text items) ≤ FILE_SIZE
     → lexer.Answers file (canonical_text items) (whole (canonical_text items)) Problem answer → ReadsAs items answer
-reads_back file items text answer reads fits h =
+reads_back file items text answer spelled fits h =
     let printed = canonical_text items in
-    let (again, same, (cut_tokens, offset, cut, spells)) = read_again file max_nesting items text (text_spells file text items reads) in
+    let (again, same, (cut_tokens, offset, cut, spells)) = read_again file max_nesting items text spelled in
     let tokens : Tokens = record { items = cut_tokens; end = place_of file printed offset } in
     let fitting : length printed - 0 ≤ FILE_SIZE = omega arith in
     let is : lexer.Answers file printed (whole printed) Problem (Ok tokens) = (fitting, (offset, subst (λ (z : Text). Cut Problem (placed file printed) 0 z cut_tokens offset []) (sym (whole_part printed)) cut, refl)) in

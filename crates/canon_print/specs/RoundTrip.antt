@@ -13,7 +13,6 @@ use Rattle.tptp_grammar.specs.Solid.{Placed}
 use Rattle.tptp_grammar.specs.Files.{SpellsWithin}
 use Rattle.tptp_base.specs.declared.item.Item.TheVariants as item
 use Rattle.tptp_lexer.specs.declared.fault.LexFault.TheVariants as lf
-use Rattle.tptp_lexer.specs.Answer as lexer
 use Rattle.tptp_grammar.specs.declared.fault.GrammarFault.TheVariants as gf
 use Rattle.tptp_grammar.specs.Answers as grammar
 
@@ -42,10 +41,6 @@ SpellsAgain file limit items text = (again : List Item) × AreSame again items �
 -- a text as a region of itself
 abbrev pub whole : Text → Region
 whole text = record { start = 0; end = length text }
-
--- `tokens` and `parse` read these items from the text.
-abbrev pub ReadsItems : ℕ → Text → List Item → Type 0
-ReadsItems file text items = (tokens : Tokens) × lexer.Answers file text (whole text) Problem (Ok tokens) × grammar.Answers tokens.items tokens.end (Ok items)
 
 -- `parse` gave these items, but for their places, or memory was wanting.
 abbrev pub ParsesAs : List Item → Result (List Item) GrammarFault → Type 0

@@ -7,8 +7,9 @@ ghost use Rattle.tptp_lexer.specs.declared.style.Style.TheVariants.{Problem};
 ghost use Rattle.tptp_lexer.specs.declared.token.Tokens.{Tokens};
 ghost use Rattle.tptp_lexer.specs.Answer.{Answers};
 ghost use Rattle.tptp_lexer.specs.Bytes.{Text};
+ghost use Rattle.tptp_grammar.specs.Faults.{max_nesting};
 ghost use Rattle.canon_print.specs.Canonical.{canonical_text};
-ghost use Rattle.canon_print.specs.RoundTrip.{AreSame, TextSpells, SpellsAgain, whole, ReadsItems, ReadsAs};
+ghost use Rattle.canon_print.specs.RoundTrip.{AreSame, TextSpells, SpellsAgain, whole, ReadsAs};
 
 /// What some text spells, the canonical text spells again, but for the places of the items. It nests no deeper than
 /// any text that spells them.
@@ -38,10 +39,10 @@ pub fn one_text()
     ensures { (items others : List Item) → AreSame items others → canonical_text items ≡ canonical_text others }
 {}
 
-/// Where `tokens` and `parse` read items from a text, they read them from the canonical text again, but for their places,
-/// where that text is no longer than a file may be and memory is not wanting.
+/// What some text spells within the greatest nesting, `tokens` and `parse` read from the canonical text again, but for
+/// the places of the items, where that text is no longer than a file may be and memory is not wanting.
 pub fn reads_back()
     ensures { (file : ℕ) (items : List Item) (text : Text) (answer : Result Tokens LexFault) →
-        ReadsItems file text items → length (canonical_text items) ≤ FILE_SIZE →
+        TextSpells file max_nesting items text → length (canonical_text items) ≤ FILE_SIZE →
         Answers file (canonical_text items) (whole (canonical_text items)) Problem answer → ReadsAs items answer }
 {}

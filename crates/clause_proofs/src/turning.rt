@@ -3,7 +3,7 @@ ghost use Rattle.std.specs.Prelude.{◌≡◌, ◌<◌, ◌↔◌, ℕ, length, 
 ghost use Rattle.fof_terms.specs.declared.form.Form.{Eq as Equation, Not as Denied};
 ghost use Rattle.fof_terms.specs.declared.term.Term.{Term as Inner};
 ghost use Rattle.fof_terms.specs.Scope.{scope_sorts};
-ghost use Rattle.fof_terms.specs.Sorts.{Sorted, sort_of_term};
+ghost use Rattle.fof_terms.specs.Sorts.{IsScope, Sorted, sort_of_term};
 ghost use Rattle.clause_form.specs.declared.clause.AtomOf.TheVariants.{Eq as Equal};
 ghost use Rattle.clause_form.specs.ClauseView.{form_of_atom as atom_form, form_of_lit as lit_form};
 ghost use Rattle.clause_form.specs.Covers.{IsSame, IsSameAtom, turned_atom};
@@ -17,20 +17,16 @@ use fof_terms::{Form, Scope, Signature, SortId, Term, equal_term, lift_term, sor
 use std::alloc::Global;
 use tptp_base::Memory;
 
-/// The sort of the term, which has one. A sort that the signature doesn't have, of which there is no term, is answered by
-/// want of memory.
-pub fn known_sort(term: &Term, signature: &Signature, scope: &Scope<'_>) -> Result<SortId, Memory>
-    requires { (s : ℕ) × (sort_of_term signature.now (scope_sorts scope.now) term.now ≡ Some s) }
-    ensures sort { IfOk result (λ s. sort_of_term signature.now (scope_sorts scope.now) term.now ≡ Some s) }
-    ensures there { IfOk result (λ s. s < length signature.now.sorts) }
+/// The sort of the term, which has one.
+pub fn known_sort(term: &Term, signature: &Signature, scope: &Scope<'_>) -> SortId
+    requires { IsScope signature.now (scope_sorts scope.now) × (s : ℕ) × (sort_of_term signature.now (scope_sorts scope.now) term.now ≡ Some s) }
+    ensures sort { sort_of_term signature.now (scope_sorts scope.now) term.now ≡ Some result }
+    ensures there { result < length signature.now.sorts }
 {
-    let Some(sort) = sort_of(term, signature, scope) else {
-        unreachable!()
-    };
-    if sort < signature.sort_count() {
-        Ok(sort)
-    } else {
-        Err(Memory)
+    signature.is_vocabulary();
+    match sort_of(term, signature, scope) {
+        Some(sort) => sort,
+        None => unreachable!(),
     }
 }
 
@@ -46,7 +42,7 @@ pub fn turned(
     requires { Sorted signature.now (scope_sorts scope.now) (Equation left.now right.now) }
     ensures { IfOk result (IsTurned signature.now (scope_sorts scope.now) left.now part) }
 {
-    let sort = known_sort(left, signature, scope)?;
+    let sort = known_sort(left, signature, scope);
     let hole = Form::Eq(Term::Var(0), lift_term(alloc, left, 1, 0)?);
     let own = refl(alloc, left.copy(alloc)?)?;
     subst(alloc, sort, hole, part, own)

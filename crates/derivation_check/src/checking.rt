@@ -8,7 +8,7 @@ ghost use Rattle.kernel.specs.Statements.{Statements};
 ghost use Rattle.verifier.specs.Closing.{HasFalseLine};
 ghost use Rattle.verifier.specs.Faults.{HasCause};
 ghost use Rattle.verifier.specs.Lines.{LinesStand};
-ghost use Rattle.verifier.specs.Logged.{LogsSome};
+ghost use Rattle.verifier.specs.Logged.{LeadTo, LogsSome};
 ghost use Rattle.verifier.specs.Report.{AreAccepted, HasFalse, IsVerdict};
 ghost use Rattle.derivation_check.specs.Cases.{asked_of, claim_by};
 ghost use Rattle.derivation_check.specs.Logs.{ChecksWithLog, TakesSomeOfLog};
@@ -50,7 +50,8 @@ pub struct Report {
 ///
 /// # Errors
 ///
-/// `Sink` where the log failed, and `Memory`. The log has then taken a prefix of the text of legal entries, or nothing.
+/// `Sink` where the log failed, and `Memory`. The log has then taken a prefix of the text of legal entries, or nothing,
+/// and such entries lead to the theory (`leads`).
 pub fn check_derivation<K: Sink>(
     alloc: Global,
     asked: &Asked<'_>,
@@ -68,6 +69,7 @@ pub fn check_derivation<K: Sink>(
     requires lines { All (IsSentence signature.now) derivation.now.forms }
     ensures checks { IfOk result (λ report. ChecksWithLog (asked_of asked.now) theory.old derivation.now signature.now report (K.taken log.old) (K.taken log.new)) }
     ensures log { TakesSomeOfLog theory.old (K.taken log.old) (K.taken log.new) }
+    ensures leads { LeadTo theory.old theory.new }
     ensures cause { IfErr result (λ fault. HasCause fault (Rose (K.faults log.old) (K.faults log.new))) }
     ensures more_faults { K.faults log.old ≤ K.faults log.new }
 {

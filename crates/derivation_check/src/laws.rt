@@ -52,3 +52,11 @@ pub fn a_verified_case_is_good()
     ensures { (asked : spec.Asked) (t : Statements) (d : Derivation) (w : Vocabulary) (report log : List ℕ)
         → length asked.marks ≤ length t.formulas → Checks asked t d w true report log → IsGoodCase asked t d w }
 {}
+
+/// A check has one verdict and one report, whatever the entries of its log are. The marks are those of given formulas, and
+/// the order takes all lines.
+pub fn a_check_has_one_report()
+    ensures { (asked : spec.Asked) (t : Statements) (d : Derivation) (w : Vocabulary) (verified other : Bool) (report log again more : List ℕ)
+        → length asked.marks ≤ length t.formulas → first_left (is_taken d.graph.order) 0 d.graph.nodes ≡ None
+        → Checks asked t d w verified report log → Checks asked t d w other again more → (verified ≡ other) × (report ≡ again) }
+{}

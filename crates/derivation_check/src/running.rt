@@ -9,6 +9,7 @@ ghost use Rattle.tstp_graph.specs.Graphs.{IsOrdered};
 ghost use Rattle.proof_log.specs.Entries.{HaveNumbersInRange, log_text};
 ghost use Rattle.verifier.specs.Declarations.{declarations};
 ghost use Rattle.verifier.specs.Faults.{HasCause};
+ghost use Rattle.verifier.specs.Logged.{LeadTo};
 ghost use Rattle.derivation_check.specs.Cases.{widened};
 ghost use Rattle.derivation_check.specs.code.Logs.{LogsRuns};
 ghost use Rattle.derivation_check.specs.Logs.{TakesSomeOfLog};
@@ -22,6 +23,7 @@ use tptp_base::Sink;
 use verifier::{Outcome, RunFault, declare, run_lines};
 
 /// Writes the log's first line, declares what the derivation brings, and runs its lines.
+#[tactic(auto, using(verifier::proofs::Leading::led_more))]
 pub fn run_derivation<K: Sink>(
     alloc: Global,
     derivation: &Derivation,
@@ -36,6 +38,7 @@ pub fn run_derivation<K: Sink>(
     requires given { All (IsSentence theory.old.vocabulary) theory.old.formulas }
     requires lines { All (IsSentence signature.now) derivation.now.forms }
     ensures ran { IfOk result (λ ran. LogsRuns theory.old derivation.now signature.now ran.answers ran.numbers theory.new (K.taken log.old) (K.taken log.new)) }
+    ensures leads { LeadTo theory.old theory.new }
     ensures cut { OnErr result (TakesSomeOfLog theory.old (K.taken log.old) (K.taken log.new)) }
     ensures cause { IfErr result (λ fault. HasCause fault (Rose (K.faults log.old) (K.faults log.new))) }
     ensures more_faults { K.faults log.old ≤ K.faults log.new }
@@ -49,6 +52,7 @@ pub fn run_derivation<K: Sink>(
 }
 
 // Writes the log's first line, and declares what the signature has and the theory lacks.
+#[tactic(auto, using(verifier::proofs::Leading::led_none))]
 fn begin<K: Sink>(
     alloc: Global,
     signature: &Signature,
@@ -61,6 +65,7 @@ fn begin<K: Sink>(
     ensures declared { OnOk result (Admits theory.old (declarations theory.old.vocabulary signature.now) (widened theory.old signature.now)) }
     ensures logged { OnOk result (Takes (K.taken log.old) (K.taken log.new) (log_text (declarations theory.old.vocabulary signature.now))) }
     ensures in_range { OnOk result (HaveNumbersInRange (declarations theory.old.vocabulary signature.now)) }
+    ensures leads { LeadTo theory.old theory.new }
     ensures cut { OnErr result (TakesSomeOfLog theory.old (K.taken log.old) (K.taken log.new)) }
     ensures cause { IfErr result (λ fault. HasCause fault (Rose (K.faults log.old) (K.faults log.new))) }
     ensures more_faults { K.faults log.old ≤ K.faults log.new }

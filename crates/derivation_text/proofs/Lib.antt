@@ -1,4 +1,6 @@
 pub mod Bringing
 pub mod Counts
 pub mod OneNodeEach
+pub mod OneDerivation
 pub mod Readings
+pub mod Sizes

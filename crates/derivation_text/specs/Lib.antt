@@ -1,2 +1,3 @@
 pub mod Derivations
 pub mod Texts
+pub mod Wants

@@ -11,5 +11,7 @@ mod text;
 
 pub use derivation::Derivation;
 pub use fault::DerivationFault;
-pub use law::brought_by_the_derivation;
+pub use law::{
+    a_derivation_is_within_its_text, brought_by_the_derivation, one_derivation_or_fault,
+};
 pub use reading::read_derivation;

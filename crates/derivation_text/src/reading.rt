@@ -1,5 +1,5 @@
 // Derivations are read.
-ghost use Rattle.std.specs.Prelude.{◌≡◌, ◌<◌, ◌≤◌, ◌^◌, All, IfOk, IfErr, OnOk, length};
+ghost use Rattle.std.specs.Prelude.{◌≡◌, ◌<◌, ◌≤◌, ◌^◌, All, IfOk, IfErr, length};
 ghost use Rattle.tptp_base.specs.declared.read.TheConstants.{FILE_SIZE as file_size};
 ghost use Rattle.sort_check.specs.Sorting.{Extends, IsSentence};
 ghost use Rattle.derivation_text.specs.Derivations.{AreDerivation, IsDerivation, IsFirstFault, IsItemsFault, forms_of as forms_from, names_of as names_from};
@@ -25,7 +25,8 @@ use tstp_graph::{Graph, graph};
 /// # Errors
 ///
 /// The first fault, in this order: that of the tokens, that of the items, that of the graph, and that against the rules of
-/// sorts. After it the signature holds what it held and perhaps further sorts and symbols.
+/// sorts. After it the signature holds what it held and perhaps further sorts and symbols (`extends`).
+#[tactic(auto, using(sort_check::proofs::TermSorts::grows_not))]
 pub fn read_derivation(
     alloc: Global,
     text: &[u8],
@@ -36,7 +37,7 @@ pub fn read_derivation(
     requires few_given { length given.now < 2 ^ 32 }
     ensures is { IfOk result (λ d. IsDerivation text.now given.now signature.old d signature.new) }
     ensures fault { IfErr result (λ fault. IsFirstFault text.now given.now signature.old fault) }
-    ensures extends { OnOk result (Extends signature.old signature.new) }
+    ensures extends { Extends signature.old signature.new }
     ensures sentences { IfOk result (λ d. All (IsSentence signature.new) d.forms) }
     ensures each_form { IfOk result (λ d. length d.forms ≡ length d.graph.nodes) }
     ensures each_name { IfOk result (λ d. length d.names ≡ length d.graph.nodes) }
@@ -49,6 +50,7 @@ pub fn read_derivation(
 }
 
 // The derivation that items are.
+#[tactic(auto, using(sort_check::proofs::TermSorts::grows_not))]
 fn over_items(
     alloc: Global,
     items: &[Item],
@@ -59,7 +61,7 @@ fn over_items(
     requires few_given { length given.now < 2 ^ 32 }
     ensures are { IfOk result (λ d. AreDerivation items.now given.now signature.old d signature.new) }
     ensures fault { IfErr result (λ fault. IsItemsFault items.now given.now signature.old fault) }
-    ensures extends { OnOk result (Extends signature.old signature.new) }
+    ensures extends { Extends signature.old signature.new }
     ensures sentences { IfOk result (λ d. All (IsSentence signature.new) d.forms) }
     ensures each_form { IfOk result (λ d. length d.forms ≡ length d.graph.nodes) }
     ensures each_name { IfOk result (λ d. length d.names ≡ length d.graph.nodes) }
@@ -83,7 +85,7 @@ fn over_graph(
     requires is_graph { IsGraph items.now given.now graph }
     ensures are { IfOk result (λ d. AreDerivation items.now given.now signature.old d signature.new) }
     ensures fault { IfErr result (λ fault. IsItemsFault items.now given.now signature.old fault) }
-    ensures extends { OnOk result (Extends signature.old signature.new) }
+    ensures extends { Extends signature.old signature.new }
     ensures sentences { IfOk result (λ d. All (IsSentence signature.new) d.forms) }
     ensures each_form { IfOk result (λ d. length d.forms ≡ length d.graph.nodes) }
     ensures each_name { IfOk result (λ d. length d.names ≡ length d.graph.nodes) }

@@ -6,6 +6,7 @@ pub mod Lists
 pub mod SortLists
 mod Reversed
 pub mod Induction
+pub mod KnownSorts
 pub mod InstanceFacts
 pub mod LiftingLaws
 pub mod LiftFacts
@@ -16,6 +17,7 @@ pub mod PlaceReach
 pub mod Reaches
 pub mod ScopeFacts
 pub mod Scoped
+pub mod SizeFacts
 pub mod SortLawsFacts
 pub mod SortsFacts
 pub mod Trees

@@ -5,6 +5,7 @@ pub mod Instance
 pub mod Lift
 pub mod Occurs
 pub mod Scope
+pub mod Sizes
 pub mod SortLaws
 pub mod Sorts
 pub mod Standing

@@ -4,7 +4,7 @@ ghost use Rattle.tptp_base.specs.declared.limit.LimitName.{LimitName as limit_na
 ghost use Rattle.tptp_base.specs.declared.limit.LimitName.TheVariants.{Symbols, Sorts};
 ghost use Rattle.fof_terms.specs.declared.signature.SigFault.TheVariants.{Memory as wanting};
 ghost use Rattle.fof_terms.specs.Found.{FindsSymbols, FindsSorts};
-ghost use Rattle.fof_terms.specs.Vocabulary.{IsDeclared, found_symbol, found_sort};
+ghost use Rattle.fof_terms.specs.Vocabulary.{IsDeclared, IsVocabulary, found_symbol, found_sort};
 
 use crate::directory::Directory;
 use crate::form::SortId;
@@ -119,6 +119,13 @@ impl Signature {
             functions: Directory::new(alloc),
             predicates: Directory::new(alloc),
         })
+    }
+
+    /// What holds of every signature: sort 0 is that of individuals, and the sorts of each symbol are there.
+    pub fn is_vocabulary(&self)
+        ensures { IsVocabulary self.now }
+    {
+        let _ = &self.sorts;
     }
 
     /// Adds a sort, and answers its number. `Limit(Sorts)` exactly where 65,536 sorts are there. After a refusal

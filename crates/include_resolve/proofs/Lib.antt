@@ -14,4 +14,5 @@ pub mod ResolvedItems
 pub mod SomeAnswer
 pub mod Sizes
 pub mod SpelledItems
+pub mod OnlyTried
 pub mod PathFacts

@@ -4,4 +4,5 @@ pub mod Parts
 pub mod Resolved
 pub mod Selection
 pub mod Texts
+pub mod Tried
 pub mod code

@@ -17,7 +17,7 @@ mod spelling;
 pub use fault::{IncludeFault, TextFault};
 pub use law::{
     a_problem_is_within_what_was_read, all_includes_are_replaced, one_answer,
-    resolved_items_are_spelled,
+    only_tried_files_count, resolved_items_are_spelled,
 };
 pub use problem::{MAX_DEPTH, Problem, TOTAL_SIZE};
 pub use resolving::resolve;

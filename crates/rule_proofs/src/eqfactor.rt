@@ -263,7 +263,7 @@ fn chained(
     requires { Sorted signature.now (scope_sorts scope.now) (Equation side.now first.now) }
     ensures { IfOk result (IsChained signature.now (scope_sorts scope.now) side.now first.now same own) }
 {
-    let sort = known_sort(first, signature, scope)?;
+    let sort = known_sort(first, signature, scope);
     let hole = Form::Eq(lift_term(alloc, side, 1, 0)?, Term::Var(0));
     subst(alloc, sort, hole, same, own)
 }

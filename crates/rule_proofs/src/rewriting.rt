@@ -133,7 +133,7 @@ fn filled(
     ensures shows { IfOk result (λ made. (formulas h : ListOf Formula) → slice_get h 0 ≡ Some (lit_form (equation_of flipped left.now right.now))
         → ShowsUnder signature.now (scope_sorts scope.now) formulas h (body_of into.is_or into.lits) into.part → ShowsUnder signature.now (scope_sorts scope.now) formulas h (body_of made.is_or made.lits) made.part) }
 {
-    let sort = known_sort(left, signature, scope)?;
+    let sort = known_sort(left, signature, scope);
     let is_or = into.is_or;
     let own = read(alloc, signature, scope, left, right, flipped)?;
     let hole = hole_of(alloc, is_or, marked, images)?;

@@ -9,6 +9,7 @@ pub mod Inducing
 pub mod Keeping
 pub mod LineBringing
 pub mod LineLoops
+pub mod LineSizing
 pub mod LineSorts
 pub mod Loops
 pub mod NameLists
@@ -16,7 +17,9 @@ pub mod Noting
 pub mod OneAnswer
 pub mod Parts
 pub mod Scopes
+pub mod Sizing
 pub mod Stepping
 pub mod TermSorts
 pub mod Equations
 pub mod VariableEquations
+pub mod SameVariables

@@ -30,7 +30,7 @@ use Rattle.sort_check.specs.declared.line.TextKind.{TextKind}
 use Rattle.sort_check.specs.Bringing.{IsNamed, Brings}
 use Rattle.sort_check.specs.Outcomes.{Outcome, and_then, mapped, each}
 use Rattle.sort_check.specs.Symbols.{Text, named_sort, with_name}
-use Rattle.sort_check.specs.Denotation.{Setting, State, denoted_form, closed, variables_of, without_count, sentence, clause, formula}
+use Rattle.sort_check.specs.Denotation.{Setting, State, denoted_form, closed, clause_scope, without_count, sentence, clause, formula}
 use Rattle.sort_check.specs.Texts.{Declared, sort_at, declared_sort, symbol_named, symbol_of, result_named, result_kind, differs, placed, declared_symbol, typed, typed_body, is_type, at_line, type_item, type_lines, Reading, is_conjecture, is_single, line_of, reading, body_form, line_form, line, line_item, with_line, lines_from, only_vocabulary, denoted}
 use Rattle.sort_check.proofs.Stepping.{at_ok, then_ok, mapped_ok}
 use Rattle.sort_check.proofs.Bringing.{brings_nothing, brings_on, brings_sort, with_symbol_brings, forms_bring}
@@ -50,7 +50,7 @@ module _ (names : List Text) (f : Surface) (v w : Vocabulary) (a : Form) (quotab
   clause_brings e =
       let here : Setting = record { declared = names; outside = Variables } in
       let start : State = record { vocabulary = v; bound = 0 } in
-      let scope = variables_of f [] in
+      let scope = clause_scope f in
       let last = mapped_ok (closed q.All scope) (without_count (denoted_form here f scope start)) a w e in
       let inner = counted_ok (denoted_form here f scope start) last.0 w last.1 in
       subst (Brings v) inner.2 (forms_bring f here scope start inner.0 last.0 quotable inner.1)

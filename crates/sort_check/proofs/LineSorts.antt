@@ -1,12 +1,9 @@
 -- The formulas of the lines of a text are closed and well-sorted.
-use Rattle.std.proofs.Common.{◌≡◌, ℕ, ◌+◌, ◌<◌, ◌≤◌, ◌==◌, ◌||◌, ◌&&◌, Bool, true, false, cond, List, [], ◌∷◌, ◌++◌, length, map, Option, Some, None, Result, Ok, Err, IfOk, OnOk, refl, sym, ◌∙◌, subst, arith}
+use Rattle.std.proofs.Common.{◌≡◌, ℕ, ◌+◌, ◌<◌, ◌≤◌, ◌==◌, ◌||◌, ◌&&◌, Bool, true, false, cond, List, [], ◌∷◌, ◌++◌, length, map, take, Option, Some, None, Result, Ok, Err, IfOk, OnOk, refl, sym, ◌∙◌, subst, arith}
 use Rattle.std.specs.List.{AllByRecursion, list_any}
-use Rattle.std.specs.Str.{bytes_eq}
-use Rattle.std.proofs.lemmas.List.{length-append}
+use Rattle.std.proofs.lemmas.List.{length-map, length-take}
 use Rattle.std.proofs.lemmas.List.Elements.{All-from_recursion}
-use Rattle.std.proofs.lemmas.Bool.Decides.{nat_tests}
 use Rattle.tptp_base.specs.declared.limit.LimitName.TheVariants.{Symbols, Sorts}
-use Rattle.tptp_base.specs.declared.surface.STerm.{STerm}
 use Rattle.tptp_base.specs.declared.surface.Surface.{Surface}
 use Rattle.tptp_base.specs.declared.surface.SortName.{SortName}
 use Rattle.tptp_base.specs.declared.surface.SortName.TheVariants as name
@@ -33,11 +30,9 @@ use Rattle.sort_check.specs.declared.line.TextKind.{TextKind}
 use Rattle.sort_check.specs.declared.scope.Variable.{Variable}
 use Rattle.sort_check.specs.Outcomes.{Outcome, and_then, mapped, each}
 use Rattle.sort_check.specs.Symbols.{Text, named_sort, with_symbol, known, with_name}
-use Rattle.sort_check.specs.Denotation.{Setting, State, denoted_form, closed, noted, in_turn, variables_of_term, variables_of, without_count, sentence, clause, formula}
-use Rattle.sort_check.proofs.VariableEquations.{of_term-Var, of_term-App, of-True, of-False, of-Atom, of-Eq, of-Neq, of-Not, of-And, of-Or, of-Binary, of-Bind}
+use Rattle.sort_check.specs.Denotation.{Setting, State, denoted_form, closed, variables_of, each_once, clause_scope, without_count, sentence, clause, formula}
 use Rattle.sort_check.specs.Texts.{Declared, sort_at, declared_sort, symbol_named, symbol_of, result_named, result_kind, differs, placed, declared_symbol, declaring, typed, typed_body, is_type, at_line, type_item, type_lines, Reading, is_conjecture, is_single, line_of, reading, body_form, line_form, line, line_item, with_line, lines_from, only_vocabulary, denoted, Gives}
 use Rattle.sort_check.specs.Sorting.{IsSentence, AreSorted, Extends}
-use Rattle.sort_check.proofs.Inducing.{term_induction, form_induction}
 use Rattle.sort_check.proofs.Stepping.{at_ok, then_ok, mapped_ok}
 use Rattle.sort_check.proofs.TermSorts.{grows_not, grows_on, sort_added, symbol_added}
 use Rattle.sort_check.proofs.FormSorts.{forms_fit, closed_fits, closed_depth, found_sort_below}
@@ -48,57 +43,18 @@ pub record AreIndividuals (found : List Variable) : Type 0 where
   pub sorts : AllByRecursion (λ (x : Variable). x.sort ≡ 0) found
   pub few : length found ≤ 250
 
-abbrev Noting : (List Variable → List Variable) → Type 0
-Noting f = (found : List Variable) → AreIndividuals found → AreIndividuals (f found)
+abbrev individual : Text → Variable
+individual name = record { name = name; sort = 0 }
 
-all_last : (found : List Variable) (x : Variable) → AllByRecursion (λ (y : Variable). y.sort ≡ 0) found → x.sort ≡ 0 → AllByRecursion (λ (y : Variable). y.sort ≡ 0) (found ++ x ∷ [])
-all_last [] x all e = (e, tt)
-all_last (y ∷ found) x all e = (all.0, all_last found x all.1 e)
+individuals : (names : List Text) → AllByRecursion (λ (x : Variable). x.sort ≡ 0) (map (λ name. record { name = name; sort = 0 }) names)
+individuals [] = tt
+individuals (name ∷ names) = (refl, individuals names)
 
-noted_fits : (name : Text) → Noting (noted name)
-noted_fits name found good = by (list_any (λ (x : Variable). bytes_eq x.name name) found) (length found == 250) refl
-  where
-    new : Variable
-    new = record { name = name; sort = 0 }
-
-    one_more : AllByRecursion (λ (y : Variable). y.sort ≡ 0) (found ++ record { name = name; sort = 0 } ∷ [])
-    one_more = all_last found (record { name = name; sort = 0 }) good.sorts refl
-
-    by : (a b : Bool) → (length found == 250) ≡ b → AreIndividuals (cond (a || b) found (found ++ record { name = name; sort = 0 } ∷ []))
-    by true b e = good
-    by false true e = good
-    by false false e =
-        let open_ : length found ≡ 250 → ⊥ = λ full. grind (arith, nat_tests) in
-        let room : length found < 250 = omega (arith, good.few, open_) in
-        record { sorts = one_more; few = rw length-append (omega (arith, room)) }
-
-turns_fit : {X : Type 0} (f : X → List Variable → List Variable) (xs : List X) → AllByRecursion (λ x. Noting (f x)) xs → Noting (in_turn (map f xs))
-turns_fit f [] all found good = good
-turns_fit f (x ∷ xs) all found good = turns_fit f xs all.1 (f x found) (all.0 found good)
-
-term_notes : (t : STerm) → Noting (variables_of_term t)
-term_notes = term_induction (λ t. Noting (variables_of_term t)) (record {
-  var = λ name found good. rw of_term-Var (noted_fits name found good);
-  app = λ f ts all found good. rw of_term-App (turns_fit variables_of_term ts all found good);
-})
-
-terms_note : (ts : List STerm) → AllByRecursion (λ t. Noting (variables_of_term t)) ts
-terms_note [] = tt
-terms_note (t ∷ ts) = (term_notes t, terms_note ts)
-
-form_notes : (a : Surface) → Noting (variables_of a)
-form_notes = form_induction (λ a. Noting (variables_of a)) (record {
-  truth = λ found good. rw of-True good;
-  falsity = λ found good. rw of-False good;
-  atom = λ p ts found good. rw of-Atom (turns_fit variables_of_term ts (terms_note ts) found good);
-  eq = λ l r found good. rw of-Eq (term_notes r (variables_of_term l found) (term_notes l found good));
-  neq = λ l r found good. rw of-Neq (term_notes r (variables_of_term l found) (term_notes l found good));
-  not = λ a one found good. rw of-Not (one found good);
-  and = λ as_ all found good. rw of-And (turns_fit variables_of as_ all found good);
-  or = λ as_ all found good. rw of-Or (turns_fit variables_of as_ all found good);
-  binary = λ o a b one two found good. rw of-Binary (two (variables_of a found) (one found good));
-  bind = λ quant xs a one found good. rw of-Bind (one found good);
-})
+scope_fits : (f : Surface) → AreIndividuals (clause_scope f)
+scope_fits f = record {
+  sorts = individuals (take 250 (each_once (variables_of f)));
+  few = omega (arith, length-map (take 250 (each_once (variables_of f))) individual, length-take 250 (each_once (variables_of f)));
+}
 
 individuals_known : (v : Vocabulary) (found : List Variable) → 0 < length v.sorts → AllByRecursion (λ (x : Variable). x.sort ≡ 0) found → AllByRecursion (λ (x : Variable). x.sort < length v.sorts) found
 individuals_known v [] some all = tt
@@ -134,8 +90,8 @@ clause_fits : (names : List Text) (f : Surface) (v w : Vocabulary) (a : Form) �
 clause_fits names f v w a some e =
     let here : Setting = record { declared = names; outside = Variables } in
     let start : State = record { vocabulary = v; bound = 0 } in
-    let scope = variables_of f [] in
-    let vars = form_notes f [] (record { sorts = tt; few = omega arith }) in
+    let scope = clause_scope f in
+    let vars = scope_fits f in
     let last = mapped_ok (closed q.All scope) (without_count (denoted_form here f scope start)) a w e in
     let inner = counted_ok (denoted_form here f scope start) last.0 w last.1 in
     let good = forms_fit f here scope start inner.0 last.0 some inner.1 in

@@ -2,7 +2,7 @@
 use Rattle.std.proofs.Common.{◌≡◌, ℕ, ◌+◌, ◌<◌, ◌≤◌, List, length, drop, get_or, map, refl, sym, ◌∙◌, ap}
 use Rattle.std.proofs.lemmas.List.{drop_all}
 use Rattle.sort_check.specs.declared.scope.Variable.{Variable}
-use Rattle.sort_check.specs.Denotation.{in_turn}
+use Rattle.sort_check.specs.code.Variables.{in_turn}
 use Rattle.sort_check.proofs.Loops.{at_member}
 
 module _ {X : Type 0} (f : X → List Variable → List Variable) where

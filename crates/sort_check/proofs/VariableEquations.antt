@@ -8,7 +8,7 @@ use Rattle.tptp_base.specs.declared.surface.BinOp.{BinOp}
 use Rattle.tptp_base.specs.declared.surface.Quant.{Quant}
 use Rattle.sort_check.specs.declared.scope.Variable.{Variable}
 use Rattle.sort_check.specs.Symbols.{Text}
-use Rattle.sort_check.specs.Denotation.{noted, in_turn, variables_step, variables_of_term, form_variables_step, variables_of}
+use Rattle.sort_check.specs.code.Variables.{noted, in_turn, variables_step, variables_of_term, form_variables_step, variables_of}
 use Rattle.sort_check.proofs.Equations.{fold-Var, fold-App, fold-True, fold-False, fold-Atom, fold-Eq, fold-Neq, fold-Not, fold-And, fold-Or, fold-Binary, fold-Bind}
 use Rattle.tptp_base.specs.declared.surface.STerm.TheVariants as tm
 use Rattle.tptp_base.specs.declared.surface.Surface.TheVariants as fm

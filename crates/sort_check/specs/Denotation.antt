@@ -1,7 +1,7 @@
 -- What terms and formulas denote (TPTP technical manual, quantification and connectives): trees in which a bound variable
 -- is the number of binders between it and its own.
-use Rattle.std.specs.Prelude.{ℕ, ◌+◌, ◌==◌, ◌++◌, ◌||◌, if◌then◌else◌, List, [], ◌∷◌, length, map, Option, Some, None, Ok, Err}
-use Rattle.std.specs.List.{list_any}
+use Rattle.std.specs.Prelude.{ℕ, ◌+◌, ◌==◌, ◌++◌, not, if◌then◌else◌, List, [], ◌∷◌, length, map, take, Option, Some, None, Ok, Err}
+use Rattle.std.specs.List.{filter, flat_map}
 use Rattle.std.specs.Str.{bytes_eq}
 use Rattle.tptp_base.specs.declared.surface.STerm.{STerm}
 use Rattle.tptp_base.specs.declared.surface.STerm.TheFolds.{fold-STerm}
@@ -151,35 +151,37 @@ denoted_form here = fold-Surface Meaning (form_step here)
 
 -- ---- clauses: their variables are bound in front, in the order in which they first appear
 
--- the variable is noted unless it is there, or 250 are
-abbrev pub noted : Text → List Variable → List Variable
-noted name found = if list_any (λ x. bytes_eq x.name name) found || (length found == 250) then found else found ++ record { name = name; sort = 0 } ∷ []
+-- the variables of a term, each as often as it occurs
+abbrev pub variables_step : st.STerm-F (List Text) → List Text
+variables_step (st.Var name) = name ∷ []
+variables_step (st.App name args) = flat_map (λ names. names) args
 
-abbrev pub in_turn : List (List Variable → List Variable) → List Variable → List Variable
-in_turn [] found = found
-in_turn (f ∷ fs) found = in_turn fs (f found)
+unfoldable pub variables_of_term : STerm → List Text
+variables_of_term = fold-STerm (List Text) variables_step
 
-abbrev pub variables_step : st.STerm-F (List Variable → List Variable) → List Variable → List Variable
-variables_step (st.Var name) found = noted name found
-variables_step (st.App name args) found = in_turn args found
+abbrev pub form_variables_step : sf.Surface-F (List Text) → List Text
+form_variables_step sf.True = []
+form_variables_step sf.False = []
+form_variables_step (sf.Atom name args) = flat_map variables_of_term args
+form_variables_step (sf.Eq l r) = variables_of_term l ++ variables_of_term r
+form_variables_step (sf.Neq l r) = variables_of_term l ++ variables_of_term r
+form_variables_step (sf.Not a) = a
+form_variables_step (sf.And as_) = flat_map (λ names. names) as_
+form_variables_step (sf.Or as_) = flat_map (λ names. names) as_
+form_variables_step (sf.Binary op a b) = a ++ b
+form_variables_step (sf.Bind quant xs a) = a
 
-unfoldable pub variables_of_term : STerm → List Variable → List Variable
-variables_of_term = fold-STerm (List Variable → List Variable) variables_step
+unfoldable pub variables_of : Surface → List Text
+variables_of = fold-Surface (List Text) form_variables_step
 
-abbrev pub form_variables_step : sf.Surface-F (List Variable → List Variable) → List Variable → List Variable
-form_variables_step sf.True found = found
-form_variables_step sf.False found = found
-form_variables_step (sf.Atom name args) found = in_turn (map variables_of_term args) found
-form_variables_step (sf.Eq l r) found = variables_of_term r (variables_of_term l found)
-form_variables_step (sf.Neq l r) found = variables_of_term r (variables_of_term l found)
-form_variables_step (sf.Not a) found = a found
-form_variables_step (sf.And as_) found = in_turn as_ found
-form_variables_step (sf.Or as_) found = in_turn as_ found
-form_variables_step (sf.Binary op a b) found = b (a found)
-form_variables_step (sf.Bind quant xs a) found = a found
+-- each once, where it first appears
+abbrev pub each_once : List Text → List Text
+each_once [] = []
+each_once (name ∷ names) = name ∷ filter (λ other. not (bytes_eq name other)) (each_once names)
 
-unfoldable pub variables_of : Surface → List Variable → List Variable
-variables_of = fold-Surface (List Variable → List Variable) form_variables_step
+-- the first 250 variables of a clause, which are individuals
+abbrev pub clause_scope : Surface → List Variable
+clause_scope a = map (λ name. record { name = name; sort = 0 }) (take 250 (each_once (variables_of a)))
 
 -- ---- whole formulas
 
@@ -191,10 +193,10 @@ without_count (Err e) = Err e
 abbrev pub sentence : List Text → Surface → Vocabulary → Outcome SortRule Vocabulary Form
 sentence declared a v = without_count (denoted_form (record { declared = declared; outside = FreeVariable }) a [] (record { vocabulary = v; bound = 0 }))
 
--- a clause with more than 250 variables has one that is not among the first 250
+-- a variable of a clause that is not among its first 250 is one too many
 abbrev pub clause : List Text → Surface → Vocabulary → Outcome SortRule Vocabulary Form
 clause declared a v =
-    let scope = variables_of a [] in
+    let scope = clause_scope a in
     mapped (closed q.All scope) (without_count (denoted_form (record { declared = declared; outside = Variables }) a scope (record { vocabulary = v; bound = 0 })))
 
 abbrev pub formula : Lang → List Text → Surface → Vocabulary → Outcome SortRule Vocabulary Form

@@ -4,3 +4,4 @@ pub mod Namesakes
 pub mod Outcomes
 pub mod Reach
 pub mod Texts
+pub mod Variables

@@ -46,6 +46,7 @@ fn denote_sentence(
 }
 
 // The variables of a clause are bound in front.
+#[tactic(auto, using(crate::proofs::SameVariables::same_scope))]
 fn denote_clause(
     alloc: Global,
     declared: &Names,

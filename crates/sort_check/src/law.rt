@@ -7,7 +7,7 @@ ghost use Rattle.fof_terms.specs.Vocabulary.{Vocabulary};
 ghost use Rattle.sort_check.specs.declared.line.Line.{Line};
 ghost use Rattle.sort_check.specs.declared.line.TextKind.{TextKind};
 ghost use Rattle.sort_check.specs.Bringing.{Brings};
-ghost use Rattle.sort_check.specs.Laws.{Answer, IsOne, HaveAnswer};
+ghost use Rattle.sort_check.specs.Laws.{Answer, AreNoLarger, IsOne, HaveAnswer};
 ghost use Rattle.sort_check.specs.Texts.{denoted, Gives};
 
 /// Items denote lines or have a first fault, and never two of them.
@@ -22,4 +22,10 @@ pub fn one_answer()
 pub fn named_by_the_text()
     ensures { (items : List Item) (v w : Vocabulary) (kind : TextKind) (lines : List Line) →
         AreQuotable (names_of_items items) → denoted items v kind ≡ Ok (lines, w) → Brings v w }
+{}
+
+/// What items denote is no larger than they are.
+pub fn lines_are_no_larger()
+    ensures { (items : List Item) (v w : Vocabulary) (kind : TextKind) (lines : List Line) →
+        denoted items v kind ≡ Ok (lines, w) → AreNoLarger items lines }
 {}

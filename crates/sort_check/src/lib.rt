@@ -21,5 +21,5 @@ mod variables;
 pub use denotation::denote;
 pub use fault::{SortFault, SortRule};
 pub use giving::given;
-pub use law::{named_by_the_text, one_answer};
+pub use law::{lines_are_no_larger, named_by_the_text, one_answer};
 pub use line::{GivenEntry, Line, TextKind};

@@ -2,7 +2,7 @@
 ghost use Rattle.std.specs.Prelude.{◌≡◌, ◌≤◌, length, map, OnOk};
 ghost use Rattle.std.specs.List.{list_any};
 ghost use Rattle.std.specs.Str.{bytes_eq};
-ghost use Rattle.sort_check.specs.Denotation as spec;
+ghost use Rattle.sort_check.specs.code.Variables as spec;
 
 use crate::scope::Variable;
 use std::alloc::Global;

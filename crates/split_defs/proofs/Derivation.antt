@@ -1,6 +1,6 @@
 -- The entries of a definition add the line.
 use Rattle.std.proofs.Common.{ℕ, ◌≡◌, ◌≤◌, ◌+◌, ◌<◌, ◌||◌, Bool, true, false, List, [], ◌∷◌, ◌++◌, map, length, reverse, arith, zero, suc, refl, sym, ap, subst, ◌∙◌, inl, inr, slice_get, Some, append_assoc}
-use Rattle.std.specs.Prelude.{◌^◌, Option, Result, IfOk, IfSome}
+use Rattle.std.specs.Prelude.{◌^◌, Option, None, Result, IfNone, IfOk, IfSome}
 use Rattle.std.specs.List.{All as Each}
 use Rattle.std.proofs.lemmas.List.{length-reverse, length-append}
 use Rattle.fof_terms.specs.Vocabulary.{Vocabulary}
@@ -270,6 +270,11 @@ module _ (t : Statements) (line body : Form) (ready : IsReady t.vocabulary line)
 -- The sort of the result, as it is found.
 some_then : (P : ℕ → Type 0) (o : Option ℕ) (x : ℕ) → IfSome o P → o ≡ Some x → P x
 some_then P o x h e = subst (λ (p : Option ℕ). IfSome p P) e h
+
+-- there is one
+pub result_found : (v w : Vocabulary) (k : ℕ) (o : Option ℕ) → w ≡ v → IfNone o (slice_get w.symbols k ≡ None) → (s : Symbol) → slice_get v.symbols k ≡ Some s → ((r : ℕ) → o ≡ Some r → ⊥) → ⊥
+result_found v w k (Some r) same h s e none = none r refl
+result_found v w k None same h s e none = (let there : slice_get w.symbols k ≡ Some s = subst (λ (x : Vocabulary). slice_get x.symbols k ≡ Some s) (sym same) e in cc)
 
 pub result_exists : (v w : Vocabulary) (o : Option ℕ) (r : ℕ) → w ≡ v → IfSome o (λ s. s < length w.sorts) → o ≡ Some r → r < length v.sorts
 result_exists v w o r same h e = subst (λ (x : Vocabulary). r < length x.sorts) same (some_then (λ s. s < length w.sorts) o r h e)

@@ -1,5 +1,5 @@
 //! The entries by which a theory takes a line that defines a function.
-ghost use Rattle.std.specs.Prelude.{◌≡◌, ◌<◌, ◌≤◌, ◌+◌, ◌^◌, ℕ, List as ListOf, [], ◌∷◌, Some, length, map, slice_get, IfOk, IfSome};
+ghost use Rattle.std.specs.Prelude.{◌≡◌, ◌<◌, ◌≤◌, ◌+◌, ◌^◌, ℕ, List as ListOf, [], ◌∷◌, None, Some, length, map, slice_get, IfNone, IfOk, IfSome};
 ghost use Rattle.fof_terms.specs.Lift.{lift_term_reach};
 ghost use Rattle.fof_terms.specs.declared.signature.Symbol.{Symbol as Sign};
 ghost use Rattle.fof_terms.specs.declared.term.Term.{Var};
@@ -42,7 +42,7 @@ pub fn function_entries(
         unreachable!()
     };
     let Some(result) = result_of(theory.signature(), symbol) else {
-        return Err(Memory);
+        unreachable!()
     };
     let args = args.as_slice();
     let value_of_arguments = value_over(alloc, args, value)?;
@@ -57,15 +57,11 @@ pub fn function_entries(
 fn result_of(signature: &Signature, symbol: SymId) -> Option<SortId>
     ensures exists { IfSome result (λ sort. sort < length signature.now.sorts) }
     ensures is { IfSome result (λ sort. (s : Sign) → slice_get signature.now.symbols symbol ≡ Some s → s.result ≡ sort) }
+    ensures none { IfNone result (slice_get signature.now.symbols symbol ≡ None) }
 {
+    signature.is_vocabulary();
     match signature.symbol(symbol) {
-        Some(found) => {
-            if found.result < signature.sort_count() {
-                Some(found.result)
-            } else {
-                None
-            }
-        }
+        Some(found) => Some(found.result),
         None => None,
     }
 }

@@ -1,5 +1,7 @@
 -- When a check ends with status 0.
-use Rattle.std.proofs.Common.{◌≡◌, ◌⊎◌, inl, inr, ℕ, ◌-◌, List, [], length, Option, None, Some, Result, Ok, Err, refl, sym, ◌∙◌, ap, subst}
+use Rattle.std.specs.Prelude.{if◌then◌else◌, nat_eq}
+use Rattle.std.specs.Cmp.Lexicographic.{pointwise, bytes_decides}
+use Rattle.std.proofs.Common.{◌≡◌, ◌⊎◌, inl, inr, ℕ, ◌-◌, Bool, true, false, List, [], ◌∷◌, length, Option, None, Some, Result, Ok, Err, refl, sym, ◌∙◌, ap, subst}
 use Rattle.tptp_base.specs.Store.{Files, file_at}
 use Rattle.fof_terms.specs.Vocabulary.{Vocabulary}
 use Rattle.kernel.specs.Statements.{Statements}
@@ -8,7 +10,9 @@ use Rattle.kernel.specs.declared.entry.Entry.{Entry}
 use Rattle.include_resolve.specs.declared.fault.IncludeFault.{IncludeFault}
 use Rattle.include_resolve.specs.declared.problem.Problem.{Problem}
 use Rattle.include_resolve.specs.Parts.{Answer}
+use Rattle.include_resolve.specs.Tried.{Tries}
 use Rattle.include_resolve.proofs.OneAnswer.{one}
+use Rattle.include_resolve.proofs.OnlyTried.{further_file}
 use Rattle.sort_check.specs.declared.fault.SortFault.{SortFault}
 use Rattle.sort_check.specs.declared.line.Line.{Line}
 use Rattle.sort_check.specs.declared.line.TextKind.TheVariants as kind
@@ -126,10 +130,10 @@ module _ (after : Files) (root : Option (List ℕ)) (problem log text : List ℕ
       text_refuted (given_theory others w) text entries ending is (subst (λ (s : Statements). Refutes s entries) same refutes) (file.read text there fits)
 
   problem_checks : (files : Files) (read : ℕ) → GivesTheSame files after root problem → IsGiven (Some files) root problem t read → Fits read (length text) → EndsCheck after root problem log ending → ending ≡ refuted (length entries)
-  problem_checks files read same (whole, resolves, theory, bytes) fits (inl (fault, faulty, says)) = no_answer fault whole (one after root problem (Err fault) (Ok whole) faulty (same (Ok whole) resolves))
+  problem_checks files read same (whole, resolves, theory, bytes) fits (inl (fault, faulty, says)) = no_answer fault whole (one after root problem (Err fault) (Ok whole) faulty (same whole resolves))
   problem_checks files read same (whole, resolves, (lines, v, denotes, is_theory), bytes) fits (inr (other, again, rest)) =
       let Rest : Problem → Type 0 = λ p. AfterDenoted p (λ lines v. AfterFile after log (TOTAL_SIZE - p.read) (SaysLog (given_theory lines v))) ending in
-      theory_checks whole lines v denotes is_theory (subst (λ (n : ℕ). Fits n (length text)) bytes fits) (subst Rest (one_problem whole other (one after root problem (Ok other) (Ok whole) again (same (Ok whole) resolves))) rest)
+      theory_checks whole lines v denotes is_theory (subst (λ (n : ℕ). Fits n (length text)) bytes fits) (subst Rest (one_problem whole other (one after root problem (Ok other) (Ok whole) again (same whole resolves))) rest)
 
 module _ (files after : Files) (root : Option (List ℕ)) (problem log text : List ℕ) (run : IsRefutation files root problem (Some []) (Some text)) where
   logged_is : NestWithin MAX_NESTING run.entries → IsLogOf MAX_NESTING text run.entries
@@ -139,6 +143,13 @@ module _ (files after : Files) (root : Option (List ℕ)) (problem log text : Li
   logged_checks within same there fits ending ends = problem_checks after root problem log text run.theory run.entries ending there (logged_is within) run.refutes files run.read same run.is fits ends
 
 -- ---- a run on words
+
+first_file : (name text : List ℕ) (files : Files) → file_at ((name, text) ∷ files) name ≡ Some text
+first_file name text files = by (pointwise nat_eq name name) refl
+  where
+    by : (b : Bool) → pointwise nat_eq name name ≡ b → (if b then Some text else file_at files name) ≡ Some text
+    by true test = refl
+    by false test = let wrong : true ≡ false = sym ((bytes_decides name name).1 refl) ∙ test in absurd cc
 
 check_of : (files : Files) (words : List (List ℕ)) (request : Request) (problem log : List ℕ) (ending : Ending) → Ends files words ending → IsForm words request → request.task ≡ Check problem log → EndsCheck files request.root problem log ending
 check_of files words request problem log ending (inl none) form is = absurd (none.0 request form)
@@ -154,3 +165,9 @@ pub run_checks : (files after : Files) (words : List (List ℕ)) (request : Requ
     → (ending : Ending) → Ends after words ending → IsForm words request → request.task ≡ Check problem log → ending ≡ refuted (length run.entries)
 run_checks files after words request problem log text run within same there fits ending ends form is =
     logged_checks files after request.root problem log text run within same there fits ending (check_of after words request problem log ending ends form is)
+
+-- the log in the same store, under a name that the walk does not try
+pub run_checks_beside : (files : Files) (words : List (List ℕ)) (request : Request) (problem log text : List ℕ) (run : IsRefutation files request.root problem (Some []) (Some text)) → NestWithin MAX_NESTING run.entries → (Tries files request.root problem log → ⊥) → Fits run.read (length text)
+    → (ending : Ending) → Ends ((log, text) ∷ files) words ending → IsForm words request → request.task ≡ Check problem log → ending ≡ refuted (length run.entries)
+run_checks_beside files words request problem log text run within untried fits =
+    run_checks files ((log, text) ∷ files) words request problem log text run within (λ whole resolves. further_file files request.root problem log text (Ok whole) untried resolves) (first_file log text files) fits

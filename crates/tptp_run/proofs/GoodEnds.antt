@@ -1,41 +1,60 @@
 -- A run on a problem and a good derivation ends with status 0.
-use Rattle.std.proofs.Common.{◌≡◌, inl, inr, ℕ, ◌-◌, ◌≤◌, Bool, List, length, Option, None, Some, IfSome, refl, sym, ◌∙◌, ap, subst, arith}
-use Rattle.std.proofs.lemmas.List.{length-map}
+use Rattle.std.proofs.Common.{◌≡◌, inl, inr, ℕ, ◌-◌, List, Option, IfSome, ◌∙◌, ap, subst}
 use Rattle.tptp_base.specs.Store.{Files}
 use Rattle.fof_terms.specs.Vocabulary.{Vocabulary}
-use Rattle.sort_check.specs.declared.line.GivenEntry.{GivenEntry}
+use Rattle.include_resolve.specs.declared.problem.Problem.{Problem}
 use Rattle.sort_check.specs.declared.line.Line.{Line}
-use Rattle.sort_check.specs.Given.{given_entries}
+use Rattle.derivation_check.specs.Cases.{Asked}
+use Rattle.derivation_check.specs.GoodCases.{IsGoodCase}
 use Rattle.derivation_check.proofs.Ends.{good_verified}
+use Rattle.derivation_text.specs.declared.derivation.Derivation.{Derivation}
+use Rattle.derivation_text.proofs.OneDerivation.{one_derivation, derivation_wants}
 use Rattle.tptp_run.specs.code.Answer.{with_log, IsAnswerWithLog}
 use Rattle.tptp_run.specs.CheckedLog.{given_theory}
-use Rattle.tptp_run.specs.Ending.{Ending}
+use Rattle.tptp_run.specs.Denoted.{AfterDenoted}
+use Rattle.tptp_run.specs.Ending.{Ending, AfterFile}
 use Rattle.tptp_run.specs.Ends.{EndsTask, Ends}
 use Rattle.tptp_run.specs.GoodRuns.{AreGood, IsGoodText}
 use Rattle.tptp_run.specs.Outcome.{IsAnswer}
-use Rattle.tptp_run.specs.Sources.{given_names, conjecture_marks, has_conjecture, is_of_conjecture}
+use Rattle.tptp_run.specs.Sources.{given_names, conjecture_marks, has_conjecture}
 use Rattle.tptp_run.specs.Verifying.{EndsVerify, SaysDerivation, asked_by, status_of}
 use Rattle.tptp_run.specs.Words.{Task, Verify, Request, IsForm}
+use Rattle.tptp_run.specs.declared.run.TheConstants.{TOTAL_SIZE}
 use Rattle.tptp_run.specs.declared.stop.Answer.{Answer}
+use Rattle.tptp_run.proofs.MarksFit.{marks_fit}
+use Rattle.tptp_run.proofs.OneProblem.{no_include_fault, no_sort_fault, one_meaning, one_problem}
+use Rattle.tptp_run.proofs.OneVerify.{want_unsaid}
 use Rattle.tptp_run.proofs.Requests.{one_root, one_task}
 use Rattle.tptp_run.proofs.Stages.{if_map}
 
--- there are as many marks as given formulas
-marks_fit : (lines : List Line) (v : Vocabulary) → length (conjecture_marks lines) ≤ length (given_theory lines v).formulas
-marks_fit lines v =
-    omega (arith, length-map (given_entries lines) (λ (entry : GivenEntry). is_of_conjecture entry.role), length-map (given_entries lines) (λ (entry : GivenEntry). entry.form))
+module _ (problem file : List ℕ) (lines : List Line) (v : Vocabulary) (text : List ℕ) (ending : Ending) (good : IsGoodText problem lines v text) where
+  text_good : SaysDerivation problem file (given_theory lines v) (given_names lines) (conjecture_marks lines) (has_conjecture lines) text ending → ending.status ≡ 0
+  text_good (inl (fault, first, says)) = want_unsaid file fault ending (derivation_wants text (given_names lines) v good.d good.w fault good.is first) says
+  text_good (inr (d, w, is, ends)) =
+      let asked : Asked = asked_by problem text (conjecture_marks lines) (has_conjecture lines) in
+      let same = one_derivation text (given_names lines) v good.d d good.w w good.is is in
+      let case : IsGoodCase asked (given_theory lines v) d w =
+      subst (λ (o : Derivation). IsGoodCase asked (given_theory lines v) o w) same.0 (subst (λ (o : Vocabulary). IsGoodCase asked (given_theory lines v) good.d o) same.1 good.good) in
+      let graph = is.2.graph.is_graph in
+      ends.status ∙ ap status_of (good_verified asked (given_theory lines v) d w ends.verified ending.out ending.log (marks_fit lines v) graph.order.in_turn graph.all case ends.checks)
 
-text_good : (problem file : List ℕ) (lines : List Line) (v : Vocabulary) (text : List ℕ) (ending : Ending) → IsGoodText problem file lines v text → SaysDerivation problem file (given_theory lines v) (given_names lines) (conjecture_marks lines) (has_conjecture lines) text ending → ending.status ≡ 0
-text_good problem file lines v text ending good (inl refused) = absurd (good.no_fault ending refused)
-text_good problem file lines v text ending good (inr (d, w, (items, spells, are), ends)) =
-    ends.status
-    ∙ ap status_of (good_verified (asked_by problem text (conjecture_marks lines) (has_conjecture lines)) (given_theory lines v) d w ends.verified ending.out ending.log (marks_fit lines v) are.graph.is_graph.order.in_turn are.graph.is_graph.all (good.good d w (items, spells, are)) ends.checks)
+module _ (files : Files) (root : Option (List ℕ)) (problem file : List ℕ) (ending : Ending) (good : AreGood files root problem file) where
+  abbrev Rest : Problem → List Line → Vocabulary → Type 0
+  Rest whole lines v = AfterFile files file (TOTAL_SIZE - whole.read) (SaysDerivation problem file (given_theory lines v) (given_names lines) (conjecture_marks lines) (has_conjecture lines)) ending
 
-pub verify_good : (files : Files) (root : Option (List ℕ)) (problem file : List ℕ) (ending : Ending) → AreGood files root problem file → EndsVerify files root problem file ending → ending.status ≡ 0
-verify_good files root problem file ending good (inl refused) = absurd (good.no_fault ending (inl refused))
-verify_good files root problem file ending good (inr (whole, resolves, inl refused)) = absurd (good.no_fault ending (inr (whole, resolves, refused)))
-verify_good files root problem file ending good (inr (whole, resolves, inr (lines, v, denotes, after))) =
-    text_good problem file lines v good.text ending (good.good whole lines v resolves denotes) (after.read good.text good.there (good.fits whole resolves))
+  denoted_good : AfterDenoted good.whole (λ lines v. AfterFile files file (TOTAL_SIZE - good.whole.read) (SaysDerivation problem file (given_theory lines v) (given_names lines) (conjecture_marks lines) (has_conjecture lines))) ending → ending.status ≡ 0
+  denoted_good (inl (fault, denotes, says)) = absurd (no_sort_fault good.whole.items fault good.lines good.v denotes good.denotes)
+  denoted_good (inr (lines, v, denotes, after)) =
+      let same = one_meaning good.whole.items lines good.lines v good.v denotes good.denotes in
+      let rest : Rest good.whole good.lines good.v = subst (λ (ls : List Line). Rest good.whole ls good.v) same.0 (subst (λ (x : Vocabulary). Rest good.whole lines x) same.1 after) in
+      text_good problem file good.lines good.v good.text ending good.good (rest.read good.text good.there good.fits)
+
+  pub verify_good : EndsVerify files root problem file ending → ending.status ≡ 0
+  verify_good (inl (fault, resolves, says)) = absurd (no_include_fault files root problem fault good.whole resolves good.resolves)
+  verify_good (inr (whole, resolves, after)) =
+      denoted_good
+      (subst (λ (p : Problem). AfterDenoted p (λ lines v. AfterFile files file (TOTAL_SIZE - p.read) (SaysDerivation problem file (given_theory lines v) (given_names lines) (conjecture_marks lines) (has_conjecture lines))) ending)
+      (one_problem files root problem whole good.whole resolves good.resolves) after)
 
 ends_good : (files : Files) (words : List (List ℕ)) (request : Request) (problem derivation : List ℕ) (named : Option (List ℕ)) (ending : Ending) → Ends files words ending → IsForm words request → request.task ≡ Verify problem derivation named → AreGood files request.root problem derivation → ending.status ≡ 0
 ends_good files words request problem derivation named ending (inl none) form is good = absurd (none.0 request form)

@@ -9,12 +9,15 @@ pub mod Formats
 pub mod FormulaCounts
 pub mod GoodEnds
 pub mod Headline
+pub mod MarksFit
 pub mod OneEnding
 pub mod OneFormat
 pub mod OneProblem
+pub mod OneVerify
 pub mod Parses
 pub mod Requests
 pub mod Sourced
 pub mod Stages
 pub mod Texts
+pub mod VerifiedGood
 pub mod Verifies

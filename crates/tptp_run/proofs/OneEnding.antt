@@ -46,7 +46,7 @@ module _ (a b : Ending) where
   one_text_said name (Lex fault) h k = one_lex_said name fault h k
   one_text_said name (Grammar fault) h k = one_grammar_said name fault h k
 
-  one_include_said : (fault : IncludeFault) → SaysIncludeFault fault a → SaysIncludeFault fault b → a ≡ b
+  pub one_include_said : (fault : IncludeFault) → SaysIncludeFault fault a → SaysIncludeFault fault b → a ≡ b
   one_include_said (included.Missing written) h k = both_are _ h k
   one_include_said (included.Cycle name) h k = both_are _ h k
   one_include_said (included.DeepInclude name) h k = both_are _ h k
@@ -56,7 +56,7 @@ module _ (a b : Ending) where
   one_include_said included.Store h k = absurd h
   one_include_said included.Memory h k = absurd h
 
-  one_sort_said : (files : List (List ℕ)) (fault : SortFault) → SaysSortFault files fault a → SaysSortFault files fault b → a ≡ b
+  pub one_sort_said : (files : List (List ℕ)) (fault : SortFault) → SaysSortFault files fault a → SaysSortFault files fault b → a ≡ b
   one_sort_said files (sorted.Line rule place name) h k = both_are _ h k
   one_sort_said files sorted.Memory h k = absurd h
 

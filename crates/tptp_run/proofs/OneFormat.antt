@@ -120,7 +120,7 @@ one_said name text a b (inr (items, s, is)) (inr (others, r, also)) = is ∙ ap 
 -- ---- files
 
 -- a file is over a limit or over none
-over_or_not : (budget count : ℕ) → ((limit : LimitName) × IsOver limit budget count) ⊎ ((limit : LimitName) → IsOver limit budget count → ⊥)
+pub over_or_not : (budget count : ℕ) → ((limit : LimitName) × IsOver limit budget count) ⊎ ((limit : LimitName) → IsOver limit budget count → ⊥)
 over_or_not budget count = elim (cases_lt FILE_SIZE count) [
   | inl over ↦ inl (FileSize, over)
   | inr fits ↦ elim (cases_lt budget count) [

@@ -2,7 +2,7 @@
 use Rattle.std.proofs.Common.{◌≡◌, ℕ, ◌<◌, ◌≤◌, ◌^◌, List, [], ◌∷◌, ◌++◌, length, drop, get_or, Option, None, Some, Result, Ok, Err, IfSome, refl, sym, ◌∙◌, ap, subst, codes, arith}
 use Rattle.std.specs.Prelude.{decimal}
 use Rattle.std.specs.Str.Parse.{ParsesUnsigned}
-use Rattle.std.proofs.lemmas.Fmt.{parse-decimal}
+use Rattle.std.proofs.lemmas.Fmt.{parse-decimal, decimal_injective}
 use Rattle.tptp_run.specs.code.Options.{BeginOtherwise, NameRoot, NameNoRoot, NameLimit, NameNoLimit, NameNoTask}
 use Rattle.tptp_run.specs.Words.{Task, Verify, Format, Parse, Check, Request, IsName, IsLimit, HasNames, IsForm, HaveNoForm, root_words, limit_words, limit_of, task_words}
 
@@ -216,3 +216,27 @@ out_of_range m word r read parses fails n is number = fails (subst IsLimit (sym 
 
 pub other_text : {E : Type 0} (m : ℕ) (word : List ℕ) (r : Result ℕ E) → r ≡ Ok m → ParsesUnsigned 32 10 word r → (word ≡ decimal m → ⊥) → (n : ℕ) → word ≡ decimal n → IsLimit n → ⊥
 other_text m word r read parses differs n is number = differs (is ∙ ap decimal (sym (limit_same m n word r read parses is number)))
+
+-- ---- one request
+
+limits_are : (a b : Option ℕ) (first second : Task) → IfSome a IsLimit → IfSome b IsLimit → limit_words a ++ task_words first ≡ limit_words b ++ task_words second → a ≡ b
+limits_are None None first second number other e = refl
+limits_are None (Some n) first second number other e = absurd (task_no_limit first (decimal n ∷ task_words second) e)
+limits_are (Some m) None first second number other e = absurd (task_no_limit second (decimal m ∷ task_words first) (sym e))
+limits_are (Some m) (Some n) first second number other e = ap (λ (k : ℕ). Some k) (decimal_injective m n (omega (arith, number.1)) (omega (arith, other.1)) (ap (λ (ws : Words). get_or ws 1 []) e))
+
+-- the words name one limit at most
+one_limit : (words : Words) (first second : Request) → IsForm words first → IsForm words second → first.limit ≡ second.limit
+one_limit words first second form other =
+    let rests = behind_root first.root words (limit_words other.named_limit ++ task_words second.task) (limit_words form.named_limit ++ task_words first.task) second.root (as_named words first form) other.words_are (limit_no_root other.named_limit second.task) in
+    form.limit_is ∙ ap limit_of (limits_are form.named_limit other.named_limit first.task second.task form.limit other.limit rests.1) ∙ sym other.limit_is
+
+abbrev request : Option (List ℕ) → ℕ → Task → Request
+request root limit task = record { root = root; limit = limit; task = task }
+
+-- the words ask for one request at most
+pub one_request : (words : Words) (first second : Request) → IsForm words first → IsForm words second → first ≡ second
+one_request words first second form other =
+    ap (λ (r : Option (List ℕ)). request r first.limit first.task) (one_root words first second form other)
+    ∙ ap (λ (n : ℕ). request second.root n first.task) (one_limit words first second form other)
+    ∙ ap (λ (t : Task). request second.root second.limit t) (one_task words first second form other)

@@ -1,5 +1,5 @@
 -- When the log in a file refutes what a problem gives, by the bytes of the file alone.
-use Rattle.std.specs.Prelude.{◌≡◌, ℕ, ◌-◌, List, length, Some}
+use Rattle.std.specs.Prelude.{◌≡◌, ℕ, ◌-◌, List, length, Some, Ok}
 use Rattle.std.specs.declared.option.Option.{Option}
 use Rattle.tptp_base.specs.Read.{IsOver}
 use Rattle.tptp_base.specs.Store.{Files, file_at}
@@ -7,7 +7,7 @@ use Rattle.tptp_base.specs.declared.limit.LimitName.{LimitName}
 use Rattle.kernel.specs.Statements.{Statements}
 use Rattle.kernel.specs.Entries.{Refutes}
 use Rattle.kernel.specs.declared.entry.Entry.{Entry}
-use Rattle.include_resolve.specs.Parts.{Answer}
+use Rattle.include_resolve.specs.declared.problem.Problem.{Problem}
 use Rattle.include_resolve.specs.Resolved.{Resolves}
 use Rattle.proof_log.specs.Answers.{IsLogOf}
 use Rattle.proof_log.specs.declared.reader.TheConstants.{MAX_NESTING}
@@ -41,6 +41,6 @@ pub record IsExact (files : Files) (root : Option (List ℕ)) (problem log : Lis
 abbrev pub IsRefused : Files → Option (List ℕ) → List ℕ → Ending → Type 0
 IsRefused files root problem ending = IsProblemRefusal (Some files) root problem ending × (ending.status ≡ 0 → ⊥)
 
--- the problem gives in the second store what it gives in the first
+-- the problem resolves in the second store as it does in the first
 abbrev pub GivesTheSame : Files → Files → Option (List ℕ) → List ℕ → Type 0
-GivesTheSame files after root problem = (answer : Answer) → Resolves (Some files) root problem answer → Resolves (Some after) root problem answer
+GivesTheSame files after root problem = (whole : Problem) → Resolves (Some files) root problem (Ok whole) → Resolves (Some after) root problem (Ok whole)

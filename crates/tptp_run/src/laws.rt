@@ -1,19 +1,22 @@
 //! Laws of what runs end with, shown by functions that do nothing. A run on words ends so by the clause `outcome` of
 //! `run_tptp`, and the log of a success is a refutation by its clause `sound`.
+ghost use Rattle.include_resolve.specs.Tried.{Tries};
 ghost use Rattle.kernel.specs.Statements.{Statements};
 ghost use Rattle.proof_log.specs.Answers.{NestWithin};
 ghost use Rattle.proof_log.specs.declared.reader.TheConstants.{MAX_NESTING};
 ghost use Rattle.derivation_check.specs.Cases.{claimed};
-ghost use Rattle.std.specs.Prelude.{◌≡◌, ◌⊎◌, ℕ, List, [], Some, length, codes, Option};
+ghost use Rattle.std.specs.Prelude.{◌≡◌, ◌⊎◌, ℕ, List, [], ◌∷◌, Some, length, codes, Option};
 ghost use Rattle.tptp_base.specs.Store.{Files as StoreFiles, file_at};
 ghost use Rattle.tptp_run.specs.CheckedLog.{refuted, IsGiven};
 ghost use Rattle.tptp_run.specs.Contradictory.{RefutesAxioms};
 ghost use Rattle.tptp_run.specs.Ending.{Ending};
 ghost use Rattle.tptp_run.specs.Ends.{Ends};
 ghost use Rattle.tptp_run.specs.Formatted.{EndsFormat};
+ghost use Rattle.tptp_run.specs.GoodRuns.{AreGood};
 ghost use Rattle.tptp_run.specs.Outcome.{IsRefutation};
 ghost use Rattle.tptp_run.specs.Parsed.{EndsParse};
 ghost use Rattle.tptp_run.specs.Refuted.{Fits, GivesTheSame, IsExact, IsRefused};
+ghost use Rattle.tptp_run.specs.Verifying.{EndsVerify};
 ghost use Rattle.tptp_run.specs.Words.{Check, Verify, Request, IsForm};
 
 /// A check ends with status 0 exactly where the file has the text of a log, within the limits, whose entries refute
@@ -24,13 +27,19 @@ pub fn a_check_is_exact()
         → IsRefused files request.root problem ending ⊎ IsExact files request.root problem log ending }
 {}
 
-/// The log of a success, put into a store in which the problem gives the same, is found to refute the problem, if it is
-/// within the limits: that of nesting, and that of the bytes that are read.
+/// The log of a success, put into a store in which the same problem resolves alike, is found to refute the problem, if it is
+/// within the limits: that of nesting, and that of the bytes that are read. So is the log in the same store, under a name that
+/// the walk through the problem's files does not try.
 pub fn a_verified_log_checks()
-    ensures { (files after : StoreFiles) (words : List (List ℕ)) (request : Request) (problem log text : List ℕ)
+    ensures alike { (files after : StoreFiles) (words : List (List ℕ)) (request : Request) (problem log text : List ℕ)
         → (run : IsRefutation files request.root problem (Some List.[]) (Some text)) → NestWithin MAX_NESTING run.entries
         → GivesTheSame files after request.root problem → file_at after log ≡ Some text → Fits run.read (length text)
         → (ending : Ending) → Ends after words ending → IsForm words request → request.task ≡ Check problem log
+        → ending ≡ refuted (length run.entries) }
+    ensures beside { (files : StoreFiles) (words : List (List ℕ)) (request : Request) (problem log text : List ℕ)
+        → (run : IsRefutation files request.root problem (Some List.[]) (Some text)) → NestWithin MAX_NESTING run.entries
+        → (Tries files request.root problem log → ⊥) → Fits run.read (length text)
+        → (ending : Ending) → Ends ((log, text) ∷ files) words ending → IsForm words request → request.task ≡ Check problem log
         → ending ≡ refuted (length run.entries) }
 {}
 
@@ -59,4 +68,22 @@ pub fn parse_has_one_ending()
 pub fn format_has_one_ending()
     ensures { (files : StoreFiles) (file : List ℕ) (ending other : Ending) →
         EndsFormat files file ending → EndsFormat files file other → ending ≡ other }
+{}
+
+/// The command `verify` ends in one way: with one status and one text on out. The entries of its log may differ.
+pub fn verify_has_one_ending()
+    ensures { (files : StoreFiles) (root : Option (List ℕ)) (problem derivation : List ℕ) (ending other : Ending) →
+        EndsVerify files root problem derivation ending → EndsVerify files root problem derivation other → (ending.status ≡ other.status) × (ending.out ≡ other.out) }
+{}
+
+/// What is verified is good. So of all problems and derivations, status 0 comes exactly to the good ones.
+pub fn a_verified_run_is_good()
+    ensures { (files : StoreFiles) (words : List (List ℕ)) (request : Request) (problem derivation : List ℕ) (named : Option (List ℕ)) (ending : Ending)
+        → Ends files words ending → IsForm words request → request.task ≡ Verify problem derivation named → ending.status ≡ 0
+        → AreGood files request.root problem derivation }
+{}
+
+/// Words ask for one request at most.
+pub fn words_ask_for_one_request()
+    ensures { (words : List (List ℕ)) (request other : Request) → IsForm words request → IsForm words other → request ≡ other }
 {}

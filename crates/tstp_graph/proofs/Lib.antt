@@ -1,4 +1,5 @@
 pub mod Lined
+pub mod OneGraph
 pub mod Orders
 pub mod Places
 pub mod Queues

@@ -3,6 +3,7 @@
 
 mod cite;
 mod fault;
+mod law;
 mod lines;
 mod meaning;
 mod member;
@@ -18,5 +19,6 @@ mod whole;
 mod word;
 
 pub use fault::GraphFault;
+pub use law::one_graph_or_fault;
 pub use shape::{Graph, Node, Ref};
 pub use whole::graph;

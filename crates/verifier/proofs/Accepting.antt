@@ -43,7 +43,7 @@ parents_forms d numbers (r ∷ rs) qs is =
     rw (parent_form d numbers r parts.0 parts.2, parents_forms d numbers rs parts.1 parts.3) (ap (λ (ps : List Parent). Some (forms_in ps)) (sym parts.4))
 
 -- what an accepted line cites by its text, and that it follows so
-kind_follows : (is_leaf : Bool) (t u : Statements) (given : List Form) (cited : Bool) (refs : List Ref) (parents : List Parent) (form : Form) (rule : Rule) (cites : List ℕ) (entries : List Entry) → SameSymbols t u → AnswersKind is_leaf t given cited parents form (step.Accepted rule cites entries)
+pub kind_follows : (is_leaf : Bool) (t u : Statements) (given : List Form) (cited : Bool) (refs : List Ref) (parents : List Parent) (form : Form) (rule : Rule) (cites : List ℕ) (entries : List Entry) → SameSymbols t u → AnswersKind is_leaf t given cited parents form (step.Accepted rule cites entries)
     → (own : List Ref) × FollowsAs is_leaf u given cited refs (forms_in parents) form own
 kind_follows false t u given cited refs parents form rule cites entries same (by, cites_are, derived) =
     (refs, (rule, first_alike_rule rules t u form rule parents (without_numbers (forms_in parents)) same (sym (forms_without_numbers (forms_in parents))) by, refl))

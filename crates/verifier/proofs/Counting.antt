@@ -11,10 +11,10 @@ IsAccepted (Accepted rule cites) = Unit {0}
 IsAccepted (Unverified reason) = ⊥
 IsAccepted Skipped = ⊥
 
-unverified-cons : (a : LineAnswer) (as_ : List LineAnswer) → unverified_of (a ∷ as_) ≡ cond (is_unverified a) 1 0 + unverified_of as_
+pub unverified-cons : (a : LineAnswer) (as_ : List LineAnswer) → unverified_of (a ∷ as_) ≡ cond (is_unverified a) 1 0 + unverified_of as_
 unverified-cons a as_ = sum_by-cons (λ x. cond (is_unverified x) 1 0) a as_
 
-skipped-cons : (a : LineAnswer) (as_ : List LineAnswer) → skipped_of (a ∷ as_) ≡ cond (is_skipped a) 1 0 + skipped_of as_
+pub skipped-cons : (a : LineAnswer) (as_ : List LineAnswer) → skipped_of (a ∷ as_) ≡ cond (is_skipped a) 1 0 + skipped_of as_
 skipped-cons a as_ = sum_by-cons (λ x. cond (is_skipped x) 1 0) a as_
 
 first_accepted : (a : LineAnswer) (as_ : List LineAnswer) → AreAccepted (a ∷ as_) → IsAccepted a

@@ -56,7 +56,7 @@ candidates_alike given true ps qs same = same
 candidates_alike given false ps qs same = refl
 
 -- a line that follows by the texts is not unverified in a theory with the same symbols
-never_unverified : (is_leaf : Bool) (t u : Statements) (given : List Form) (cited : Bool) (refs cites : List Ref) (parents : List Parent) (forms : List Form) (form : Form) (reason : Reason) → SameSymbols u t → HaveForms parents forms → FollowsAs is_leaf u given cited refs forms form cites → AnswersKind is_leaf t given cited parents form (step.Unverified reason) → ⊥
+pub never_unverified : (is_leaf : Bool) (t u : Statements) (given : List Form) (cited : Bool) (refs cites : List Ref) (parents : List Parent) (forms : List Form) (form : Form) (reason : Reason) → SameSymbols u t → HaveForms parents forms → FollowsAs is_leaf u given cited refs forms form cites → AnswersKind is_leaf t given cited parents form (step.Unverified reason) → ⊥
 never_unverified is_leaf t u given cited refs cites parents forms form reason same have = by is_leaf reason
   where
     alike : Alike (without_numbers forms) parents

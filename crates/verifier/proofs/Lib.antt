@@ -8,10 +8,13 @@ pub mod Derived
 pub mod Goodness
 pub mod Knowing
 pub mod Latest
+pub mod Leading
 pub mod LineAnswers
 pub mod Logs
 pub mod Marking
 pub mod Numbers
+pub mod OneReport
+pub mod OneVerdict
 pub mod Refuting
 pub mod Renumbering
 pub mod Running

@@ -18,6 +18,10 @@ entries_text entries = flat_map entry_text entries
 abbrev pub CanAdmit : Statements → List Entry → Type 0
 CanAdmit t entries = (u : Statements) × Admits t entries u
 
+-- legal entries, taken in turn, lead from the first theory to the second
+abbrev pub LeadTo : Statements → Statements → Type 0
+LeadTo t u = (entries : List Entry) × Admits t entries u
+
 -- a prefix of the lines of entries that are legal in turn after the theory
 pub record LogsSome (t : Statements) (old new : Option (List ℕ)) : Type 0 where
   pub entries : List Entry

@@ -8,7 +8,7 @@ ghost use Rattle.kernel.specs.declared.entry.Decl.TheVariants as decl;
 ghost use Rattle.proof_log.specs.Entries.{HaveNumbersInRange};
 ghost use Rattle.verifier.specs.Declarations;
 ghost use Rattle.verifier.specs.Faults.{HasCause};
-ghost use Rattle.verifier.specs.Logged.{CanAdmit, LogsSome, entries_text};
+ghost use Rattle.verifier.specs.Logged.{CanAdmit, LeadTo, LogsSome, entries_text};
 
 use crate::entries::add_entries;
 use crate::fault::RunFault;
@@ -21,7 +21,9 @@ use tptp_base::{List, Memory, Sink, Text};
 ///
 /// # Errors
 ///
-/// `Sink` where the log failed, and `Memory`. The log has then taken a prefix of the lines of legal entries.
+/// `Sink` where the log failed, and `Memory`. The log has then taken a prefix of the lines of legal entries, and the theory
+/// has taken some of the declarations (`leads`).
+#[tactic(auto, using(crate::proofs::Leading::led_none))]
 pub fn declare<K: Sink>(
     alloc: Global,
     signature: &Signature,
@@ -32,6 +34,7 @@ pub fn declare<K: Sink>(
     ensures admits { OnOk result (Admits theory.old (Declarations.declarations theory.old.vocabulary signature.now) theory.new) }
     ensures logged { OnOk result (Takes (K.taken log.old) (K.taken log.new) (entries_text (Declarations.declarations theory.old.vocabulary signature.now))) }
     ensures in_range { OnOk result (HaveNumbersInRange (Declarations.declarations theory.old.vocabulary signature.now)) }
+    ensures leads { LeadTo theory.old theory.new }
     ensures cut { OnErr result (LogsSome theory.old (K.taken log.old) (K.taken log.new)) }
     ensures cause { IfErr result (λ fault. HasCause fault (Rose (K.faults log.old) (K.faults log.new))) }
     ensures more_faults { K.faults log.old ≤ K.faults log.new }

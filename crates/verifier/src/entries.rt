@@ -5,7 +5,7 @@ ghost use Rattle.tptp_base.specs.Sink.{Takes, TakesPrefix};
 ghost use Rattle.kernel.specs.Entries.{Legal, After, Admits};
 ghost use Rattle.proof_log.specs.Entries.{AreNumbersInRange, HaveNumbersInRange, entry_text};
 ghost use Rattle.verifier.specs.Faults.{HasCause};
-ghost use Rattle.verifier.specs.Logged.{CanAdmit, LogsSome, entries_text};
+ghost use Rattle.verifier.specs.Logged.{CanAdmit, LeadTo, LogsSome, entries_text};
 
 use crate::fault::RunFault;
 use kernel::{AdmitFault, Entry, Theory};
@@ -24,6 +24,7 @@ pub fn add_entries<K: Sink>(
     ensures admits { OnOk result (Admits theory.old entries.now theory.new) }
     ensures logged { OnOk result (Takes (K.taken log.old) (K.taken log.new) (entries_text entries.now)) }
     ensures in_range { OnOk result (HaveNumbersInRange entries.now) }
+    ensures leads { LeadTo theory.old theory.new }
     ensures cut { OnErr result (LogsSome theory.old (K.taken log.old) (K.taken log.new)) }
     ensures cause { IfErr result (λ fault. HasCause fault (Rose (K.faults log.old) (K.faults log.new))) }
     ensures more_faults { K.faults log.old ≤ K.faults log.new }
@@ -35,6 +36,7 @@ pub fn add_entries<K: Sink>(
 }
 
 // Adds a legal entry to a theory, and logs it.
+#[tactic(auto, using(crate::proofs::Leading::led_none, crate::proofs::Leading::led_one))]
 fn add_entry<K: Sink>(
     alloc: Global,
     entry: &Entry,
@@ -45,6 +47,7 @@ fn add_entry<K: Sink>(
     ensures after { OnOk result (After theory.old entry.now theory.new) }
     ensures logged { OnOk result (Takes (K.taken log.old) (K.taken log.new) (entry_text entry.now)) }
     ensures in_range { OnOk result (AreNumbersInRange entry.now) }
+    ensures leads { LeadTo theory.old theory.new }
     ensures cut { OnErr result (TakesPrefix (K.taken log.old) (K.taken log.new) (entry_text entry.now)) }
     ensures cause { IfErr result (λ fault. HasCause fault (Rose (K.faults log.old) (K.faults log.new))) }
     ensures more_faults { K.faults log.old ≤ K.faults log.new }

@@ -1,5 +1,5 @@
 // Laws of runs.
-ghost use Rattle.std.specs.Prelude.{◌≡◌, ◌↔◌, ◌++◌, ◌<◌, ◌≤◌, ℕ, Bool, true, false, List, [], length, None};
+ghost use Rattle.std.specs.Prelude.{◌≡◌, ◌↔◌, ◌++◌, ◌<◌, ◌≤◌, ℕ, Bool, true, false, List, [], length, map, None};
 ghost use Rattle.std.specs.List.{All as Each};
 ghost use Rattle.fof_terms.specs.declared.form.Form.{Form as Formula};
 ghost use Rattle.clause_form.specs.declared.path.Parent.{Parent as Stated};
@@ -16,10 +16,11 @@ ghost use Rattle.verifier.specs.Claim.{cites_marked, is_marked, some_marked_ref}
 ghost use Rattle.verifier.specs.Closing.{Closes, IsVerified};
 ghost use Rattle.verifier.specs.Good.{IsGood};
 ghost use Rattle.verifier.specs.Lines.{Derivation, Line as Placed};
-ghost use Rattle.verifier.specs.Report.{HasFalse, AreAccepted};
+ghost use Rattle.verifier.specs.Report.{HasFalse, AreAccepted, IsVerdict, said_of};
 ghost use Rattle.verifier.specs.Run.{Answers, IsRun};
 ghost use Rattle.verifier.specs.Symbols.{IsUnusedIn};
 ghost use Rattle.verifier.specs.declared.answer.LineAnswer.{LineAnswer as Answered};
+ghost use Rattle.verifier.specs.declared.claim.Claim.{Claim as Claimed};
 
 /// Where entries lead from a theory to the one that a run begins from, all lines of the run are accepted, and one of
 /// them is falsehood, the entries, those of the run and the last one for its verdict refute the theory.
@@ -71,4 +72,21 @@ pub fn an_accepted_derivation_is_good()
         → start.formulas ≡ d.given → IsRun start d order answers entries end → AreAccepted answers → HasFalse d.forms
         → (cites : List Cited) × IsGood start.vocabulary d order cites
         × ((marks : List Bool) → length marks ≤ length d.given → cites_marked marks answers ≡ false → some_marked_ref marks cites ≡ false) }
+{}
+
+/// Two runs of a derivation from one theory answer each line alike: what is said of it is the same, and a formula that is
+/// marked is cited in the one exactly where it is cited in the other. Their entries may differ.
+pub fn a_run_has_one_report()
+    ensures said { (start : Statements) (d : Derivation) (order : List ℕ) (answers others : List Answered) (entries more : List LogEntry) (end last : Statements)
+        → start.formulas ≡ d.given → first_left (is_taken order) 0 d.nodes ≡ None
+        → IsRun start d order answers entries end → IsRun start d order others more last → map said_of answers ≡ map said_of others }
+    ensures marked { (start : Statements) (d : Derivation) (order : List ℕ) (answers others : List Answered) (entries more : List LogEntry) (end last : Statements) (marks : List Bool)
+        → start.formulas ≡ d.given → first_left (is_taken order) 0 d.nodes ≡ None
+        → IsRun start d order answers entries end → IsRun start d order others more last → length marks ≤ length d.given → cites_marked marks answers ≡ cites_marked marks others }
+{}
+
+/// One verdict applies to a claim, the name of the problem, the formulas of the lines and the answers.
+pub fn one_verdict_applies()
+    ensures { (claim : Claimed) (problem : List ℕ) (forms : List Formula) (answers : List Answered) (verdict other : Ending)
+        → IsVerdict claim problem forms answers verdict → IsVerdict claim problem forms answers other → verdict ≡ other }
 {}

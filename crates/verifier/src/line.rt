@@ -4,7 +4,7 @@ ghost use Rattle.tptp_base.specs.Count.{Rose};
 ghost use Rattle.clause_rules.specs.Steps.{AreReady, IsReady};
 ghost use Rattle.derive_kit.specs.Derived.{AreOfTheory};
 ghost use Rattle.verifier.specs.Faults.{HasCause};
-ghost use Rattle.verifier.specs.Logged.{LogsSome};
+ghost use Rattle.verifier.specs.Logged.{LeadTo, LogsSome};
 ghost use Rattle.verifier.specs.code.Numbered.{forms_in, AreNumbered, progress_of, derivation_in, Knows};
 ghost use Rattle.verifier.specs.code.Taking.{CanTake, TakesAnswer, AnswersLine};
 ghost use Rattle.verifier.specs.Run as spec;
@@ -23,6 +23,7 @@ use tptp_base::{List, Memory, Sink};
 use tstp_graph::Node;
 
 /// Runs the line at this place, given the numbers of the lines that are accepted so far. Its own joins them.
+#[tactic(auto, using(crate::proofs::Leading::led_none))]
 pub fn run_line<K: Sink>(
     alloc: Global,
     lines: &Lines<'_>,
@@ -37,6 +38,7 @@ pub fn run_line<K: Sink>(
     requires knows { Knows (derivation_in lines.now) (progress_of theory.old numbers.old) }
     ensures answered { IfOk result (λ answer. AnswersLine (derivation_in lines.now) (progress_of theory.old numbers.old) place answer (progress_of theory.new numbers.new) (K.taken log.old) (K.taken log.new)) }
     ensures knows { OnOk result (Knows (derivation_in lines.now) (progress_of theory.new numbers.new)) }
+    ensures leads { LeadTo theory.old theory.new }
     ensures cut { OnErr result (LogsSome theory.old (K.taken log.old) (K.taken log.new)) }
     ensures cause { IfErr result (λ fault. HasCause fault (Rose (K.faults log.old) (K.faults log.new))) }
     ensures more_faults { K.faults log.old ≤ K.faults log.new }
@@ -80,6 +82,7 @@ fn answer_line(
 }
 
 // Takes an answer to the line at this place: its entries are added to the theory and logged.
+#[tactic(auto, using(crate::proofs::Leading::led_none))]
 fn take_answer<K: Sink>(
     alloc: Global,
     answer: StepAnswer,
@@ -91,6 +94,7 @@ fn take_answer<K: Sink>(
     requires within { place < length numbers.old }
     requires adds { CanTake theory.old answer }
     ensures takes { IfOk result (λ taken. TakesAnswer answer (progress_of theory.old numbers.old) place taken (progress_of theory.new numbers.new) (K.taken log.old) (K.taken log.new)) }
+    ensures leads { LeadTo theory.old theory.new }
     ensures cut { OnErr result (LogsSome theory.old (K.taken log.old) (K.taken log.new)) }
     ensures cause { IfErr result (λ fault. HasCause fault (Rose (K.faults log.old) (K.faults log.new))) }
     ensures more_faults { K.faults log.old ≤ K.faults log.new }

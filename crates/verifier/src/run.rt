@@ -6,7 +6,7 @@ ghost use Rattle.tstp_graph.specs.Graphs.{IsOrdered};
 ghost use Rattle.tstp_graph.specs.Order.{TakesInTurn};
 ghost use Rattle.clause_rules.specs.Steps.{IsReady};
 ghost use Rattle.verifier.specs.Faults.{HasCause};
-ghost use Rattle.verifier.specs.Logged.{LogsSome, LogsRun};
+ghost use Rattle.verifier.specs.Logged.{LeadTo, LogsSome, LogsRun};
 ghost use Rattle.verifier.specs.code.Numbered.{derivation_in, IsOver};
 
 use crate::answer::LineAnswer;
@@ -36,7 +36,9 @@ pub struct Outcome {
 ///
 /// # Errors
 ///
-/// `Sink` where the log failed, and `Memory`. The log has then taken a prefix of the lines of legal entries.
+/// `Sink` where the log failed, and `Memory`. The log has then taken a prefix of the lines of legal entries, and such
+/// entries lead to the theory (`leads`).
+#[tactic(auto, using(crate::proofs::Leading::led_none))]
 pub fn run_lines<K: Sink>(
     alloc: Global,
     forms: &[Form],
@@ -49,6 +51,7 @@ pub fn run_lines<K: Sink>(
     requires given { All (IsReady theory.old.vocabulary) theory.old.formulas }
     requires lines { All (IsReady theory.old.vocabulary) forms.now }
     ensures ran { IfOk result (λ ran. LogsRun theory.old (record { given = theory.old.formulas; nodes = graph.now.nodes; forms = forms.now }) graph.now.order ran.answers ran.numbers theory.new (K.taken log.old) (K.taken log.new)) }
+    ensures leads { LeadTo theory.old theory.new }
     ensures cut { OnErr result (LogsSome theory.old (K.taken log.old) (K.taken log.new)) }
     ensures cause { IfErr result (λ fault. HasCause fault (Rose (K.faults log.old) (K.faults log.new))) }
     ensures more_faults { K.faults log.old ≤ K.faults log.new }
@@ -63,6 +66,7 @@ pub fn run_lines<K: Sink>(
 }
 
 // Runs the lines at these places.
+#[tactic(auto, using(crate::proofs::Leading::led_none, crate::proofs::Leading::led_more))]
 fn run_in_order<K: Sink>(
     alloc: Global,
     lines: &Lines<'_>,
@@ -73,6 +77,7 @@ fn run_in_order<K: Sink>(
     requires over { IsOver theory.old lines.now }
     requires turns { TakesInTurn lines.now.nodes.now [] order.now }
     ensures ran { IfOk result (λ ran. LogsRun theory.old (derivation_in lines.now) order.now ran.answers ran.numbers theory.new (K.taken log.old) (K.taken log.new)) }
+    ensures leads { LeadTo theory.old theory.new }
     ensures cut { OnErr result (LogsSome theory.old (K.taken log.old) (K.taken log.new)) }
     ensures cause { IfErr result (λ fault. HasCause fault (Rose (K.faults log.old) (K.faults log.new))) }
     ensures more_faults { K.faults log.old ≤ K.faults log.new }

@@ -4,9 +4,7 @@ use Rattle.tptp_base.specs.declared.item.Annotated.{Annotated}
 use Rattle.fof_terms.specs.declared.signature.Symbol.{Symbol}
 use Rattle.sort_check.specs.declared.fault.SortFault.{SortFault}
 use Rattle.sort_check.specs.declared.fault.Stop.{Stop}
-use Rattle.sort_check.specs.declared.line.Line.{Line}
 use Rattle.sort_check.specs.Texts.{differs}
-use Rattle.tptp_base.specs.declared.surface.SortName.TheVariants as name
 use Rattle.sort_check.specs.declared.fault.SortFault.TheVariants as fault
 use Rattle.sort_check.specs.declared.fault.Stop.TheVariants as stop
 

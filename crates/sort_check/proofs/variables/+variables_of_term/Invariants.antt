@@ -1,4 +1,4 @@
-use Rattle.sort_check.specs.Denotation.{variables_of_term}
+use Rattle.sort_check.specs.code.Variables.{variables_of_term}
 use Rattle.sort_check.proofs.Noting.{NotedSoFar}
 use Rattle.sort_check.proofs.variables.+variables_of_term.Given as goal
 

@@ -1,5 +1,9 @@
-use Rattle.split_defs.proofs.Derivation.{function_args, own_reached, sides_reach, function_ok, result_is, result_exists}
+use Rattle.split_defs.proofs.Derivation.{function_args, own_reached, sides_reach, function_ok, result_found, result_is, result_exists}
 use Rattle.split_defs.proofs.valuing.function_entries.Goals as goal
+
+pub unreachable-requires-in_default-result_of : goal.unreachable-requires-in_default-result_of
+unreachable-requires-in_default-result_of c =
+    result_found c.args.theory.now.vocabulary c.signature.result.now c.args.symbol c.result_of.result c.signature.ensures c.result_of.ensures.none c.requires.values.0.symbol c.requires.values.0.found c.in_default-result_of.not-Some
 
 pub value_over-requires : goal.value_over-requires
 value_over-requires c = function_args c.args.theory.now c.args.line.now c.args.body.now c.requires.line c.requires.body c.args.head.now c.args.value.now c.args.symbol c.args.first c.requires.values c.requires.equates c.in-Some.result (result_is c.args.theory.now.vocabulary c.signature.result.now c.args.symbol c.result_of.result c.in-Some.result c.signature.ensures c.result_of.ensures.is c.in-Some.is) (result_exists c.args.theory.now.vocabulary c.signature.result.now c.result_of.result c.in-Some.result c.signature.ensures c.result_of.ensures.exists c.in-Some.is) c.in-App.field-0 c.in-App.args c.as_slice-args.result.now c.in-App.is c.as_slice-args.ensures

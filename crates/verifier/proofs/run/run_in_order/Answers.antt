@@ -3,6 +3,7 @@ use Rattle.std.proofs.lemmas.List.{drop_all}
 use Rattle.std.proofs.lemmas.Result.{err_from_is_err_and}
 use Rattle.verifier.specs.code.Numbered.{derivation_in}
 use Rattle.verifier.proofs.Knowing.{over_numbered, over_knows}
+use Rattle.verifier.proofs.Leading.{led_itself, led_more}
 use Rattle.verifier.proofs.Running.{place_here, place_done, running_begins, running_turn, turn_within, running_more, running_cut, running_all}
 use Rattle.verifier.proofs.run.run_in_order.Goals as goal
 
@@ -10,6 +11,7 @@ pub loop-place-init : goal.loop-place-init
 loop-place-init g c = record {
   running = running_begins (derivation_in c.args.lines.now) c.args.theory.now c.args.order.now c.in_ok-numbers.numbers c.in_ok-answers.answers (length c.args.lines.now.nodes.now) _ c.in_ok-numbers.ensures refl c.in_ok-answers.ensures c.requires.turns;
   knows = over_knows c.args.theory.now c.args.lines.now c.in_ok-numbers.numbers (length c.args.lines.now.nodes.now) c.requires.over c.in_ok-numbers.ensures refl;
+  leads = led_itself c.args.theory.now;
   faults = omega arith;
 }
 
@@ -37,6 +39,7 @@ loop-place-preserved g c =
     record {
       running = running_more _ _ _ _ _ _ _ _ _ _ (drop (i + 1) c.args.order.now) (get_or c.args.order.now i 0) c.in_ok-answer.answer _ _ _ (place_here c.args.order.now i c.loop-place-test.true) (place_done c.args.order.now i c.loop-place-test.true) c.set.ensures c.loop-place.invariant.running c.in_ok-answer.ensures.answered;
       knows = c.in_ok-answer.ensures.knows;
+      leads = led_more _ _ _ c.loop-place.invariant.leads c.in_ok-answer.ensures.leads;
       faults = omega arith;
     }
 
