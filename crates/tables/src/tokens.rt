@@ -1,0 +1,99 @@
+// Tokens, as tables write them.
+use crate::line::push_word;
+use std::alloc::{AllocError, Global};
+use tptp_base::{Place, Text};
+use tptp_lexer::{LexFault, Mark, Token, Tokens};
+
+/// The kind and the text of each token, or the name of its mark; or the fault, and its line and column.
+pub fn listed(alloc: Global, outcome: Result<Tokens, LexFault>) -> Result<String, AllocError> {
+    match outcome {
+        Ok(tokens) => list(alloc, &tokens),
+        Err(LexFault::Byte(place)) => fault(alloc, "byte", place),
+        Err(LexFault::Unfinished(place)) => fault(alloc, "unfinished", place),
+        Err(fault) => format!(in alloc; "{fault}"),
+    }
+}
+
+/// The place of each token and of the end.
+pub fn placed(alloc: Global, tokens: &Tokens) -> Result<String, AllocError> {
+    let mut out = String::new(alloc);
+    for item in tokens.items.as_slice() {
+        push_place(&mut out, item.1)?;
+        out.push(' ')?;
+    }
+    push_place(&mut out, tokens.end)?;
+    Ok(out)
+}
+
+/// Appends the number of a place's file, its offset, its line and its column.
+pub fn push_place(out: &mut String, place: Place) -> Result<(), AllocError> {
+    let Place {
+        file,
+        offset,
+        line,
+        column,
+    } = place;
+    write!(out, "{file}:{offset}:{line}:{column}")
+}
+
+fn fault(alloc: Global, name: &str, place: Place) -> Result<String, AllocError> {
+    format!(in alloc; "{name} {}:{}", place.line, place.column)
+}
+
+fn list(alloc: Global, tokens: &Tokens) -> Result<String, AllocError> {
+    let mut out = String::new(alloc);
+    for item in tokens.items.as_slice() {
+        push_token(&mut out, &item.0)?;
+    }
+    Ok(out)
+}
+
+fn push_token(out: &mut String, token: &Token) -> Result<(), AllocError> {
+    match token {
+        Token::Lower(text) => push_text(out, "lower", text),
+        Token::Quoted(text) => push_text(out, "quoted", text),
+        Token::Upper(text) => push_text(out, "upper", text),
+        Token::Dollar(text) => push_text(out, "dollar", text),
+        Token::System(text) => push_text(out, "system", text),
+        Token::Number(text) => push_text(out, "number", text),
+        Token::Distinct(text) => push_text(out, "distinct", text),
+        Token::Comment(text) => push_text(out, "comment", text),
+        Token::Mark(mark) => push_word(out, name(*mark)),
+    }
+}
+
+fn push_text(out: &mut String, kind: &str, text: &Text) -> Result<(), AllocError> {
+    push_word(out, kind)?;
+    out.push('[')?;
+    for byte in text.as_slice() {
+        out.push(char::from(*byte))?;
+    }
+    out.push(']')
+}
+
+fn name(mark: Mark) -> &'static str {
+    match mark {
+        Mark::Open => "Open",
+        Mark::Close => "Close",
+        Mark::OpenList => "OpenList",
+        Mark::CloseList => "CloseList",
+        Mark::Comma => "Comma",
+        Mark::Dot => "Dot",
+        Mark::Colon => "Colon",
+        Mark::Bang => "Bang",
+        Mark::Question => "Question",
+        Mark::Tilde => "Tilde",
+        Mark::Ampersand => "Ampersand",
+        Mark::Equal => "Equal",
+        Mark::NotEqual => "NotEqual",
+        Mark::Star => "Star",
+        Mark::Greater => "Greater",
+        Mark::Imp => "Imp",
+        Mark::RevImp => "RevImp",
+        Mark::Iff => "Iff",
+        Mark::Xor => "Xor",
+        Mark::Nand => "Nand",
+        Mark::Bar => "Bar",
+        Mark::Nor => "Nor",
+    }
+}
