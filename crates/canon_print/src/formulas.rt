@@ -69,7 +69,8 @@ fn put_equation(
     right: &STerm,
     text: &mut Vec<u8>,
 ) -> Result<(), AllocError>
-    ensures { OnOk result (text.new.items ≡ text.old.items ++ (term_text left.now ++ (mark.now ++ term_text right.now))) }
+    ensures { OnOk result (text.new.items ≡ text.old.items
+        ++ (term_text left.now ++ (mark.now ++ term_text right.now))) }
 {
     put_term(left, text)?;
     text.extend_from_slice(mark)?;
@@ -155,7 +156,9 @@ fn put_bound(
     part: &Boxed<Surface>,
     text: &mut Vec<u8>,
 ) -> Result<(), AllocError>
-    ensures { OnOk result (text.new.items ≡ text.old.items ++ (spec.quantifier_text quantifier ++ (separated (codes ",") (map variable_text variables.now) ++ (codes "] : " ++ unit_text part.now)))) }
+    ensures { OnOk result (text.new.items ≡ text.old.items
+        ++ (spec.quantifier_text quantifier
+        ++ (separated (codes ",") (map variable_text variables.now) ++ (codes "] : " ++ unit_text part.now)))) }
 {
     put_quantifier(quantifier, text)?;
     put_variables(variables, text)?;

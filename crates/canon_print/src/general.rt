@@ -24,7 +24,8 @@ fn put_embedding(lang: Lang, text: &mut Vec<u8>) -> Result<(), AllocError>
 
 // Appends a formula in a general term.
 fn put_embedded(lang: Lang, formula: &Surface, text: &mut Vec<u8>) -> Result<(), AllocError>
-    ensures { OnOk result (text.new.items ≡ text.old.items ++ (tokens.embedded_text lang ++ (codes "(" ++ (spec.formula_text formula.now ++ codes ")")))) }
+    ensures { OnOk result (text.new.items ≡ text.old.items
+        ++ (tokens.embedded_text lang ++ (codes "(" ++ (spec.formula_text formula.now ++ codes ")")))) }
 {
     put_embedding(lang, text)?;
     text.push(b'(')?;
@@ -35,7 +36,8 @@ fn put_embedded(lang: Lang, formula: &Surface, text: &mut Vec<u8>) -> Result<(),
 
 // Appends a term in a general term.
 fn put_embedded_term(term: &STerm, text: &mut Vec<u8>) -> Result<(), AllocError>
-    ensures { OnOk result (text.new.items ≡ text.old.items ++ (codes "$fot(" ++ (spec.term_text term.now ++ codes ")"))) }
+    ensures { OnOk result (text.new.items ≡ text.old.items
+        ++ (codes "$fot(" ++ (spec.term_text term.now ++ codes ")"))) }
 {
     text.extend_from_slice(b"$fot(")?;
     put_term(term, text)?;
@@ -72,7 +74,8 @@ pub fn put_list(terms: &[GTerm], text: &mut Vec<u8>) -> Result<(), AllocError>
 // Appends a word with general terms in parentheses.
 #[cycle(put_general)]
 fn put_function(word: &[u8], terms: &[GTerm], text: &mut Vec<u8>) -> Result<(), AllocError>
-    ensures { OnOk result (text.new.items ≡ text.old.items ++ (word_text word.now ++ (codes "(" ++ (separated (codes ",") (map general_text terms.now) ++ codes ")")))) }
+    ensures { OnOk result (text.new.items ≡ text.old.items
+        ++ (word_text word.now ++ (codes "(" ++ (separated (codes ",") (map general_text terms.now) ++ codes ")")))) }
 {
     put_word(text, word)?;
     text.push(b'(')?;

@@ -70,7 +70,8 @@ fn put_sorts(
     result_sort: &SortName,
     text: &mut Vec<u8>,
 ) -> Result<(), AllocError>
-    ensures { OnOk result (text.new.items ≡ text.old.items ++ spec.shape_text (Shape.Symbol sorts.now result_sort.now)) }
+    ensures { OnOk result (text.new.items ≡ text.old.items
+        ++ spec.shape_text (Shape.Symbol sorts.now result_sort.now)) }
 {
     match sorts {
         [] => put_sort(result_sort, text),

@@ -39,8 +39,10 @@ fn plain_len(chars: &[u8]) -> usize
 fn write_some<K: Sink>(chars: &[u8], sink: &mut K) -> Result<usize, SinkFault>
     requires { 0 < length chars.now }
     ensures count { IfOk result (λ count. (0 < count) × (count ≤ length chars.now)) }
-    ensures ok { IfOk result (λ count. Takes (K.taken sink.old) (K.taken sink.new) (flat_map (spec.escaped single_quote) (take count chars.now))) }
-    ensures err { OnErr result (TakesPrefix (K.taken sink.old) (K.taken sink.new) (flat_map (spec.escaped single_quote) chars.now)) }
+    ensures ok { IfOk result (λ count.
+        Takes (K.taken sink.old) (K.taken sink.new) (flat_map (spec.escaped single_quote) (take count chars.now))) }
+    ensures err { OnErr result
+        (TakesPrefix (K.taken sink.old) (K.taken sink.new) (flat_map (spec.escaped single_quote) chars.now)) }
     ensures failed { IsErrOf result SinkFault.Failed → Rose (K.faults sink.old) (K.faults sink.new) }
     ensures more_faults { K.faults sink.old ≤ K.faults sink.new }
 {
@@ -56,8 +58,10 @@ fn write_some<K: Sink>(chars: &[u8], sink: &mut K) -> Result<usize, SinkFault>
 
 // Appends the characters of a quoted word.
 fn write_chars<K: Sink>(chars: &[u8], sink: &mut K) -> Result<(), SinkFault>
-    ensures ok { OnOk result (Takes (K.taken sink.old) (K.taken sink.new) (flat_map (spec.escaped single_quote) chars.now)) }
-    ensures err { OnErr result (TakesPrefix (K.taken sink.old) (K.taken sink.new) (flat_map (spec.escaped single_quote) chars.now)) }
+    ensures ok { OnOk result
+        (Takes (K.taken sink.old) (K.taken sink.new) (flat_map (spec.escaped single_quote) chars.now)) }
+    ensures err { OnErr result
+        (TakesPrefix (K.taken sink.old) (K.taken sink.new) (flat_map (spec.escaped single_quote) chars.now)) }
     ensures failed { IsErrOf result SinkFault.Failed → Rose (K.faults sink.old) (K.faults sink.new) }
     ensures more_faults { K.faults sink.old ≤ K.faults sink.new }
 {

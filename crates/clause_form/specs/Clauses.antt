@@ -1,5 +1,5 @@
--- The clauses of a normal form: each existential variable is replaced by a new symbol applied to the universal variables
--- around it, and each way of choosing members of conjunctions gives a clause.
+-- The clauses of a normal form: each existential variable is replaced by a new symbol applied to the universal
+-- variables around it, and each way of choosing members of conjunctions gives a clause.
 use Rattle.std.specs.Prelude.{ℕ, zero, suc, ◌+◌, List, [], ◌∷◌, ◌++◌, map, flat_map, Option, Some, None, true}
 use Rattle.std.specs.Option.{option_map}
 use Rattle.fof_terms.specs.Lift.{lifted_term}
@@ -54,8 +54,8 @@ skolem_step (form.Ex q a) next n s = a (next + 1) n (under_ex (App next (variabl
 unfoldable pub skolem_made : Form → Maker
 skolem_made = fold-Form Maker skolem_step
 
--- the closed formula with each existential quantifier, from the left, replaced by a new symbol, the first of that number,
--- applied to all universal variables around it, the outermost first
+-- the closed formula with each existential quantifier, from the left, replaced by a new symbol, the first of that
+-- number, applied to all universal variables around it, the outermost first
 abbrev pub skolemized : Form → ℕ → Form
 skolemized a next = (skolem_made a next 0 Var).0
 

@@ -1,5 +1,5 @@
--- Literals and clauses under images of their variables, and what it takes for a clause to cover another (subsumption
--- by some substitution, as in Bachmair and Ganzinger, weakened to literals that may coincide or be false by their form).
+-- Literals and clauses under images of their variables, and what it takes for a clause to cover another (subsumption by
+-- some substitution, as in Bachmair and Ganzinger, weakened to literals that may coincide or be false by their form).
 use Rattle.std.specs.Prelude.{ℕ, Bool, true, false, not, List, ◌++◌, ◌≡◌, ◌⊎◌, map, reverse, Some, slice_get}
 use Rattle.std.specs.List.{All as Each}
 use Rattle.fof_terms.specs.declared.term.Term.{Term}

@@ -1,6 +1,7 @@
--- Paths through a normal form, and the clause that a path reaches: one member of each conjunction is chosen, all members
--- of each disjunction are taken, universal quantifiers are gone through and existential ones never.
-use Rattle.std.specs.Prelude.{ℕ, ◌≡◌, Bool, true, false, if◌then◌else◌, List, [], ◌∷◌, ◌++◌, length, map, Option, Some, None, slice_get}
+-- Paths through a normal form, and the clause that a path reaches: one member of each conjunction is chosen, all
+-- members of each disjunction are taken, universal quantifiers are gone through and existential ones never.
+use Rattle.std.specs.Prelude.{ℕ, ◌≡◌, Bool, true, false, if◌then◌else◌, List, [], ◌∷◌, ◌++◌, length, map, Option, Some}
+use Rattle.std.specs.Prelude.{None, slice_get}
 use Rattle.std.specs.Option.{option_map}
 use Rattle.fof_terms.specs.Lift.{lifted_term}
 use Rattle.fof_terms.specs.declared.form.Form.{Form}

@@ -1,5 +1,6 @@
 ghost use Rattle.std.specs.Prelude.{◌≡◌, IfOk, map};
-ghost use Rattle.clause_form.specs.ClauseView.{closed, closed_by as closed_over, form_of_atom as atom_form, form_of_lit as lit_form, form_of_lits as lits_form};
+ghost use Rattle.clause_form.specs.ClauseView.{closed, closed_by as closed_over, form_of_atom as atom_form};
+ghost use Rattle.clause_form.specs.ClauseView.{form_of_lit as lit_form, form_of_lits as lits_form};
 
 use crate::clause::{AtomOf, Clause, Lit};
 use fof_terms::{Form, SortId, copy_terms};

@@ -1,7 +1,8 @@
 ghost use Rattle.std.specs.Prelude.{◌≡◌, ◌<◌, ◌^◌, ◌++◌, ◌∷◌, [], IfOk, OnOk, MatchOption, not};
 ghost use Rattle.std.specs.List.{list_any};
 ghost use Rattle.fof_terms.specs.Sorts.{binder_depth};
-ghost use Rattle.clause_form.specs.Norm.{node as node_of, members_of, ends, alone as alone_of, joined_flat, signed as signed_of, quantified as quantified_of};
+ghost use Rattle.clause_form.specs.Norm.{node as node_of, members_of, ends, alone as alone_of, joined_flat};
+ghost use Rattle.clause_form.specs.Norm.{signed as signed_of, quantified as quantified_of};
 
 use fof_terms::{Form, SortId, Term, has_variable, instantiate};
 use std::alloc::Global;
@@ -89,7 +90,8 @@ pub fn push_members(flat: &mut List<Form>, positive: bool, form: Form) -> Result
 /// The members of a node of that sign; None for another formula.
 #[tactic(auto, using(crate::proofs::MemberKinds::members_equations))]
 pub fn own_members(positive: bool, form: &Form) -> Option<&[Form]>
-    ensures { MatchOption result (members_of positive form.now ≡ form.now ∷ []) (λ inner. (form.now ≡ node_of positive inner.now) × (members_of positive form.now ≡ inner.now)) }
+    ensures { MatchOption result (members_of positive form.now ≡ form.now
+        ∷ []) (λ inner. (form.now ≡ node_of positive inner.now) × (members_of positive form.now ≡ inner.now)) }
 {
     match form {
         Form::And(inner) => {

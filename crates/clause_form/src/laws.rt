@@ -36,7 +36,8 @@ pub fn instance_of_trivial()
 
 /// What covers a clause covers each instance of it.
 pub fn cover_of_instance()
-    ensures { (v : Vocabulary) (m c e : Disjunction) → AreSorted v (scope_of c) c.lits → IsInstance v c e → Covers v m c → Covers v m e }
+    ensures { (v : Vocabulary) (m c e : Disjunction) → AreSorted v (scope_of c) c.lits → IsInstance v c e → Covers v m c
+        → Covers v m e }
 {}
 
 /// An instance is empty only where the clause is.

@@ -81,7 +81,8 @@ fn first_member(alloc: Global, kind: bool, form: Form) -> Result<List<Form>, Mem
 
 // The joined node of two formulas, the first of which gave these members.
 fn second_member(alloc: Global, kind: bool, flat: List<Form>, form: Form) -> Result<Form, Memory>
-    ensures { IfOk result (λ made. (first : Formula) → flat ≡ members_of kind first → made ≡ joined kind (first ∷ form ∷ [])) }
+    ensures { IfOk result (λ made. (first : Formula) → flat ≡ members_of kind first
+        → made ≡ joined kind (first ∷ form ∷ [])) }
 {
     let mut flat = flat;
     push_members(&mut flat, kind, form)?;

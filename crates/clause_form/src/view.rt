@@ -1,6 +1,7 @@
 ghost use Rattle.std.specs.Prelude.{◌≡◌, IfOk, map};
 ghost use Rattle.std.specs.Option.{option_map};
-ghost use Rattle.clause_form.specs.ClauseView.{view_of, clause_of, all_there, alone_lit, denied as denied_lit, stated as stated_lit, open_clause};
+ghost use Rattle.clause_form.specs.ClauseView.{view_of, clause_of, all_there, alone_lit, denied as denied_lit};
+ghost use Rattle.clause_form.specs.ClauseView.{stated as stated_lit, open_clause};
 ghost use Rattle.clause_form.specs.code.ClauseView.{under};
 
 use crate::clause::{AtomOf, Clause, Lit};

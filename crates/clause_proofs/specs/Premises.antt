@@ -24,7 +24,8 @@ pub record IsSource (w : Vocabulary) (v : List ℕ) (formulas : List Form) (numb
   pub images_sorted : IsImages w (scope_of o.clause) v (image_at images)
   pub lits_sorted : AreSorted w (scope_of o.clause) o.clause.lits
 
--- the premise has the images of the clause's literals, and its part shows them where the formula of that number has the clause
+-- the premise has the images of the clause's literals, and its part shows them where the formula of that number has the
+-- clause
 pub record IsPremiseOf (number : ℕ) (o : Opened) (images : List Term) (p : Premise) : Type 0 where
   pub is_or : p.is_or ≡ o.is_or
   pub lits : p.lits ≡ map (lit_image (image_at images)) o.clause.lits

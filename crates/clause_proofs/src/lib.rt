@@ -1,5 +1,5 @@
-//! Parts of proofs with clauses: a formula opened to its clause, instances of it, falsehood by an instance that the line
-//! covers or contradicts, and the way from there to the line.
+//! Parts of proofs with clauses: a formula opened to its clause, instances of it, falsehood by an instance that the
+//! line covers or contradicts, and the way from there to the line.
 #![tactic(auto)]
 
 mod closing;

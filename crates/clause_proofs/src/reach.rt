@@ -79,7 +79,8 @@ pub fn closed(
     more: &[SortId],
     part: Part,
 ) -> Result<Part, Memory>
-    ensures { IfOk result (λ made. made ≡ whole_tree line.now opened.now.clause.sorts more.now (Raa (body opened.now) part)) }
+    ensures { IfOk result (λ made. made
+        ≡ whole_tree line.now opened.now.clause.sorts more.now (Raa (body opened.now) part)) }
 {
     let shown = raa(alloc, body_form(alloc, opened)?, part)?;
     whole(alloc, line, opened.clause.sorts.as_slice(), more, shown)

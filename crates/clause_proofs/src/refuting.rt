@@ -10,7 +10,8 @@ ghost use Rattle.clause_form.specs.declared.clause.AtomOf.TheVariants.{True};
 ghost use Rattle.clause_rules.specs.Steps.{AreCovered};
 ghost use Rattle.clause_proofs.specs.Bodies.{body_of};
 ghost use Rattle.clause_proofs.specs.code.Refuting.{AllRefute, RefutesUnder};
-ghost use Rattle.clause_proofs.specs.Refuting.{AllSettled, IsDenial, IsGoal, IsSettled, RefutesBody, RefutesIn, ShowsBody, ShowsUnder, body};
+ghost use Rattle.clause_proofs.specs.Refuting.{AllSettled, IsDenial, IsGoal, IsSettled, RefutesBody, RefutesIn};
+ghost use Rattle.clause_proofs.specs.Refuting.{ShowsBody, ShowsUnder, body};
 
 use crate::covering::contrary;
 use crate::nodes::truth;
@@ -59,7 +60,8 @@ fn clash(
     requires goal { IsGoal signature.now (scope_sorts scope.now) line.now }
     requires sorted { Sorted signature.now (scope_sorts scope.now) (lit_form lit.now) }
     requires other { Sorted signature.now (scope_sorts scope.now) (lit_form other.now) }
-    ensures { IfOk result (RefutesUnder signature.now (scope_sorts scope.now) (body line.now) (lit_form other.now) (lit_form lit.now)) }
+    ensures { IfOk result
+        (RefutesUnder signature.now (scope_sorts scope.now) (body line.now) (lit_form other.now) (lit_form lit.now)) }
 {
     if lit.positive {
         let own = atom_by(alloc, signature, scope, &lit.atom, &other.atom, 0)?;
@@ -82,7 +84,8 @@ fn settled(
     requires goal { IsGoal signature.now (scope_sorts scope.now) line.now }
     requires sorted { Sorted signature.now (scope_sorts scope.now) (lit_form lit.now) }
     requires other { Sorted signature.now (scope_sorts scope.now) (lit_form other.now) }
-    ensures { IfOk result (RefutesUnder signature.now (scope_sorts scope.now) (body line.now) (lit_form other.now) (lit_form lit.now)) }
+    ensures { IfOk result
+        (RefutesUnder signature.now (scope_sorts scope.now) (body line.now) (lit_form other.now) (lit_form lit.now)) }
 {
     if are_complementary(lit, other) {
         clash(alloc, signature, scope, line, lit, other)
@@ -104,7 +107,8 @@ fn all_settled(
     requires goal { IsGoal signature.now (scope_sorts scope.now) line.now }
     requires sorted { AreSorted signature.now (scope_sorts scope.now) lits.now }
     requires other { Sorted signature.now (scope_sorts scope.now) (lit_form other.now) }
-    ensures { IfOk result (AllRefute signature.now (scope_sorts scope.now) (body line.now) (lit_form other.now) lits.now) }
+    ensures { IfOk result
+        (AllRefute signature.now (scope_sorts scope.now) (body line.now) (lit_form other.now) lits.now) }
 {
     let mut arms = List::new(alloc);
     for lit in lits {
@@ -128,8 +132,11 @@ pub fn refuted(
     requires goal { IsGoal signature.now (scope_sorts scope.now) line.now }
     requires sorted { AreSorted signature.now (scope_sorts scope.now) premise.lits }
     requires other { Sorted signature.now (scope_sorts scope.now) (lit_form other.now) }
-    ensures { IfOk result (λ part. (formulas h : ListOf Formula) → ShowsUnder signature.now (scope_sorts scope.now) formulas (lit_form other.now ∷ Denied (body line.now) ∷ h) (body_of premise.is_or premise.lits) premise.part
-        → ShowsUnder signature.now (scope_sorts scope.now) formulas (lit_form other.now ∷ Denied (body line.now) ∷ h) (Or []) part) }
+    ensures { IfOk result (λ part. (formulas h : ListOf Formula)
+        → ShowsUnder signature.now (scope_sorts scope.now) formulas (lit_form other.now ∷ Denied (body line.now)
+        ∷ h) (body_of premise.is_or premise.lits) premise.part
+        → ShowsUnder signature.now (scope_sorts scope.now) formulas (lit_form other.now ∷ Denied (body line.now)
+        ∷ h) (Or []) part) }
 {
     let Premise { is_or, lits, part } = premise;
     if is_or {
@@ -145,8 +152,8 @@ pub fn refuted(
     }
 }
 
-/// Falsehood under the negation of the line's body, by the premise and a part that shows falsehood under the pivot. Each
-/// literal of the premise is the pivot, up to the sides of an equation, or the line covers it.
+/// Falsehood under the negation of the line's body, by the premise and a part that shows falsehood under the pivot.
+/// Each literal of the premise is the pivot, up to the sides of an equation, or the line covers it.
 pub fn by_pivot(
     alloc: Global,
     signature: &Signature,
@@ -160,8 +167,10 @@ pub fn by_pivot(
     requires goal { IsGoal signature.now (scope_sorts scope.now) line.now }
     requires sorted { AreSorted signature.now (scope_sorts scope.now) premise.lits }
     requires pivot { Sorted signature.now (scope_sorts scope.now) (lit_form pivot.now) }
-    ensures { IfOk result (λ part. (formulas : ListOf Formula) → ShowsBody signature.now (scope_sorts scope.now) formulas premise.is_or premise.lits premise.part
-        → RefutesIn signature.now (scope_sorts scope.now) formulas (body line.now) (lit_form pivot.now) under → RefutesBody signature.now (scope_sorts scope.now) formulas (body line.now) part) }
+    ensures { IfOk result (λ part. (formulas : ListOf Formula)
+        → ShowsBody signature.now (scope_sorts scope.now) formulas premise.is_or premise.lits premise.part
+        → RefutesIn signature.now (scope_sorts scope.now) formulas (body line.now) (lit_form pivot.now) under
+        → RefutesBody signature.now (scope_sorts scope.now) formulas (body line.now) part) }
 {
     let fact = denial(alloc, pivot, under)?;
     let other = negated(alloc, pivot)?;
@@ -190,7 +199,8 @@ pub fn refute_covered(
     requires covered { AreCovered line.now.clause.lits premise.lits }
     requires goal { IsGoal signature.now (scope_sorts scope.now) line.now }
     requires sorted { AreSorted signature.now (scope_sorts scope.now) premise.lits }
-    ensures { IfOk result (λ part. (formulas : ListOf Formula) → ShowsBody signature.now (scope_sorts scope.now) formulas premise.is_or premise.lits premise.part
+    ensures { IfOk result (λ part. (formulas : ListOf Formula)
+        → ShowsBody signature.now (scope_sorts scope.now) formulas premise.is_or premise.lits premise.part
         → RefutesBody signature.now (scope_sorts scope.now) formulas (body line.now) part) }
 {
     let other = true_lit();

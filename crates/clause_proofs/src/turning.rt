@@ -19,7 +19,8 @@ use tptp_base::Memory;
 
 /// The sort of the term, which has one.
 pub fn known_sort(term: &Term, signature: &Signature, scope: &Scope<'_>) -> SortId
-    requires { IsScope signature.now (scope_sorts scope.now) × (s : ℕ) × (sort_of_term signature.now (scope_sorts scope.now) term.now ≡ Some s) }
+    requires { IsScope signature.now (scope_sorts scope.now) × (s : ℕ)
+        × (sort_of_term signature.now (scope_sorts scope.now) term.now ≡ Some s) }
     ensures sort { sort_of_term signature.now (scope_sorts scope.now) term.now ≡ Some result }
     ensures there { result < length signature.now.sorts }
 {
@@ -70,7 +71,8 @@ pub fn atom_by(
     requires same { IsSameAtom from.now to.now }
     requires sorted { Sorted signature.now (scope_sorts scope.now) (atom_form from.now) }
     requires room { length (scope_sorts scope.now) < 2147483647 }
-    ensures { IfOk result (ShowsFrom signature.now (scope_sorts scope.now) number (atom_form from.now) (atom_form to.now)) }
+    ensures { IfOk result
+        (ShowsFrom signature.now (scope_sorts scope.now) number (atom_form from.now) (atom_form to.now)) }
 {
     let own = hyp(alloc, number)?;
     match from {
@@ -99,7 +101,9 @@ fn denial_by(
     requires from { Sorted signature.now (scope_sorts scope.now) (atom_form from.now) }
     requires room { length (scope_sorts scope.now) < 2147483647 }
     requires small { number < 1000 }
-    ensures { IfOk result (ShowsFrom signature.now (scope_sorts scope.now) number (Denied (atom_form from.now)) (Denied (atom_form to.now))) }
+    ensures { IfOk result
+        (ShowsFrom signature.now (scope_sorts scope.now) number (Denied (atom_form from.now))
+        (Denied (atom_form to.now))) }
 {
     let own = atom_by(alloc, signature, scope, to, from, 0)?;
     let none = not_e(alloc, hyp(alloc, number + 1)?, own)?;
@@ -120,7 +124,8 @@ pub fn lit_by(
     requires to { Sorted signature.now (scope_sorts scope.now) (lit_form to.now) }
     requires room { length (scope_sorts scope.now) < 2147483647 }
     requires small { number < 1000 }
-    ensures { IfOk result (ShowsFrom signature.now (scope_sorts scope.now) number (lit_form from.now) (lit_form to.now)) }
+    ensures { IfOk result
+        (ShowsFrom signature.now (scope_sorts scope.now) number (lit_form from.now) (lit_form to.now)) }
 {
     if from.positive {
         return atom_by(alloc, signature, scope, &from.atom, &to.atom, number);

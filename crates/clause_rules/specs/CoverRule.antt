@@ -14,7 +14,7 @@ use Rattle.clause_form.specs.Paths.{reached}
 use Rattle.clause_form.specs.Sizes.{norm_size_of}
 
 -- the path reaches the clause in the normal form of the parent of that number
-pub record Reaches (parents : List Parent) (a : ℕ) (path : Path) (c : Clause) : Type 0 where
+pub record ReachesClause (parents : List Parent) (a : ℕ) (path : Path) (c : Clause) : Type 0 where
   pub parent : Parent
   pub there : slice_get parents a ≡ Some parent
   pub small : norm_size_of parent.form ≤ 100000
@@ -22,7 +22,7 @@ pub record Reaches (parents : List Parent) (a : ℕ) (path : Path) (c : Clause) 
 
 -- the step is a covering of what the path reaches, by this substitution
 pub record CoversReached (v : Vocabulary) (parents : List Parent) (line : Form) (a : ℕ) (path : Path) (c e : Clause) (more : List ℕ) (s : ℕ → Term) : Type 0 where
-  pub reaches : Reaches parents a path c
+  pub reaches : ReachesClause parents a path c
   pub line_clause : clause_of line ≡ Some e
   pub covers : CoversBy v (scope_of c) c.lits e more s
 

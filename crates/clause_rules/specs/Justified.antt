@@ -7,7 +7,8 @@ use Rattle.clause_form.specs.declared.path.Parent.{Parent}
 use Rattle.clause_form.specs.declared.clause.Clause.{Clause}
 use Rattle.clause_form.specs.Covers.{scope_of}
 use Rattle.clause_rules.specs.declared.just.Just.{Just}
-use Rattle.clause_rules.specs.declared.just.Just.TheVariants.{Norm, Cover, Tautology, Resolution, Paramodulation, EqFactor, Rewrite}
+use Rattle.clause_rules.specs.declared.just.Just.TheVariants.{Norm, Cover, Tautology, Resolution, Paramodulation}
+use Rattle.clause_rules.specs.declared.just.Just.TheVariants.{EqFactor, Rewrite}
 use Rattle.clause_rules.specs.Steps.{scope_of_both, IsJoint, images_of_parents}
 use Rattle.clause_rules.specs.NormRule.{HasLinesNorm}
 use Rattle.clause_rules.specs.CoverRule.{CoversReached}

@@ -1,5 +1,5 @@
--- The rule `paramodulation` (Bachmair and Ganzinger, Rewrite-based equational theorem proving: superposition without its
--- order), weakened to 'some substitution exists', with a line that may have more literals.
+-- The rule `paramodulation` (Bachmair and Ganzinger, Rewrite-based equational theorem proving: superposition without
+-- its order), weakened to 'some substitution exists', with a line that may have more literals.
 use Rattle.std.specs.Prelude.{ℕ, Bool, ◌≡◌, List, ◌++◌, remove, Some, slice_get, slice_set}
 use Rattle.fof_terms.specs.declared.term.Term.{Term}
 use Rattle.fof_terms.specs.declared.form.Form.{Form}

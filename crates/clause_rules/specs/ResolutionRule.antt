@@ -1,5 +1,5 @@
--- The rule `resolution` (Bachmair and Ganzinger, Resolution theorem proving, section 2: binary resolution and factoring),
--- weakened to 'some substitution exists', with a line that may have more literals.
+-- The rule `resolution` (Bachmair and Ganzinger, Resolution theorem proving, section 2: binary resolution and
+-- factoring), weakened to 'some substitution exists', with a line that may have more literals.
 use Rattle.std.specs.Prelude.{ℕ, ◌≡◌, List, [], ◌∷◌, ◌++◌, Some, slice_get}
 use Rattle.fof_terms.specs.declared.term.Term.{Term}
 use Rattle.fof_terms.specs.declared.form.Form.{Form}
@@ -25,7 +25,7 @@ pub record IsResolvent (line left right : List Lit) (i j : ℕ) : Type 0 where
   pub right_covered : AreCovered (line ++ opposite ∷ []) right
 
 -- the line is a resolvent of the instances of two clauses under this substitution, with what else the line has
-pub record Resolves (v : Vocabulary) (left right line : Clause) (i j : ℕ) (more : List ℕ) (s : ℕ → Term) : Type 0 where
+pub record ResolvesTo (v : Vocabulary) (left right line : Clause) (i j : ℕ) (more : List ℕ) (s : ℕ → Term) : Type 0 where
   pub images : IsImages v (scope_of_both left right) (scope_of line ++ more) s
   pub resolvent : IsResolvent line.lits (instances s left.lits) (instances s (apart_from left right.lits)) i j
 
@@ -34,7 +34,7 @@ pub record ResolvesAt (v : Vocabulary) (parents : List Parent) (line : Form) (a 
   pub line_clause : clause_of line ≡ Some e
   pub left_clause : IsClauseAt parents a left
   pub right_clause : IsClauseAt parents b right
-  pub resolves : Resolves v left right e i j more s
+  pub resolves : ResolvesTo v left right e i j more s
 
 abbrev pub IsResolutionStep : Vocabulary → List Parent → Form → Type 0
 IsResolutionStep v parents line = (a b i j : ℕ) × (left right e : Clause) × (more : List ℕ) × (s : ℕ → Term) × ResolvesAt v parents line a b i j left right e more s

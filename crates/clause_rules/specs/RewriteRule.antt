@@ -1,5 +1,5 @@
--- The rule `rewrite` (demodulation): a parent is one equation, an instance of one of its sides stands in another parent,
--- and each occurrence of that term gives way to the same instance of the other side.
+-- The rule `rewrite` (demodulation): a parent is one equation, an instance of one of its sides stands in another
+-- parent, and each occurrence of that term gives way to the same instance of the other side.
 use Rattle.std.specs.Prelude.{ℕ, Bool, ◌≡◌, ◌≢◌, List, [], ◌∷◌, ◌++◌, Some, slice_get}
 use Rattle.fof_terms.specs.declared.term.Term.{Term, Var, App}
 use Rattle.fof_terms.specs.declared.form.Form.{Form}
@@ -42,9 +42,9 @@ AreLitsRewritten u w (k ∷ old) new = (l : Lit) × (ls : List Lit) × (new ≡ 
 abbrev pub StandsIn : Term → List Lit → Type 0
 StandsIn u lits = (i : ℕ) × (place : List ℕ) × (k : Lit) × (slice_get lits i ≡ Some k) × (lit_term_at place k ≡ Some u)
 
--- By the first substitution, from the equation's variables to those of the clause and further ones, the left side of the
--- equation is the target, which stands in the clause. The clause with the right side in place of each occurrence
--- of the target has an instance, under the second substitution, all of whose literals are covered by the line.
+-- By the first substitution, from the equation's variables to those of the clause and further ones, the left side of
+-- the equation is the target, which stands in the clause. The clause with the right side in place of each occurrence of
+-- the target has an instance, under the second substitution, all of whose literals are covered by the line.
 pub record Rewrites (v : Vocabulary) (into by line : Clause) (target : Term) (flipped : Bool) (further : List ℕ) (r : ℕ → Term) (more : List ℕ) (s : ℕ → Term) : Type 0 where
   pub left : Term
   pub right : Term

@@ -9,5 +9,6 @@ ghost use Rattle.clause_rules.specs.Justified.{Shows};
 
 /// Where a justification shows a step, its rule gives the line from the parents.
 pub fn what_is_shown_holds()
-    ensures { (v : Vocabulary) (parents : List Source) (line : Formula) (just : Reason) → Shows v parents line just → Holds v parents line (rule_of just) }
+    ensures { (v : Vocabulary) (parents : List Source) (line : Formula) (just : Reason) → Shows v parents line just
+        → Holds v parents line (rule_of just) }
 {}

@@ -36,7 +36,8 @@ fn add_all(
     steps: &mut List<u32>,
     places: &mut List<Position>,
 ) -> Result<(), Memory>
-    ensures { OnOk result ((places.new ≡ places.old ++ numbered (map places_within terms.now) steps.old 0) × (steps.new ≡ steps.old)) }
+    ensures { OnOk result ((places.new ≡ places.old ++ numbered (map places_within terms.now) steps.old 0)
+        × (steps.new ≡ steps.old)) }
 {
     for at in 0..terms.len() {
         add_at(&terms[at], alloc, number(at)?, steps, places)?;
@@ -53,7 +54,8 @@ fn add_at(
     steps: &mut List<u32>,
     places: &mut List<Position>,
 ) -> Result<(), Memory>
-    ensures { OnOk result ((places.new ≡ places.old ++ places_within term.now (steps.old ++ at ∷ [])) × (steps.new ≡ steps.old)) }
+    ensures { OnOk result ((places.new ≡ places.old ++ places_within term.now (steps.old ++ at ∷ []))
+        × (steps.new ≡ steps.old)) }
 {
     steps.push(at)?;
     add_term(term, alloc, steps, places)?;

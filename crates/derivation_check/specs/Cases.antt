@@ -11,8 +11,8 @@ use Rattle.derivation_check.specs.declared.checking.Asked.{Asked as Held}
 use Rattle.verifier.specs.Claim as verifier
 use Rattle.verifier.specs.Lines as lines
 
--- The problem as it was named, the prover's whole output, for each given formula whether it is a conjecture or a negated
--- conjecture, and whether the problem has a conjecture.
+-- The problem as it was named, the prover's whole output, for each given formula whether it is a conjecture or a
+-- negated conjecture, and whether the problem has a conjecture.
 pub record Asked : Type 0 where
   pub problem : List ℕ
   pub output : List ℕ

@@ -67,7 +67,9 @@ pub fn check_derivation<K: Sink>(
     requires ordered { IsOrdered derivation.now.graph.nodes derivation.now.graph }
     requires given { All (IsSentence theory.old.vocabulary) theory.old.formulas }
     requires lines { All (IsSentence signature.now) derivation.now.forms }
-    ensures checks { IfOk result (λ report. ChecksWithLog (asked_of asked.now) theory.old derivation.now signature.now report (K.taken log.old) (K.taken log.new)) }
+    ensures checks { IfOk result (λ report.
+        ChecksWithLog (asked_of asked.now) theory.old derivation.now signature.now report (K.taken log.old)
+        (K.taken log.new)) }
     ensures log { TakesSomeOfLog theory.old (K.taken log.old) (K.taken log.new) }
     ensures leads { LeadTo theory.old theory.new }
     ensures cause { IfErr result (λ fault. HasCause fault (Rose (K.faults log.old) (K.faults log.new))) }
@@ -86,9 +88,13 @@ fn close<K: Sink>(
     log: &mut K,
 ) -> Result<Report, RunFault>
     requires count { length derivation.now.names ≡ length outcome.now.answers }
-    requires found { AreAccepted outcome.now.answers → HasFalse derivation.now.forms → HasFalseLine derivation.now.forms outcome.now.numbers }
-    ensures closed { IfOk result (λ report. Closed (asked_of asked.now) derivation.now outcome.now.answers outcome.now.numbers report (K.taken log.old) (K.taken log.new)) }
-    ensures cut { (t : Statements) → LinesStand t derivation.now.forms outcome.now.numbers → OnErr result (LogsSome t (K.taken log.old) (K.taken log.new)) }
+    requires found { AreAccepted outcome.now.answers → HasFalse derivation.now.forms
+        → HasFalseLine derivation.now.forms outcome.now.numbers }
+    ensures closed { IfOk result (λ report.
+        Closed (asked_of asked.now) derivation.now outcome.now.answers outcome.now.numbers report (K.taken log.old)
+        (K.taken log.new)) }
+    ensures cut { (t : Statements) → LinesStand t derivation.now.forms outcome.now.numbers
+        → OnErr result (LogsSome t (K.taken log.old) (K.taken log.new)) }
     ensures cause { IfErr result (λ fault. HasCause fault (Rose (K.faults log.old) (K.faults log.new))) }
     ensures more_faults { K.faults log.old ≤ K.faults log.new }
 {
@@ -110,7 +116,9 @@ fn ending_of(
     derivation: &Derivation,
     answers: &[LineAnswer],
 ) -> Result<Verdict, AllocError>
-    ensures { IfOk result (λ ending. IsVerdict (claim_by (asked_of asked.now) answers.now) asked.now.problem.now derivation.now.forms answers.now ending) }
+    ensures { IfOk result (λ ending.
+        IsVerdict (claim_by
+        (asked_of asked.now) answers.now) asked.now.problem.now derivation.now.forms answers.now ending) }
 {
     let claim = claim_on(alloc, asked, answers)?;
     verdict(

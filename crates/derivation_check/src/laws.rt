@@ -17,7 +17,8 @@ ghost use Rattle.derivation_check.specs.GoodCases.{IsGoodCase};
 /// Where a check verifies a derivation, its log is the text of entries that refute the given formulas.
 pub fn a_verified_derivation_refutes()
     ensures { (asked : spec.Asked) (t : Statements) (d : Derivation) (w : Vocabulary) (report log : List ℕ)
-        → Checks asked t d w true report log → (entries : List LogEntry) × (log ≡ log_text entries) × Refutes t entries }
+        → Checks asked t d w true report log
+        → (entries : List LogEntry) × (log ≡ log_text entries) × Refutes t entries }
 {}
 
 /// The log of a verified derivation can be read back, where the derivation names what it brings: so its entries are the
@@ -41,8 +42,10 @@ pub fn no_conjecture_is_cited()
 /// A check verifies each good derivation whose claim is justified by what its lines cite. The marks are those of given
 /// formulas.
 pub fn a_good_case_is_verified()
-    ensures { (asked : spec.Asked) (t : Statements) (d : Derivation) (w : Vocabulary) (verified : Bool) (report log : List ℕ)
-        → length asked.marks ≤ length t.formulas → TakesInTurn d.graph.nodes List.[] d.graph.order → first_left (is_taken d.graph.order) 0 d.graph.nodes ≡ None
+    ensures { (asked : spec.Asked) (t : Statements) (d : Derivation) (w : Vocabulary) (verified : Bool)
+        (report log : List ℕ)
+        → length asked.marks ≤ length t.formulas → TakesInTurn d.graph.nodes List.[] d.graph.order
+        → first_left (is_taken d.graph.order) 0 d.graph.nodes ≡ None
         → IsGoodCase asked t d w → Checks asked t d w verified report log → verified ≡ true }
 {}
 
@@ -53,10 +56,12 @@ pub fn a_verified_case_is_good()
         → length asked.marks ≤ length t.formulas → Checks asked t d w true report log → IsGoodCase asked t d w }
 {}
 
-/// A check has one verdict and one report, whatever the entries of its log are. The marks are those of given formulas, and
-/// the order takes all lines.
+/// A check has one verdict and one report, whatever the entries of its log are. The marks are those of given formulas,
+/// and the order takes all lines.
 pub fn a_check_has_one_report()
-    ensures { (asked : spec.Asked) (t : Statements) (d : Derivation) (w : Vocabulary) (verified other : Bool) (report log again more : List ℕ)
+    ensures { (asked : spec.Asked) (t : Statements) (d : Derivation) (w : Vocabulary) (verified other : Bool)
+        (report log again more : List ℕ)
         → length asked.marks ≤ length t.formulas → first_left (is_taken d.graph.order) 0 d.graph.nodes ≡ None
-        → Checks asked t d w verified report log → Checks asked t d w other again more → (verified ≡ other) × (report ≡ again) }
+        → Checks asked t d w verified report log → Checks asked t d w other again more
+        → (verified ≡ other) × (report ≡ again) }
 {}

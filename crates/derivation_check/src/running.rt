@@ -37,7 +37,9 @@ pub fn run_derivation<K: Sink>(
     requires ordered { IsOrdered derivation.now.graph.nodes derivation.now.graph }
     requires given { All (IsSentence theory.old.vocabulary) theory.old.formulas }
     requires lines { All (IsSentence signature.now) derivation.now.forms }
-    ensures ran { IfOk result (λ ran. LogsRuns theory.old derivation.now signature.now ran.answers ran.numbers theory.new (K.taken log.old) (K.taken log.new)) }
+    ensures ran { IfOk result (λ ran.
+        LogsRuns theory.old derivation.now signature.now ran.answers ran.numbers theory.new (K.taken log.old)
+        (K.taken log.new)) }
     ensures leads { LeadTo theory.old theory.new }
     ensures cut { OnErr result (TakesSomeOfLog theory.old (K.taken log.old) (K.taken log.new)) }
     ensures cause { IfErr result (λ fault. HasCause fault (Rose (K.faults log.old) (K.faults log.new))) }
@@ -62,8 +64,10 @@ fn begin<K: Sink>(
     requires extends { Extends theory.old.vocabulary signature.now }
     requires declared { AreDeclared signature.now }
     ensures widens { OnOk result (theory.new ≡ widened theory.old signature.now) }
-    ensures declared { OnOk result (Admits theory.old (declarations theory.old.vocabulary signature.now) (widened theory.old signature.now)) }
-    ensures logged { OnOk result (Takes (K.taken log.old) (K.taken log.new) (log_text (declarations theory.old.vocabulary signature.now))) }
+    ensures declared { OnOk result
+        (Admits theory.old (declarations theory.old.vocabulary signature.now) (widened theory.old signature.now)) }
+    ensures logged { OnOk result
+        (Takes (K.taken log.old) (K.taken log.new) (log_text (declarations theory.old.vocabulary signature.now))) }
     ensures in_range { OnOk result (HaveNumbersInRange (declarations theory.old.vocabulary signature.now)) }
     ensures leads { LeadTo theory.old theory.new }
     ensures cut { OnErr result (TakesSomeOfLog theory.old (K.taken log.old) (K.taken log.new)) }

@@ -13,7 +13,7 @@ use Rattle.tptp_grammar.specs.Files.{Through, last_token, dropped, token, IsFile
 use Rattle.tptp_grammar.specs.Solid.{Placed}
 use Rattle.tptp_grammar.specs.Tokens.{Tokens}
 use Rattle.szs_report.specs.Region.{region_of}
-use Rattle.derivation_text.specs.Texts.{IsLexed, IsParsed, Spells}
+use Rattle.derivation_text.specs.Texts.{IsRegionLexed, IsParsed, RegionSpells}
 
 cut_few : {T : Type 0} {style : Style} {item : Token → ℕ → T} {at end : ℕ} {text rest : List ℕ} {items : List T} → Cut style item at text items end rest → length items ≤ length text
 cut_few here = omega arith
@@ -36,7 +36,7 @@ file_few (input is through more) = let few = file_few more in let less = through
 part_few : (text : List ℕ) (from to : ℕ) → length (slice_range text from to) ≤ to - from
 part_few text from to = omega (arith, length-take (to - from) (drop from text), length-drop from text)
 
-pub few_items : (text : List ℕ) (tokens : Placed_tokens) (items : List Item) → IsLexed text (Ok tokens) → IsParsed tokens (Ok items) → length items < 2 ^ 32
+pub few_items : (text : List ℕ) (tokens : Placed_tokens) (items : List Item) → IsRegionLexed text (Ok tokens) → IsParsed tokens (Ok items) → length items < 2 ^ 32
 few_items text tokens items (fits, (offset, cut, end)) (us, file, within) =
     let bytes = cut_few cut in
     let entries = file_few file in

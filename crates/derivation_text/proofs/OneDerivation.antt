@@ -28,8 +28,8 @@ use Rattle.tstp_graph.proofs.OneGraph.{one_graph, one_fault, graph_or_fault}
 use Rattle.derivation_text.specs.declared.derivation.Derivation.{Derivation}
 use Rattle.derivation_text.specs.declared.fault.DerivationFault.{DerivationFault}
 use Rattle.derivation_text.specs.declared.fault.DerivationFault.TheVariants as fault
-use Rattle.derivation_text.specs.Derivations.{AreDerivation, IsItemsFault, IsDerivation, IsFirstFault, forms_of, names_of}
-use Rattle.derivation_text.specs.Texts.{IsLexed, IsParsed, Spells, IsTextFault}
+use Rattle.derivation_text.specs.Derivations.{AreDerivation, IsItemsFault, IsDerivation, IsDerivationFault, denied_forms, names_of}
+use Rattle.derivation_text.specs.Texts.{IsRegionLexed, IsParsed, RegionSpells, IsTextFault}
 use Rattle.derivation_text.specs.Wants.{IsWant}
 
 -- one of the two is want of memory, or they are the same
@@ -81,20 +81,20 @@ parsed_same f g (inr (inl e)) = let same : f ≡ parsed.Memory = cc in inl same
 parsed_same f g (inr (inr e)) = let same : g ≡ parsed.Memory = cc in inr (inl same)
 
 module _ (text : List ℕ) where
-  lex_one : (x y : Result Tokens LexFault) → IsLexed text x → IsLexed text y → lexer.IsOne x y
+  lex_one : (x y : Result Tokens LexFault) → IsRegionLexed text x → IsRegionLexed text y → lexer.IsOne x y
   lex_one = lexing.one 0 text (region_of text) style.Derivation
 
-  one_tokens : (t u : Tokens) → IsLexed text (Ok t) → IsLexed text (Ok u) → t ≡ u
+  one_tokens : (t u : Tokens) → IsRegionLexed text (Ok t) → IsRegionLexed text (Ok u) → t ≡ u
   one_tokens t u h k = same_tokens t u (lex_one (Ok t) (Ok u) h k)
 
-  here : (t u : Tokens) (x : Result (List Item) GrammarFault) → IsLexed text (Ok t) → IsLexed text (Ok u) → IsParsed u x → IsParsed t x
+  here : (t u : Tokens) (x : Result (List Item) GrammarFault) → IsRegionLexed text (Ok t) → IsRegionLexed text (Ok u) → IsParsed u x → IsParsed t x
   here t u x h k p = subst (λ (v : Tokens). IsParsed v x) (one_tokens u t k h) p
 
-  pub one_spelled : (xs ys : List Item) → Spells text xs → Spells text ys → xs ≡ ys
+  pub one_spelled : (xs ys : List Item) → RegionSpells text xs → RegionSpells text ys → xs ≡ ys
   one_spelled xs ys s r = same_items xs ys (parsing.one s.tokens.items s.tokens.end (Ok xs) (Ok ys) s.parsed (here s.tokens r.tokens (Ok ys) s.lexed r.lexed r.parsed))
 
   -- what spells items has no fault
-  spelled_wants : (xs : List Item) (f : DerivationFault) → Spells text xs → IsTextFault text f → IsWant f
+  spelled_wants : (xs : List Item) (f : DerivationFault) → RegionSpells text xs → IsTextFault text f → IsWant f
   spelled_wants xs (fault.Lex first) s is = lexed_wants s.tokens first (lex_one (Ok s.tokens) (Err first) s.lexed is)
   spelled_wants xs (fault.Grammar first) s (tokens, lexed, is) = parsed_wants xs first (parsing.one s.tokens.items s.tokens.end (Ok xs) (Err first) s.parsed (here s.tokens tokens (Err first) s.lexed lexed is))
   spelled_wants xs (fault.Graph first) s is = absurd is
@@ -155,7 +155,7 @@ module _ (items : List Item) (given : List Name) (v : Vocabulary) where
       let means : meaning are.lines w ≡ meaning also.lines x = sym are.denote ∙ also.denote in
       let lines : are.lines ≡ also.lines = ap (lines_or are.lines) means in
       let names : d.names ≡ e.names = are.names ∙ ap names_of lines ∙ sym also.names in
-      let forms : d.forms ≡ e.forms = are.forms ∙ ap forms_of lines ∙ sym also.forms in (
+      let forms : d.forms ≡ e.forms = are.forms ∙ ap denied_forms lines ∙ sym also.forms in (
         ap (λ (g : Graph). derivation g d.names d.forms) graphs ∙ ap (λ (ns : List Name). derivation e.graph ns d.forms) names ∙ ap (λ (fs : List Form). derivation e.graph e.names fs) forms,
         ap (vocabulary_or w) means,
       )
@@ -191,11 +191,11 @@ module _ (text : List ℕ) (given : List Name) (v : Vocabulary) where
   one_derivation d e w x (items, spells, are) (others, again, also) =
       one_of_items items given v d e w x are (subst (λ (is : List Item). AreDerivation is given v e x) (one_spelled text others items again spells) also)
 
-  pub derivation_wants : (d : Derivation) (w : Vocabulary) (f : DerivationFault) → IsDerivation text given v d w → IsFirstFault text given v f → IsWant f
+  pub derivation_wants : (d : Derivation) (w : Vocabulary) (f : DerivationFault) → IsDerivation text given v d w → IsDerivationFault text given v f → IsWant f
   derivation_wants d w f (items, spells, are) (inl faulty) = spelled_wants text items f spells faulty
   derivation_wants d w f (items, spells, are) (inr (others, again, is)) = items_wants items given v d w f are (subst (λ (xs : List Item). IsItemsFault xs given v f) (one_spelled text others items again spells) is)
 
-  pub one_first_fault : (f g : DerivationFault) → IsFirstFault text given v f → IsFirstFault text given v g → OneOrWant f g
+  pub one_first_fault : (f g : DerivationFault) → IsDerivationFault text given v f → IsDerivationFault text given v g → OneOrWant f g
   one_first_fault f g (inl is) (inl also) = one_text_fault text f g is also
   one_first_fault f g (inl is) (inr (items, spells, also)) = inl (spelled_wants text items f spells is)
   one_first_fault f g (inr (items, spells, is)) (inl also) = inr (inl (spelled_wants text items g spells also))

@@ -18,7 +18,7 @@ use Rattle.sort_check.specs.Symbols.{Text}
 use Rattle.sort_check.specs.Texts.{Declared, Reading, is_type, at_line, line_of, line_form, line_item, with_line, lines_from, type_lines, only_vocabulary, denoted}
 use Rattle.sort_check.proofs.Stepping.{at_ok, then_ok, mapped_ok}
 use Rattle.tstp_graph.specs.declared.shape.Node.{Node}
-use Rattle.tstp_graph.specs.Lines.{is_typing, formula_of, with_name, names_in}
+use Rattle.tstp_graph.specs.Lines.{is_typing, formula_of, with_formula_name, names_in}
 use Rattle.tstp_graph.specs.Meaning.{Means}
 use Rattle.tstp_graph.specs.Nodes.{nodes_of}
 use Rattle.tstp_graph.proofs.OneNodeEach.{one_node_each}
@@ -68,7 +68,7 @@ no_line_counts : (found : Option Line) (lines : List Line) → has found ≡ fal
 no_line_counts (Some l) lines e = absurd cc
 no_line_counts None lines e = refl
 
-one_more : (line : Option Annotated) (found : Option Line) (names : List Name) (lines : List Line) → has line ≡ has found → length names ≡ length lines → length (with_name line names) ≡ length (with_line found lines)
+one_more : (line : Option Annotated) (found : Option Line) (names : List Name) (lines : List Line) → has line ≡ has found → length names ≡ length lines → length (with_formula_name line names) ≡ length (with_line found lines)
 one_more None found names lines same count = count ∙ sym (no_line_counts found lines (sym same))
 one_more (Some a) found names lines same count = omega (arith, count, line_counts found lines (sym same))
 

@@ -18,13 +18,13 @@ use Rattle.sort_check.proofs.LineSizing.{text_fits}
 use Rattle.tptp_grammar.proofs.SpelledSizes.{cut_few, tokens_within, within_more}
 use Rattle.szs_report.specs.Region.{region_of}
 use Rattle.derivation_text.specs.declared.derivation.Derivation.{Derivation}
-use Rattle.derivation_text.specs.Derivations.{stands_for, forms_of, IsDerivation}
-use Rattle.derivation_text.specs.Texts.{Spells}
+use Rattle.derivation_text.specs.Derivations.{stands_for, denied_forms, IsDerivation}
+use Rattle.derivation_text.specs.Texts.{RegionSpells}
 
 part_fewer : (text : List ℕ) (from to : ℕ) → length (slice_range text from to) ≤ length text
 part_fewer text from to = omega (arith, length-take (to - from) (drop from text), length-drop from text)
 
-pub derivation_within : (text : List ℕ) (items : List Item) → Spells text items → IsWithin (length text) (size_of_items items)
+pub derivation_within : (text : List ℕ) (items : List Item) → RegionSpells text items → IsWithin (length text) (size_of_items items)
 derivation_within text items spells =
     let (fits, (offset, cut, end)) = spells.lexed in
     let (us, file, within) = spells.parsed in
@@ -37,7 +37,7 @@ denied_size : (role : Role) (a : Form) → form_size (stands_for role a) ≡ for
 denied_size Conjecture a = form_size-Not a
 denied_size other a = refl
 
-sizes_of_forms : (lines : List Line) → map form_size (forms_of lines) ≡ map size_of_line lines
+sizes_of_forms : (lines : List Line) → map form_size (denied_forms lines) ≡ map size_of_line lines
 sizes_of_forms [] = refl
 sizes_of_forms (line ∷ lines) = (let first = denied_size line.role line.form in let rest = sizes_of_forms lines in cc)
 

@@ -1,5 +1,5 @@
--- What the text of a derivation spells: items of the TPTP language, by the tokens of that part of a prover's output that
--- holds the derivation (SZS ontology, output). The tokens have their places in the whole text.
+-- What the text of a derivation spells: items of the TPTP language, by the tokens of that part of a prover's output
+-- that holds the derivation (SZS ontology, output). The tokens have their places in the whole text.
 use Rattle.std.specs.Prelude.{⊤, ◌⊎◌, ℕ, List, Result, Ok, Err}
 use Rattle.tptp_base.specs.declared.item.Item.{Item}
 use Rattle.tptp_lexer.specs.declared.fault.LexFault.{LexFault}
@@ -13,23 +13,24 @@ use Rattle.tptp_grammar.specs.Answers as parser
 use Rattle.derivation_text.specs.declared.fault.DerivationFault.TheVariants as fault
 
 -- the part has these tokens, or the lexer's first fault
-abbrev pub IsLexed : List ℕ → Result Tokens LexFault → Type 0
-IsLexed text answer = lexer.Answers 0 text (region_of text) Derivation answer
+abbrev pub IsRegionLexed : List ℕ → Result Tokens LexFault → Type 0
+IsRegionLexed text answer = lexer.Answers 0 text (region_of text) Derivation answer
 
 -- the tokens spell these items, or they have the parser's first fault
 abbrev pub IsParsed : Tokens → Result (List Item) GrammarFault → Type 0
 IsParsed tokens answer = parser.Answers tokens.items tokens.end answer
 
 -- The text spells the items, nested no deeper than the limit.
-pub record Spells (text : List ℕ) (items : List Item) : Type 0 where
+pub record RegionSpells (text : List ℕ) (items : List Item) : Type 0 where
   pub tokens : Tokens
-  pub lexed : IsLexed text (Ok tokens)
+  pub lexed : IsRegionLexed text (Ok tokens)
   pub parsed : IsParsed tokens (Ok items)
 
--- Why a text spells nothing: the first fault of its tokens, or else that of its items. Want of memory is never ruled out.
+-- Why a text spells nothing: the first fault of its tokens, or else that of its items. Want of memory is never ruled
+-- out.
 abbrev pub IsTextFault : List ℕ → DerivationFault → Type 0
-IsTextFault text (fault.Lex lexed) = IsLexed text (Err lexed)
-IsTextFault text (fault.Grammar parsed) = (tokens : Tokens) × IsLexed text (Ok tokens) × IsParsed tokens (Err parsed)
+IsTextFault text (fault.Lex lexed) = IsRegionLexed text (Err lexed)
+IsTextFault text (fault.Grammar parsed) = (tokens : Tokens) × IsRegionLexed text (Ok tokens) × IsParsed tokens (Err parsed)
 IsTextFault text (fault.Graph graph) = ⊥
 IsTextFault text (fault.Sort sorts) = ⊥
 IsTextFault text fault.Memory = ⊤

@@ -23,7 +23,7 @@ pub fn names_of(alloc: Global, lines: &[Line]) -> Result<List<Name>, Memory>
 
 /// What lines stand for.
 pub fn forms_of(alloc: Global, lines: &[Line]) -> Result<List<Form>, Memory>
-    ensures { IfOk result (λ forms. forms ≡ spec.forms_of lines.now) }
+    ensures { IfOk result (λ forms. forms ≡ spec.denied_forms lines.now) }
 {
     let mut forms = List::new(alloc);
     for line in lines {
@@ -34,7 +34,7 @@ pub fn forms_of(alloc: Global, lines: &[Line]) -> Result<List<Form>, Memory>
 
 // What a line stands for.
 fn form_of(alloc: Global, line: &Line) -> Result<Form, Memory>
-    ensures { IfOk result (λ form. form ≡ spec.form_of line.now) }
+    ensures { IfOk result (λ form. form ≡ spec.denied_form line.now) }
 {
     let form = line.form.copy(alloc)?;
     match line.role {

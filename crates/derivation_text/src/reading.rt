@@ -2,7 +2,8 @@
 ghost use Rattle.std.specs.Prelude.{◌≡◌, ◌<◌, ◌≤◌, ◌^◌, All, IfOk, IfErr, length};
 ghost use Rattle.tptp_base.specs.declared.read.TheConstants.{FILE_SIZE as file_size};
 ghost use Rattle.sort_check.specs.Sorting.{Extends, IsSentence};
-ghost use Rattle.derivation_text.specs.Derivations.{AreDerivation, IsDerivation, IsFirstFault, IsItemsFault, forms_of as forms_from, names_of as names_from};
+ghost use Rattle.derivation_text.specs.Derivations.{AreDerivation, IsDerivation, IsDerivationFault, IsItemsFault};
+ghost use Rattle.derivation_text.specs.Derivations.{denied_forms as forms_from, names_of as names_from};
 ghost use Rattle.tstp_graph.specs.Graphs.{IsGraph};
 ghost use Rattle.sort_check.specs.declared.line.TextKind.TheVariants as kind;
 ghost use Rattle.sort_check.specs.Texts.{denoted};
@@ -17,15 +18,16 @@ use std::alloc::Global;
 use tptp_base::{Item, List, Memory, Name};
 use tstp_graph::{Graph, graph};
 
-/// The derivation that a text is, from given formulas of these names. Its part of a prover's output is read, with places
-/// that are counted in the whole text. The signature is that of the problem; further sorts and symbols go to its end.
+/// The derivation that a text is, from given formulas of these names. Its part of a prover's output is read, with
+/// places that are counted in the whole text. The signature is that of the problem; further sorts and symbols go to its
+/// end.
 ///
 /// The formulas are closed and well-sorted in the signature behind them, and there is one for each node, and one name.
 ///
 /// # Errors
 ///
-/// The first fault, in this order: that of the tokens, that of the items, that of the graph, and that against the rules of
-/// sorts. After it the signature holds what it held and perhaps further sorts and symbols (`extends`).
+/// The first fault, in this order: that of the tokens, that of the items, that of the graph, and that against the rules
+/// of sorts. After it the signature holds what it held and perhaps further sorts and symbols (`extends`).
 #[tactic(auto, using(sort_check::proofs::TermSorts::grows_not))]
 pub fn read_derivation(
     alloc: Global,
@@ -36,7 +38,7 @@ pub fn read_derivation(
     requires few_bytes { length text.now ≤ file_size }
     requires few_given { length given.now < 2 ^ 32 }
     ensures is { IfOk result (λ d. IsDerivation text.now given.now signature.old d signature.new) }
-    ensures fault { IfErr result (λ fault. IsFirstFault text.now given.now signature.old fault) }
+    ensures fault { IfErr result (λ fault. IsDerivationFault text.now given.now signature.old fault) }
     ensures extends { Extends signature.old signature.new }
     ensures sentences { IfOk result (λ d. All (IsSentence signature.new) d.forms) }
     ensures each_form { IfOk result (λ d. length d.forms ≡ length d.graph.nodes) }

@@ -17,8 +17,8 @@ AreOfTheory t parents = Each (λ (p : Parent). slice_get t.formulas p.number ≡
 abbrev pub numbers_of : List Parent → List ℕ
 numbers_of parents = map (λ (p : Parent). p.number) parents
 
--- The theory u has the symbols of t, as many formulas, and at these numbers the formulas that t has there. A symbol that
--- is in no formula of t is in none of u.
+-- The theory u has the symbols of t, as many formulas, and at these numbers the formulas that t has there. A symbol
+-- that is in no formula of t is in none of u.
 pub record HasCited (t : Statements) (cites : List ℕ) (u : Statements) : Type 0 where
   pub vocabulary : u.vocabulary ≡ t.vocabulary
   pub count : length u.formulas ≡ length t.formulas

@@ -1,5 +1,6 @@
 ghost use Rattle.std.specs.Prelude.{◌≡◌, IfOk};
-ghost use Rattle.kernel.specs.declared.proof.Proof.{Hyp, AndI, AndE, OrI, OrE, ImpI, ImpE, NotI, NotE, Raa, IffI, IffL, IffR, AllI, AllE, ExI, ExE, Subst, Inhabit};
+ghost use Rattle.kernel.specs.declared.proof.Proof.{Hyp, AndI, AndE, OrI, OrE, ImpI, ImpE, NotI, NotE, Raa, IffI, IffL};
+ghost use Rattle.kernel.specs.declared.proof.Proof.{IffR, AllI, AllE, ExI, ExE, Subst, Inhabit};
 
 use fof_terms::{Form, SortId, Term};
 use kernel::Proof;

@@ -12,7 +12,7 @@ use Rattle.kernel.specs.Statements.{Statements}
 use Rattle.kernel.specs.Proves.{Proves}
 use Rattle.kernel.specs.declared.proof.Proof.{Proof}
 use Rattle.kernel.specs.declared.entry.Entry.TheVariants.{Lemma}
-use Rattle.clause_rules.specs.Answers.{Rule as Word, cover, Holds as Gives}
+use Rattle.clause_rules.specs.Answers.{ShapeRule as Word, cover, Holds as Gives}
 use Rattle.elaborate.specs.declared.answer.Rule.{Rule}
 use Rattle.skolem_fresh.specs.Justified.{ShowsSkolem}
 use Rattle.skolem_fresh.proofs.JustifiedFacts.{skolem_shown}
@@ -32,7 +32,7 @@ use Rattle.elaborate.specs.declared.answer.StepAnswer.TheVariants.{Accepted, Unv
 use Rattle.clause_rules.specs.Steps.{AreReady, IsReady}
 use Rattle.elaborate.specs.declared.leaves.FromOne.{FromOne}
 use Rattle.elaborate.specs.declared.steps.Found.{Found}
-use Rattle.elaborate.specs.ByRule.{Holds, IsFirst, IsNone, symbol_rules, GivesFirst, GivesNowhere, LeafRule, ByNoLeafRule, shape_rules}
+use Rattle.elaborate.specs.ByRule.{Applies, IsFirst, IsNone, symbol_rules, GivesFirst, GivesNowhere, LeafRule, ByNoLeafRule, shape_rules}
 use Rattle.derive_kit.specs.Derived.{AreOfTheory, IsDerivedFrom, numbers_of}
 use Rattle.derive_kit.proofs.DerivedFacts.{derived_by_lemma}
 use Rattle.elaborate.specs.Answers.{IsStepAnswer, IsLeafAnswer}
@@ -115,7 +115,7 @@ skolem_found t parents line o just is m =
 -- what no rule by shape gives
 module _ (t : Statements) (parents : List Parent) (line : Form) (none : IsNone shape_rules t parents line) where
   abbrev NotBy : Rule → Type 0
-  NotBy rule = Holds t parents line rule → ⊥
+  NotBy rule = Applies t parents line rule → ⊥
 
   abbrev Derives : List Entry → Type 0
   Derives entries = IsDerivedFrom t (numbers_of parents) entries line
@@ -123,16 +123,16 @@ module _ (t : Statements) (parents : List Parent) (line : Form) (none : IsNone s
   answered : (rule : Rule) (entries : List Entry) → IsFirst symbol_rules t parents line rule → Derives entries → IsStepAnswer t parents line (Accepted rule (numbers_of parents) entries)
   answered rule entries first derives = (first_behind t parents line shape_rules symbol_rules rule none first, refl, derives)
 
-  pub step_split : (entries : List Entry) → Holds t parents line Split → Derives entries → IsStepAnswer t parents line (Accepted Split (numbers_of parents) entries)
+  pub step_split : (entries : List Entry) → Applies t parents line Split → Derives entries → IsStepAnswer t parents line (Accepted Split (numbers_of parents) entries)
   step_split entries holds derives = answered Split entries (inl (refl, holds)) derives
 
-  pub step_skolem : (entries : List Entry) → NotBy Split → Holds t parents line Skolem → Derives entries → IsStepAnswer t parents line (Accepted Skolem (numbers_of parents) entries)
+  pub step_skolem : (entries : List Entry) → NotBy Split → Applies t parents line Skolem → Derives entries → IsStepAnswer t parents line (Accepted Skolem (numbers_of parents) entries)
   step_skolem entries whole holds derives = answered Skolem entries (inr (whole, inl (refl, holds))) derives
 
-  pub step_defined : (entries : List Entry) → NotBy Split → NotBy Skolem → Holds t parents line Definition → IsDerivedFrom t [] entries line → IsStepAnswer t parents line (Accepted Definition (numbers_of parents) entries)
+  pub step_defined : (entries : List Entry) → NotBy Split → NotBy Skolem → Applies t parents line Definition → IsDerivedFrom t [] entries line → IsStepAnswer t parents line (Accepted Definition (numbers_of parents) entries)
   step_defined entries whole unskolemized holds derives = answered Definition entries (inr (whole, inr (unskolemized, inl (refl, holds)))) (derived_weaker t (numbers_of parents) entries line derives)
 
-  pub step_chosen : (entries : List Entry) → NotBy Split → NotBy Skolem → NotBy Definition → Holds t parents line Choice → IsDerivedFrom t [] entries line → IsStepAnswer t parents line (Accepted Choice (numbers_of parents) entries)
+  pub step_chosen : (entries : List Entry) → NotBy Split → NotBy Skolem → NotBy Definition → Applies t parents line Choice → IsDerivedFrom t [] entries line → IsStepAnswer t parents line (Accepted Choice (numbers_of parents) entries)
   step_chosen entries whole unskolemized undefined holds derives = answered Choice entries (inr (whole, inr (unskolemized, inr (undefined, inl (refl, holds))))) (derived_weaker t (numbers_of parents) entries line derives)
 
   pub step_unverified : NotBy Split → NotBy Skolem → NotBy Definition → NotBy Choice → IsStepAnswer t parents line (Unverified NotYet)

@@ -3,29 +3,31 @@ use Rattle.std.specs.Prelude.{ℕ, ◌≡◌, ◌<◌, ◌⊎◌, List, [], ◌�
 use Rattle.fof_terms.specs.declared.form.Form.{Form}
 use Rattle.kernel.specs.Statements.{Statements}
 use Rattle.clause_form.specs.declared.path.Parent.{Parent}
-use Rattle.clause_rules.specs.Answers.{norm, cover, tautology, resolution, paramodulation, eqfactor, rewrite, Holds as Gives}
+use Rattle.clause_rules.specs.Answers.{norm, cover, tautology, resolution, paramodulation, eqfactor, rewrite}
+use Rattle.clause_rules.specs.Answers.{Holds as Gives}
 use Rattle.skolem_fresh.specs.ChoiceRule.{IsChoiceStep}
 use Rattle.skolem_fresh.specs.SkolemRule.{IsSkolemStep}
 use Rattle.split_defs.specs.DefinitionRule.{IsDefinitionStep}
 use Rattle.split_defs.specs.SplitRule.{IsSplitStep}
 use Rattle.split_defs.specs.SplitSearch.{forms_of}
 use Rattle.elaborate.specs.declared.answer.Rule.{Rule}
-use Rattle.elaborate.specs.declared.answer.Rule.TheVariants.{Norm, Cover, Tautology, Resolution, Paramodulation, EqFactor, Rewrite, Split, Skolem, Definition, Choice}
+use Rattle.elaborate.specs.declared.answer.Rule.TheVariants.{Norm, Cover, Tautology, Resolution, Paramodulation}
+use Rattle.elaborate.specs.declared.answer.Rule.TheVariants.{EqFactor, Rewrite, Split, Skolem, Definition, Choice}
 
--- with the symbols of the theory, and its formulas as those in which a new symbol occurs nowhere, the rule gives the line
--- from some of the parents
-abbrev pub Holds : Statements → List Parent → Form → Rule → Type 0
-Holds t parents line Norm = Gives t.vocabulary parents line norm
-Holds t parents line Cover = Gives t.vocabulary parents line cover
-Holds t parents line Tautology = Gives t.vocabulary parents line tautology
-Holds t parents line Resolution = Gives t.vocabulary parents line resolution
-Holds t parents line Paramodulation = Gives t.vocabulary parents line paramodulation
-Holds t parents line EqFactor = Gives t.vocabulary parents line eqfactor
-Holds t parents line Rewrite = Gives t.vocabulary parents line rewrite
-Holds t parents line Split = IsSplitStep t.vocabulary (forms_of parents) line
-Holds t parents line Skolem = IsSkolemStep t (forms_of parents) line
-Holds t parents line Definition = IsDefinitionStep t line
-Holds t parents line Choice = IsChoiceStep t line
+-- with the symbols of the theory, and its formulas as those in which a new symbol occurs nowhere, the rule gives the
+-- line from some of the parents
+abbrev pub Applies : Statements → List Parent → Form → Rule → Type 0
+Applies t parents line Norm = Gives t.vocabulary parents line norm
+Applies t parents line Cover = Gives t.vocabulary parents line cover
+Applies t parents line Tautology = Gives t.vocabulary parents line tautology
+Applies t parents line Resolution = Gives t.vocabulary parents line resolution
+Applies t parents line Paramodulation = Gives t.vocabulary parents line paramodulation
+Applies t parents line EqFactor = Gives t.vocabulary parents line eqfactor
+Applies t parents line Rewrite = Gives t.vocabulary parents line rewrite
+Applies t parents line Split = IsSplitStep t.vocabulary (forms_of parents) line
+Applies t parents line Skolem = IsSkolemStep t (forms_of parents) line
+Applies t parents line Definition = IsDefinitionStep t line
+Applies t parents line Choice = IsChoiceStep t line
 
 -- the rules that are recognised by shape, in the order in which they are tried
 abbrev pub shape_rules : List Rule
@@ -42,12 +44,12 @@ rules = shape_rules ++ symbol_rules
 -- the rule is the first of the list that gives the line
 abbrev pub IsFirst : List Rule → Statements → List Parent → Form → Rule → Type 0
 IsFirst [] t parents line rule = ⊥
-IsFirst (r ∷ rs) t parents line rule = ((rule ≡ r) × Holds t parents line r) ⊎ ((Holds t parents line r → ⊥) × IsFirst rs t parents line rule)
+IsFirst (r ∷ rs) t parents line rule = ((rule ≡ r) × Applies t parents line r) ⊎ ((Applies t parents line r → ⊥) × IsFirst rs t parents line rule)
 
 -- no rule of the list gives the line
 abbrev pub IsNone : List Rule → Statements → List Parent → Form → Type 0
 IsNone [] t parents line = Unit {0}
-IsNone (r ∷ rs) t parents line = (Holds t parents line r → ⊥) × IsNone rs t parents line
+IsNone (r ∷ rs) t parents line = (Applies t parents line r → ⊥) × IsNone rs t parents line
 
 -- the rule is the first that gives the line from its parents
 abbrev pub ByRule : Statements → List Parent → Form → Rule → Type 0
@@ -63,7 +65,7 @@ leaf_rules = Norm ∷ Cover ∷ []
 
 -- the rule gives the line from the candidate of that number alone
 abbrev pub GivesAlone : Statements → List Parent → Form → Rule → ℕ → Type 0
-GivesAlone t candidates line rule i = (c : Parent) × (slice_get candidates i ≡ Some c) × Holds t (c ∷ []) line rule
+GivesAlone t candidates line rule i = (c : Parent) × (slice_get candidates i ≡ Some c) × Applies t (c ∷ []) line rule
 
 -- and from no candidate before it
 abbrev pub GivesFirst : Statements → List Parent → Form → Rule → ℕ → Type 0

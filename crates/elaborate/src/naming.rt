@@ -1,4 +1,5 @@
-// Lines in which names stand for parts of a parent, or that bring in new symbols: the rule, and entries that derive the line.
+// Lines in which names stand for parts of a parent, or that bring in new symbols: the rule, and entries that derive the
+// line.
 ghost use Rattle.std.specs.Prelude.{[], IfOk};
 ghost use Rattle.clause_rules.specs.Steps.{AreReady, IsReady};
 ghost use Rattle.derive_kit.specs.Derived.{AreOfTheory, numbers_of};
@@ -28,7 +29,9 @@ pub fn split(
     requires parents { AreOfTheory theory.now parents.now }
     requires ready { AreReady theory.now.vocabulary parents.now }
     requires line { IsReady theory.now.vocabulary line.now }
-    ensures { IfOk result (IsByEntries theory.now (numbers_of parents.now) line.now (IsSplitStep theory.now.vocabulary (forms_of parents.now) line.now)) }
+    ensures { IfOk result
+        (IsByEntries theory.now (numbers_of parents.now) line.now
+        (IsSplitStep theory.now.vocabulary (forms_of parents.now) line.now)) }
 {
     match split_step(alloc, theory, parents, line)? {
         Some(just) => {
@@ -39,8 +42,8 @@ pub fn split(
     }
 }
 
-/// Entries of a line that puts new functions in place of a parent's existential variables; None exactly where it is no such
-/// line of any parent.
+/// Entries of a line that puts new functions in place of a parent's existential variables; None exactly where it is no
+/// such line of any parent.
 pub fn skolemized(
     alloc: Global,
     theory: &Theory,
@@ -50,7 +53,9 @@ pub fn skolemized(
     requires parents { AreOfTheory theory.now parents.now }
     requires ready { AreReady theory.now.vocabulary parents.now }
     requires line { IsReady theory.now.vocabulary line.now }
-    ensures { IfOk result (IsByEntries theory.now (numbers_of parents.now) line.now (IsSkolemStep theory.now (forms_of parents.now) line.now)) }
+    ensures { IfOk result
+        (IsByEntries theory.now (numbers_of parents.now) line.now
+        (IsSkolemStep theory.now (forms_of parents.now) line.now)) }
 {
     match skolem_step(alloc, theory, parents, line)? {
         Some(just) => {

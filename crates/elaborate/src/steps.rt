@@ -4,7 +4,7 @@ ghost use Rattle.elaborate.specs.declared.answer.StepAnswer.TheVariants.{Accepte
 ghost use Rattle.clause_rules.specs.Steps.{AreReady, IsReady};
 ghost use Rattle.derive_kit.specs.Derived.{AreOfTheory, numbers_of};
 ghost use Rattle.elaborate.specs.Answers.{IsStepAnswer};
-ghost use Rattle.elaborate.specs.ByRule.{Holds, IsNone, shape_rules};
+ghost use Rattle.elaborate.specs.ByRule.{Applies, IsNone, shape_rules};
 ghost use Rattle.elaborate.specs.declared.answer.Rule.TheVariants.{Definition, Skolem, Split};
 ghost use Rattle.elaborate.specs.code.Proofs.{IsFound};
 
@@ -62,7 +62,8 @@ fn by_symbols(
     }
 }
 
-// The answer to a line that has no names for parts: whether it puts functions in place of a parent's existential variables.
+// The answer to a line that has no names for parts: whether it puts functions in place of a parent's existential
+// variables.
 fn by_functions(
     alloc: Global,
     theory: &Theory,
@@ -73,7 +74,7 @@ fn by_functions(
     requires ready { AreReady theory.now.vocabulary parents.now }
     requires line { IsReady theory.now.vocabulary line.now }
     requires no_shape { IsNone shape_rules theory.now parents.now line.now }
-    requires whole { Holds theory.now parents.now line.now Split → ⊥ }
+    requires whole { Applies theory.now parents.now line.now Split → ⊥ }
     ensures { IfOk result (IsStepAnswer theory.now parents.now line.now) }
 {
     match skolemized(alloc, theory, parents, line)? {
@@ -94,8 +95,8 @@ fn by_meaning(
 ) -> Result<StepAnswer, Memory>
     requires line { IsReady theory.now.vocabulary line.now }
     requires no_shape { IsNone shape_rules theory.now parents.now line.now }
-    requires whole { Holds theory.now parents.now line.now Split → ⊥ }
-    requires unskolemized { Holds theory.now parents.now line.now Skolem → ⊥ }
+    requires whole { Applies theory.now parents.now line.now Split → ⊥ }
+    requires unskolemized { Applies theory.now parents.now line.now Skolem → ⊥ }
     ensures { IfOk result (IsStepAnswer theory.now parents.now line.now) }
 {
     match defined(alloc, theory, line)? {
@@ -116,9 +117,9 @@ fn by_choice(
 ) -> Result<StepAnswer, Memory>
     requires line { IsReady theory.now.vocabulary line.now }
     requires no_shape { IsNone shape_rules theory.now parents.now line.now }
-    requires whole { Holds theory.now parents.now line.now Split → ⊥ }
-    requires unskolemized { Holds theory.now parents.now line.now Skolem → ⊥ }
-    requires undefined { Holds theory.now parents.now line.now Definition → ⊥ }
+    requires whole { Applies theory.now parents.now line.now Split → ⊥ }
+    requires unskolemized { Applies theory.now parents.now line.now Skolem → ⊥ }
+    requires undefined { Applies theory.now parents.now line.now Definition → ⊥ }
     ensures { IfOk result (IsStepAnswer theory.now parents.now line.now) }
 {
     match chosen(alloc, theory, line)? {

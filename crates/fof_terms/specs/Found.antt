@@ -1,5 +1,5 @@
--- When directories tell what a vocabulary has: the first symbol of each name, kind and number of arguments, and the first
--- sort of each name.
+-- When directories tell what a vocabulary has: the first symbol of each name, kind and number of arguments, and the
+-- first sort of each name.
 use Rattle.std.specs.Prelude.{ℕ, ◌≡◌, ◌+◌, List, drop, nat_eq, position}
 use Rattle.std.specs.Option.{option_map}
 use Rattle.std.specs.Cmp.Lexicographic.{pointwise}

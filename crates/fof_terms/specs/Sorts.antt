@@ -1,5 +1,6 @@
 -- Sorts of terms, and well-sorted formulas. A scope has the sorts of the variables, that of variable 0 first.
-use Rattle.std.specs.Prelude.{ℕ, ◌≡◌, ◌+◌, ◌<◌, ◌≤◌, ◌==◌, nat_lt, max, Bool, true, false, ◌&&◌, List, [], ◌∷◌, length, map, slice_get, Option, Some, None}
+use Rattle.std.specs.Prelude.{ℕ, ◌≡◌, ◌+◌, ◌<◌, ◌≤◌, ◌==◌, nat_lt, max, Bool, true, false, ◌&&◌, List, [], ◌∷◌, length}
+use Rattle.std.specs.Prelude.{map, slice_get, Option, Some, None}
 use Rattle.std.specs.List.{list_all, AllByRecursion}
 use Rattle.fof_terms.specs.Lift.{greatest}
 use Rattle.fof_terms.specs.Vocabulary.{Vocabulary}

@@ -1,5 +1,6 @@
 -- What a signature contains: the names of the sorts and the symbols, each at its number.
-use Rattle.std.specs.Prelude.{ℕ, ◌≡◌, ◌<◌, ◌≤◌, ◌+◌, ◌==◌, ◌&&◌, Bool, true, false, List, Option, codes, drop, slice_get, length, nat_eq, position, Some}
+use Rattle.std.specs.Prelude.{ℕ, ◌≡◌, ◌<◌, ◌≤◌, ◌+◌, ◌==◌, ◌&&◌, Bool, true, false, List, Option, codes, drop}
+use Rattle.std.specs.Prelude.{slice_get, length, nat_eq, position, Some}
 use Rattle.std.specs.List.{All}
 use Rattle.std.specs.Option.{option_map}
 use Rattle.std.specs.Cmp.Lexicographic.{pointwise}

@@ -1,4 +1,5 @@
-ghost use Rattle.std.specs.Prelude.{◌≡◌, ◌↔◌, ◌<◌, ◌≤◌, ◌++◌, [], ◌∷◌, length, codes, slice_get, IfOk, OnOk, OnErr, IsErrOf};
+ghost use Rattle.std.specs.Prelude.{◌≡◌, ◌↔◌, ◌<◌, ◌≤◌, ◌++◌, [], ◌∷◌, length, codes, slice_get, IfOk, OnOk, OnErr};
+ghost use Rattle.std.specs.Prelude.{IsErrOf};
 ghost use Rattle.std.specs.Option.{option_copied};
 ghost use Rattle.tptp_base.specs.declared.limit.LimitName.{LimitName as limit_name};
 ghost use Rattle.tptp_base.specs.declared.limit.LimitName.TheVariants.{Symbols, Sorts};
@@ -134,7 +135,8 @@ impl Signature {
         ensures number { IfOk result (λ number. number ≡ length self.old.sorts) }
         ensures room { OnOk result (length self.old.sorts < 65536) }
         ensures added { OnOk result (self.new ≡ record self.old { sorts = self.old.sorts ++ name ∷ [] }) }
-        ensures limit { (limit : limit_name) → IsErrOf result (SigFault.Limit limit) ↔ ((limit ≡ Sorts) × (length self.old.sorts ≡ 65536)) }
+        ensures limit { (limit : limit_name)
+            → IsErrOf result (SigFault.Limit limit) ↔ ((limit ≡ Sorts) × (length self.old.sorts ≡ 65536)) }
         ensures err { OnErr result (self.new ≡ self.old) }
     {
         let number = self.sorts.len();
@@ -151,7 +153,8 @@ impl Signature {
         ensures number { IfOk result (λ number. number ≡ length self.old.symbols) }
         ensures room { OnOk result (length self.old.symbols < 16777216) }
         ensures added { OnOk result (self.new ≡ record self.old { symbols = self.old.symbols ++ symbol ∷ [] }) }
-        ensures limit { (limit : limit_name) → IsErrOf result (SigFault.Limit limit) ↔ ((limit ≡ Symbols) × (length self.old.symbols ≡ 16777216)) }
+        ensures limit { (limit : limit_name)
+            → IsErrOf result (SigFault.Limit limit) ↔ ((limit ≡ Symbols) × (length self.old.symbols ≡ 16777216)) }
         ensures err { OnErr result (self.new ≡ self.old) }
     {
         let number = self.symbols.len();
@@ -254,7 +257,8 @@ fn put_sort(
     }
 }
 
-// Adds a symbol behind the others, and answers its number. The directory tells the symbols of its kind before and after.
+// Adds a symbol behind the others, and answers its number. The directory tells the symbols of its kind before and
+// after.
 fn put_symbol(
     alloc: Global,
     symbol: Symbol,

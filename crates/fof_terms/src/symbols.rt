@@ -27,7 +27,8 @@ pub fn symbols_of_term(term: &Term, symbols: &mut List<SymId>) -> Result<(), Mem
 /// Appends the symbols that stand in the terms to the list, and no others; only some of them, where memory runs out.
 #[cycle(symbols_of_term)]
 pub fn symbols_of_terms(terms: &[Term], symbols: &mut List<SymId>) -> Result<(), Memory>
-    ensures ok { OnOk result (GainsOnly symbols.old (λ symbol. list_any (occurs_in_term symbol) terms.now) symbols.new) }
+    ensures ok { OnOk result
+        (GainsOnly symbols.old (λ symbol. list_any (occurs_in_term symbol) terms.now) symbols.new) }
     ensures appended { AppendsOnly symbols.old (λ symbol. list_any (occurs_in_term symbol) terms.now) symbols.new }
 {
     for term in terms {

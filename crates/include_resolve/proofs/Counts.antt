@@ -17,7 +17,7 @@ use Rattle.include_resolve.specs.declared.problem.Problem.{Problem}
 use Rattle.include_resolve.specs.Names.{Text}
 use Rattle.include_resolve.specs.Parts.{Answer, before, file_alone}
 use Rattle.include_resolve.specs.Resolved as walk
-use Rattle.include_resolve.specs.Resolved.{Walk, Opens, Reads, Replaces, Takes, Answers, Resolves}
+use Rattle.include_resolve.specs.Resolved.{Walk, Opens, Reads, Replaces, TakesItem, Answers, Resolves}
 use Rattle.include_resolve.specs.Selection.{selected, chosen, is_selected, unknown_name}
 use Rattle.include_resolve.specs.Texts.{IsSpelled}
 
@@ -98,7 +98,7 @@ module _ (told : Option Files) (root : Option Text) where
     replaces_few (walk.went_on {item = item} {items = items} {part = part} {answer = answer} takes more) =
         part_before part 1 (length items) (length (item ∷ items)) answer (omega arith) (takes_few takes) (replaces_few more)
 
-    takes_few : {w : Walk} {from : Text} {item : Item} {answer : Answer} → Takes told root w from item answer → IsFew 1 answer
+    takes_few : {w : Walk} {from : Text} {item : Item} {answer : Answer} → TakesItem told root w from item answer → IsFew 1 answer
     takes_few walk.comment = omega arith
     takes_few walk.formula = omega arith
     takes_few (walk.replaced {answer = answer} opens) = one_more answer (opens_few opens)

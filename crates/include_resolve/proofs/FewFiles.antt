@@ -12,7 +12,7 @@ use Rattle.include_resolve.specs.Names.{Text}
 use Rattle.include_resolve.specs.code.Opening.{TakesText}
 use Rattle.include_resolve.specs.Parts.{Answer, before, file_alone}
 use Rattle.include_resolve.specs.Resolved as walk
-use Rattle.include_resolve.specs.Resolved.{Walk, Opens, Reads, Replaces, Takes, Answers}
+use Rattle.include_resolve.specs.Resolved.{Walk, Opens, Reads, Replaces, TakesItem, Answers}
 use Rattle.include_resolve.specs.Selection.{selected, chosen, unknown_name}
 use Rattle.include_resolve.specs.code.Steps.{Opening, Adds}
 use Rattle.include_resolve.proofs.Counts.{spelled_few}
@@ -59,7 +59,7 @@ module _ (told : Option Files) (root : Option Text) where
     replaces_few (walk.went_on {item = item} {items = items} {part = part} {answer = answer} takes more) =
         part_before part 1 (length items) (length (item ∷ items)) answer (omega arith) (takes_few takes) (replaces_few more)
 
-    takes_few : {w : Walk} {from : Text} {item : Item} {answer : Answer} → Takes told root w from item answer → HasFewFiles 1 answer
+    takes_few : {w : Walk} {from : Text} {item : Item} {answer : Answer} → TakesItem told root w from item answer → HasFewFiles 1 answer
     takes_few walk.comment = omega arith
     takes_few walk.formula = omega arith
     takes_few (walk.replaced opens) = opens_few opens
@@ -68,7 +68,7 @@ module _ (told : Option Files) (root : Option Text) where
   opening_few old new part opening few = let names : length new.names ≡ length old.names + length part.files = grind (arith, opening.names, length-append old.names part.files) in omega (arith, names, opening.read, few)
 
   -- an item opens at most one file more than the files that it opens have bytes
-  pub added_few : (w : Walk) (from : Text) (item : Item) (old new : Opened) (kept more : List Item) → Adds {T = Unit {0}} (Takes told root w from item) old new kept more (Ok tt)
+  pub added_few : (w : Walk) (from : Text) (item : Item) (old new : Opened) (kept more : List Item) → Adds {T = Unit {0}} (TakesItem told root w from item) old new kept more (Ok tt)
       → length new.names + old.read ≤ length old.names + 1 + new.read
   added_few w from item old new kept more (part, is, opening, takes) = opening_few old new part opening (takes_few takes)
 

@@ -20,7 +20,7 @@ use Rattle.include_resolve.specs.declared.problem.TheConstants.{MAX_DEPTH, TOTAL
 use Rattle.include_resolve.specs.Names.{Text, tried_names, is_on}
 use Rattle.include_resolve.specs.Parts.{Answer, file_alone, item_alone, nothing, before}
 use Rattle.include_resolve.specs.Resolved as walk
-use Rattle.include_resolve.specs.Resolved.{Walk, IsFirstFile, first, later, IsRead, Opens, Reads, Replaces, Takes, inside, beyond}
+use Rattle.include_resolve.specs.Resolved.{Walk, IsFirstFile, first, later, IsRead, Opens, Reads, Replaces, TakesItem, inside, beyond}
 use Rattle.include_resolve.specs.Selection.{selected}
 use Rattle.include_resolve.specs.Texts.{IsSpelled, IsFaulty}
 use Rattle.include_resolve.proofs.OneText.{one_spelled, not_spelled, one_fault}
@@ -150,24 +150,24 @@ module _ (files : Files) where
       done_so walk.done = refl
 
       module _ {item : Item} {items : List Item} where
-        stopped_so : (cause : IncludeFault) → ((c : Answer) → Takes told root w from item c → refused cause ≡ c) → {b : Answer} → Replaces told root w from (item ∷ items) b → refused cause ≡ b
+        stopped_so : (cause : IncludeFault) → ((c : Answer) → TakesItem told root w from item c → refused cause ≡ c) → {b : Answer} → Replaces told root w from (item ∷ items) b → refused cause ≡ b
         stopped_so cause takes (walk.stopped {cause = other} also) = takes (Err other) also
         stopped_so cause takes (walk.went_on {part = part} also more) = not_given cause part (takes (Ok part) also)
 
-        went_so : (part : Problem) → ((c : Answer) → Takes told root w from item c → given part ≡ c) → (a : Answer) → ((c : Answer) → Replaces told root (beyond w part) from items c → a ≡ c)
+        went_so : (part : Problem) → ((c : Answer) → TakesItem told root w from item c → given part ≡ c) → (a : Answer) → ((c : Answer) → Replaces told root (beyond w part) from items c → a ≡ c)
             → {b : Answer} → Replaces told root w from (item ∷ items) b → before part a ≡ b
         went_so part takes a again (walk.stopped {cause = cause} also) = not_given cause part (sym (takes (Err cause) also))
         went_so part takes a again (walk.went_on {part = other} {answer = c} also more) =
             let same : other ≡ part = same_given other part (sym (takes (Ok other) also)) in
             ap (before part) (again c (subst (λ (p : Problem). Replaces told root (beyond w p) from items c) same more)) ∙ ap (λ (p : Problem). before p c) (sym same)
 
-      comment_so : {text : Text} {b : Answer} → Takes told root w from (Comment text) b → given (item_alone (Comment text)) ≡ b
+      comment_so : {text : Text} {b : Answer} → TakesItem told root w from (Comment text) b → given (item_alone (Comment text)) ≡ b
       comment_so walk.comment = refl
 
-      formula_so : {annotated : Annotated} {b : Answer} → Takes told root w from (Formula annotated) b → given (item_alone (Formula annotated)) ≡ b
+      formula_so : {annotated : Annotated} {b : Answer} → TakesItem told root w from (Formula annotated) b → given (item_alone (Formula annotated)) ≡ b
       formula_so walk.formula = refl
 
-      replaced_so : {inclusion : Inclusion} (a : Answer) → ((c : Answer) → Opens told root w (tried_names from root inclusion.file) inclusion.file inclusion.names c → a ≡ c) → {b : Answer} → Takes told root w from (Include inclusion) b → a ≡ b
+      replaced_so : {inclusion : Inclusion} (a : Answer) → ((c : Answer) → Opens told root w (tried_names from root inclusion.file) inclusion.file inclusion.names c → a ≡ c) → {b : Answer} → TakesItem told root w from (Include inclusion) b → a ≡ b
       replaced_so a again (walk.replaced {answer = c} opens) = again c opens
 
     -- ---- the walk
@@ -189,7 +189,7 @@ module _ (files : Files) where
       one_replaces (walk.stopped {cause = cause} takes) b other = stopped_so cause (λ c more. one_takes takes c more) other
       one_replaces (walk.went_on {part = part} {answer = a} takes replaces) b other = went_so part (λ c more. one_takes takes c more) a (λ c more. one_replaces replaces c more) other
 
-      one_takes : {w : Walk} {from : Text} {item : Item} {a : Answer} → Takes told root w from item a → (b : Answer) → Takes told root w from item b → a ≡ b
+      one_takes : {w : Walk} {from : Text} {item : Item} {a : Answer} → TakesItem told root w from item a → (b : Answer) → TakesItem told root w from item b → a ≡ b
       one_takes walk.comment b other = comment_so other
       one_takes walk.formula b other = formula_so other
       one_takes (walk.replaced {answer = a} opens) b other = replaced_so a (λ c more. one_opens opens c more) other

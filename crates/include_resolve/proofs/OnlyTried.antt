@@ -11,7 +11,7 @@ use Rattle.include_resolve.specs.declared.problem.TheConstants.{TOTAL_SIZE}
 use Rattle.include_resolve.specs.Names.{Text}
 use Rattle.include_resolve.specs.Parts.{Answer}
 use Rattle.include_resolve.specs.Resolved as walk
-use Rattle.include_resolve.specs.Resolved.{Walk, IsFirstFile, first, later, IsRead, Opens, Reads, Replaces, Takes, inside, beyond}
+use Rattle.include_resolve.specs.Resolved.{Walk, IsFirstFile, first, later, IsRead, Opens, Reads, Replaces, TakesItem, inside, beyond}
 use Rattle.include_resolve.specs.Tried as tried
 use Rattle.include_resolve.specs.Tried.{IsTried, TriesToOpen, TriesInFile, TriesInItems, HasAllTried, Tries}
 
@@ -70,7 +70,7 @@ module _ (files after : Files) where
       replaces_moved same (walk.stopped takes) = walk.stopped (takes_moved same takes)
       replaces_moved same (walk.went_on takes replaces) = walk.went_on (takes_moved same takes) (replaces_moved (λ n t. same n (tried.later takes t)) replaces)
 
-      takes_moved : {w : Walk} {from : Text} {item : Item} {items : List Item} {a : Answer} → ((n : Text) → TriesInItems told root n w from (item ∷ items) → Same n) → Takes told root w from item a → Takes now_told root w from item a
+      takes_moved : {w : Walk} {from : Text} {item : Item} {items : List Item} {a : Answer} → ((n : Text) → TriesInItems told root n w from (item ∷ items) → Same n) → TakesItem told root w from item a → TakesItem now_told root w from item a
       takes_moved same walk.comment = walk.comment
       takes_moved same walk.formula = walk.formula
       takes_moved same (walk.replaced opens) = walk.replaced (opens_moved (λ n t. same n (tried.here t)) opens)

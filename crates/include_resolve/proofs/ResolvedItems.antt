@@ -20,7 +20,7 @@ use Rattle.include_resolve.specs.Laws.{IsResolvedItem}
 use Rattle.include_resolve.specs.Names.{Text}
 use Rattle.include_resolve.specs.Parts.{Answer, nothing, file_alone, before}
 use Rattle.include_resolve.specs.Resolved as walk
-use Rattle.include_resolve.specs.Resolved.{Walk, Opens, Reads, Replaces, Takes, Resolves}
+use Rattle.include_resolve.specs.Resolved.{Walk, Opens, Reads, Replaces, TakesItem, Resolves}
 use Rattle.include_resolve.specs.Selection.{selected, chosen, is_selected, unknown_name}
 use Rattle.include_resolve.specs.Texts.{IsSpelled}
 
@@ -114,7 +114,7 @@ module _ (told : Option Files) (root : Option Text) where
     replaces_resolved {w = w} (walk.went_on {item = item} {items = items} {part = part} {answer = answer} takes more) number less all =
         both_resolved w.opened part answer (takes_resolved takes number less (All-head (IsOfFile number) item items all)) (replaces_resolved more number (omega (arith, less)) (All-tail (IsOfFile number) item items all))
 
-    takes_resolved : {w : Walk} {from : Text} {item : Item} {answer : Answer} → Takes told root w from item answer → (number : ℕ) → number < w.opened → IsOfFile number item → AreResolved w.opened answer
+    takes_resolved : {w : Walk} {from : Text} {item : Item} {answer : Answer} → TakesItem told root w from item answer → (number : ℕ) → number < w.opened → IsOfFile number item → AreResolved w.opened answer
     takes_resolved {w = w} (walk.comment {text = text}) number less is = All-cons (IsResolvedItem (w.opened + length nothing.files)) (Comment text) [] tt (All-nil (IsResolvedItem (w.opened + length nothing.files)))
     takes_resolved {w = w} (walk.formula {annotated = formula}) number less is = All-cons (IsResolvedItem (w.opened + length nothing.files)) (Formula formula) [] (omega (arith, less, is)) (All-nil (IsResolvedItem (w.opened + length nothing.files)))
     takes_resolved (walk.replaced opens) number less is = opens_resolved opens

@@ -13,7 +13,7 @@ use Rattle.include_resolve.specs.declared.problem.Problem.{Problem}
 use Rattle.include_resolve.specs.Names.{Text}
 use Rattle.include_resolve.specs.Parts.{Answer, file_alone, before}
 use Rattle.include_resolve.specs.Resolved as walk
-use Rattle.include_resolve.specs.Resolved.{Walk, Opens, Reads, Replaces, Takes, Resolves}
+use Rattle.include_resolve.specs.Resolved.{Walk, Opens, Reads, Replaces, TakesItem, Resolves}
 use Rattle.include_resolve.specs.Selection.{selected, chosen, is_selected, unknown_name}
 use Rattle.include_resolve.specs.Texts.{IsSpelled}
 use Rattle.include_resolve.proofs.Counts.{problem_few}
@@ -108,7 +108,7 @@ module _ (told : Option Files) (root : Option Text) where
     replaces_grows (walk.went_on {item = item} {items = items} {part = part} {answer = answer} takes more) =
         part_before part (size_of_item item) (together items) answer (takes_grows takes) (replaces_grows more)
 
-    takes_grows : {w : Walk} {from : Text} {item : Item} {answer : Answer} → Takes told root w from item answer → Grows (size_of_item item) answer
+    takes_grows : {w : Walk} {from : Text} {item : Item} {answer : Answer} → TakesItem told root w from item answer → Grows (size_of_item item) answer
     takes_grows walk.comment = record { longest = omega arith; variables = omega arith }
     takes_grows walk.formula = record { longest = omega arith; variables = omega arith }
     takes_grows (walk.replaced {inclusion = inclusion} {answer = answer} opens) = larger (size_of_item (Include inclusion)) answer (opens_grows opens)

@@ -30,7 +30,7 @@ use Rattle.include_resolve.specs.declared.problem.TheConstants.{MAX_DEPTH, TOTAL
 use Rattle.include_resolve.specs.Names.{Text, tried_names, is_on}
 use Rattle.include_resolve.specs.Parts.{Answer, file_alone, item_alone, nothing, before}
 use Rattle.include_resolve.specs.Resolved as walk
-use Rattle.include_resolve.specs.Resolved.{Walk, start, IsFirstFile, first, later, IsRead, Opens, Reads, Replaces, Takes, inside, beyond}
+use Rattle.include_resolve.specs.Resolved.{Walk, start, IsFirstFile, first, later, IsRead, Opens, Reads, Replaces, TakesItem, inside, beyond}
 use Rattle.include_resolve.specs.Laws.{HasAnswer}
 use Rattle.include_resolve.specs.Selection.{selected, chosen, unknown_name}
 use Rattle.include_resolve.specs.Texts.{whole, HasTokens, IsSpelled, IsFaulty}
@@ -127,7 +127,7 @@ module _ (files : Files) where
     Replaced w from items = (answer : Answer) × Replaces told root w from items answer × InTotal w.read answer
 
     abbrev Taken : Walk → Text → Item → Type 0
-    Taken w from item = (answer : Answer) × Takes told root w from item answer × InTotal w.read answer
+    Taken w from item = (answer : Answer) × TakesItem told root w from item answer × InTotal w.read answer
 
     -- what is given inside so many open files
     abbrev AtDepth : ℕ → Type 0
@@ -142,7 +142,7 @@ module _ (files : Files) where
       takes_some w is fits from (Formula annotated) = (Ok (item_alone (Formula annotated)), walk.formula, omega (arith, fits))
       takes_some w is fits from (Include inclusion) = replaced_by w from inclusion (again w is fits (tried_names from root inclusion.file) inclusion.file inclusion.names)
 
-      goes_on : (w : Walk) (from : Text) (item : Item) (items : List Item) (part : Problem) → Takes told root w from item (Ok part) → Replaced (beyond w part) from items → Replaced w from (item ∷ items)
+      goes_on : (w : Walk) (from : Text) (item : Item) (items : List Item) (part : Problem) → TakesItem told root w from item (Ok part) → Replaced (beyond w part) from items → Replaced w from (item ∷ items)
       goes_on w from item items part takes (answer, replaces, fits) = (before part answer, walk.went_on takes replaces, total_before w.read part answer fits)
 
       replaces_on : (w : Walk) (from : Text) (item : Item) (items : List Item) → Taken w from item → ((part : Problem) → w.read + part.read ≤ TOTAL_SIZE → Replaced (beyond w part) from items) → Replaced w from (item ∷ items)

@@ -12,7 +12,7 @@ use Rattle.include_resolve.specs.Laws.{IsOfSomeText}
 use Rattle.include_resolve.specs.Names.{Text}
 use Rattle.include_resolve.specs.Parts.{Answer, file_alone, before}
 use Rattle.include_resolve.specs.Resolved as walk
-use Rattle.include_resolve.specs.Resolved.{Walk, Opens, Reads, Replaces, Takes, Resolves}
+use Rattle.include_resolve.specs.Resolved.{Walk, Opens, Reads, Replaces, TakesItem, Resolves}
 use Rattle.include_resolve.specs.Selection.{selected, chosen, is_selected, unknown_name}
 use Rattle.include_resolve.specs.Texts.{IsSpelled}
 
@@ -61,7 +61,7 @@ module _ (told : Option Files) (root : Option Text) where
     replaces_spelled (walk.went_on {item = item} {items = items} {part = part} {answer = answer} takes more) all =
         both_spelled part answer (takes_spelled takes (All-head IsOfSomeText item items all)) (replaces_spelled more (All-tail IsOfSomeText item items all))
 
-    takes_spelled : {w : Walk} {from : Text} {item : Item} {answer : Answer} → Takes told root w from item answer → IsOfSomeText item → AreSpelled answer
+    takes_spelled : {w : Walk} {from : Text} {item : Item} {answer : Answer} → TakesItem told root w from item answer → IsOfSomeText item → AreSpelled answer
     takes_spelled (walk.comment {text = text}) is = All-cons IsOfSomeText (Comment text) [] is (All-nil IsOfSomeText)
     takes_spelled (walk.formula {annotated = formula}) is = All-cons IsOfSomeText (Formula formula) [] is (All-nil IsOfSomeText)
     takes_spelled (walk.replaced opens) is = opens_spelled opens

@@ -25,7 +25,7 @@ use Rattle.include_resolve.specs.Parts.{Answer, nothing, joined, before, file_al
 use Rattle.include_resolve.specs.code.Path.{path_names}
 use Rattle.include_resolve.proofs.PathFacts.{path_names-Inside}
 use Rattle.include_resolve.specs.code.Reading.{IsReadOf}
-use Rattle.include_resolve.specs.Resolved.{Walk, start, beyond, inside, IsFirstFile, IsRead, Opens, missing, cycle, too_deep, opened, Reads, over, faulty, spelled, Replaces, done, stopped, went_on, Takes, comment, formula, replaced, Answers}
+use Rattle.include_resolve.specs.Resolved.{Walk, start, beyond, inside, IsFirstFile, IsRead, Opens, missing, cycle, too_deep, opened, Reads, over, faulty, spelled, Replaces, done, stopped, went_on, TakesItem, comment, formula, replaced, Answers}
 use Rattle.include_resolve.specs.code.Selecting.{Selects}
 use Rattle.include_resolve.specs.Selection.{selected}
 use Rattle.include_resolve.specs.code.Steps.{walk_of, IsRefusal, Opening, Fails, Gives, Adds}
@@ -88,11 +88,11 @@ module _ (told : Option Files) (root : Option Text) where
   -- ---- one item
 
   pub takes_comment : {T : Type 0} (value : T) (path : List Text) (from text : Text) (old : Opened) (kept more : List Item) → more ≡ kept ++ it.Comment text ∷ []
-      → Adds {T = T} (Takes told root (walk_of path old) from (it.Comment text)) old old kept more (Ok value)
+      → Adds {T = T} (TakesItem told root (walk_of path old) from (it.Comment text)) old old kept more (Ok value)
   takes_comment value path from text old kept more e = (item_alone (it.Comment text), e, nothing_opened old (it.Comment text), comment)
 
   pub takes_formula : {T : Type 0} (value : T) (path : List Text) (from : Text) (annotated : Annotated) (old : Opened) (kept more : List Item) → more ≡ kept ++ it.Formula annotated ∷ []
-      → Adds {T = T} (Takes told root (walk_of path old) from (it.Formula annotated)) old old kept more (Ok value)
+      → Adds {T = T} (TakesItem told root (walk_of path old) from (it.Formula annotated)) old old kept more (Ok value)
   takes_formula value path from annotated old kept more e = (item_alone (it.Formula annotated), e, nothing_opened old (it.Formula annotated), formula)
 
   -- ---- the items of a file
@@ -116,10 +116,10 @@ module _ (told : Option Files) (root : Option Text) where
       next_is : reverse left ≡ item ∷ reverse rest
       next_is = ap reverse is ∙ reverse-append rest (item ∷ [])
 
-      takes_here : (answer : Answer) → Takes told root (walk_of path now) from item answer → Takes told root (beyond (walk_of path old) p.part) from item answer
-      takes_here answer h = subst (λ (w : Walk). Takes told root w from item answer) (walk_beyond path old now p.part p.opening) h
+      takes_here : (answer : Answer) → TakesItem told root (walk_of path now) from item answer → TakesItem told root (beyond (walk_of path old) p.part) from item answer
+      takes_here answer h = subst (λ (w : Walk). TakesItem told root w from item answer) (walk_beyond path old now p.part p.opening) h
 
-      pub progress_on : (new : Opened) (more : List Item) → Adds {T = Unit {0}} (Takes told root (walk_of path now) from item) now new kept more (Ok tt) → Progress path from items old new rest more
+      pub progress_on : (new : Opened) (more : List Item) → Adds {T = Unit {0}} (TakesItem told root (walk_of path now) from item) now new kept more (Ok tt) → Progress path from items old new rest more
       progress_on new more (part, added, opening, takes) = record {
         part = joined p.part part;
         kept_is = ap (λ l. l ++ part.items) p.kept_is ∙ sym added;
@@ -130,10 +130,10 @@ module _ (told : Option Files) (root : Option Text) where
             subst (Replaces told root (walk_of path old) from items) (sym (before_joined p.part part answer)) (p.rest (before part answer) (subst (λ (l : List Item). Replaces told root (beyond (walk_of path old) p.part) from l (before part answer)) (sym next_is) all));
       }
 
-      pub progress_stops : (new : Opened) (more : List Item) (cause : IncludeFault) → Adds {T = Unit {0}} (Takes told root (walk_of path now) from item) now new kept more (Err cause)
+      pub progress_stops : (new : Opened) (more : List Item) (cause : IncludeFault) → Adds {T = Unit {0}} (TakesItem told root (walk_of path now) from item) now new kept more (Err cause)
           → Fails (Replaces told root (walk_of path old) from items) cause
       progress_stops new more cause h =
-          fails_map (Takes told root (walk_of path now) from item) (Replaces told root (walk_of path old) from items)
+          fails_map (TakesItem told root (walk_of path now) from item) (Replaces told root (walk_of path old) from items)
           (λ c t. p.rest (Err c) (subst (λ (l : List Item). Replaces told root (beyond (walk_of path old) p.part) from l (Err c)) (sym next_is) (stopped (takes_here (Err c) t)))) cause h
 
     pub progress_ends : (now : Opened) (left kept : List Item) → Progress path from items old now left kept → left ≡ [] → Gives (Replaces told root (walk_of path old) from items) old now (Ok kept)
@@ -206,9 +206,9 @@ module _ (told : Option Files) (root : Option Text) where
   -- ---- includes
 
   pub include_given : (path : List Text) (from : Text) (include : Inclusion) (names : List Text) (old new : Opened) (result : Result (List Item) IncludeFault) → names ≡ tried_names from root include.file
-      → Gives (Opens told root (walk_of path old) names include.file include.names) old new result → Gives (Takes told root (walk_of path old) from (it.Include include)) old new result
+      → Gives (Opens told root (walk_of path old) names include.file include.names) old new result → Gives (TakesItem told root (walk_of path old) from (it.Include include)) old new result
   include_given path from include names old new result e h =
-      gives_map (Opens told root (walk_of path old) names include.file include.names) (Takes told root (walk_of path old) from (it.Include include)) old new
+      gives_map (Opens told root (walk_of path old) names include.file include.names) (TakesItem told root (walk_of path old) from (it.Include include)) old new
       (λ a o. replaced (subst (λ (l : List Text). Opens told root (walk_of path old) l include.file include.names a) e o)) result h
 
   pub adds_given : {T : Type 0} (value : T) (P : Answer → Type 0) (old new : Opened) (kept more items : List Item) → more ≡ kept ++ items → Gives P old new (Ok items) → Adds {T = T} P old new kept more (Ok value)
@@ -241,10 +241,10 @@ module _ (told : Option Files) (root : Option Text) where
 -- ---- one item more, by a call
 
 module _ (told : Option Files) (root : Option Text) where
-  pub item_added : {T : Type 0} (path : List Text) (from : Text) (item : Item) (old : Opened) (kept more : List Item) (result : Result T IncludeFault) → Takes told root (walk_of path old) from item (Ok (item_alone item))
-      → OnOk result (more ≡ kept ++ item ∷ []) → IfErr result (λ cause. cause ≡ fault.Memory) → Adds (Takes told root (walk_of path old) from item) old old kept more result
+  pub item_added : {T : Type 0} (path : List Text) (from : Text) (item : Item) (old : Opened) (kept more : List Item) (result : Result T IncludeFault) → TakesItem told root (walk_of path old) from item (Ok (item_alone item))
+      → OnOk result (more ≡ kept ++ item ∷ []) → IfErr result (λ cause. cause ≡ fault.Memory) → Adds (TakesItem told root (walk_of path old) from item) old old kept more result
   item_added path from item old kept more (Ok value) t e m = (item_alone item, e, nothing_opened old item, t)
-  item_added path from item old kept more (Err cause) t e m = fails_memory (Takes told root (walk_of path old) from item) cause m
+  item_added path from item old kept more (Err cause) t e m = fails_memory (TakesItem told root (walk_of path old) from item) cause m
 
 -- inside one file more there is room for one file less
 pub room_inside : (name : Bor Text) (others : Bor Path) (room : ℕ) → length (path_names others.now) + room ≡ MAX_DEPTH + 1 → 0 < room → length (path_names (Inside name others)) + (room - 1) ≡ MAX_DEPTH + 1

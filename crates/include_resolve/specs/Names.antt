@@ -1,6 +1,7 @@
--- The names under which the file of an include is looked for, as the TPTP technical manual has them: in the folder of the
--- file that includes it, and then in a folder that was given.
-use Rattle.std.specs.Prelude.{ℕ, ◌-◌, ◌==◌, Bool, false, not, if◌then◌else◌, List, [], ◌∷◌, ◌++◌, length, take, codes, None, Some}
+-- The names under which the file of an include is looked for, as the TPTP technical manual has them: in the folder of
+-- the file that includes it, and then in a folder that was given.
+use Rattle.std.specs.Prelude.{ℕ, ◌-◌, ◌==◌, Bool, false, not, if◌then◌else◌, List, [], ◌∷◌, ◌++◌, length, take, codes}
+use Rattle.std.specs.Prelude.{None, Some}
 use Rattle.std.specs.declared.option.Option.{Option}
 use Rattle.std.specs.List.{suffix_len, list_any}
 use Rattle.std.specs.Str.{bytes_eq}
@@ -29,8 +30,8 @@ abbrev pub rooted : Option Text → Text → List Text
 rooted None name = []
 rooted (Some root) name = (root ++ (codes "/" ++ name)) ∷ []
 
--- The names that are tried in turn for a name that is written in the file `from`. None of them is changed further: `.` and
--- `..` are names like others.
+-- The names that are tried in turn for a name that is written in the file `from`. None of them is changed further: `.`
+-- and `..` are names like others.
 abbrev pub tried_names : Text → Option Text → Text → List Text
 tried_names from root name = if is_absolute name then name ∷ [] else (directory from ++ name) ∷ rooted root name
 

@@ -1,6 +1,7 @@
--- A problem whose includes are replaced, as the TPTP technical manual has them: each include by the items of the file that
--- it names, in which the includes were replaced before. Or the first fault that is met on this walk through the files, depth
--- first and in order. A file's text is tested whole before its includes are opened, and a selection after its file.
+-- A problem whose includes are replaced, as the TPTP technical manual has them: each include by the items of the file
+-- that it names, in which the includes were replaced before. Or the first fault that is met on this walk through the
+-- files, depth first and in order. A file's text is tested whole before its includes are opened, and a selection after
+-- its file.
 --
 -- It is said over any store. Where a store doesn't tell its files, each name may have any file, or none.
 use Rattle.std.specs.Prelude.{⊤, ◌≡◌, ◌<◌, ◌≤◌, ℕ, ◌+◌, ◌-◌, List, [], ◌∷◌, length, All, true, false, None, Ok, Err}
@@ -24,8 +25,8 @@ use Rattle.include_resolve.specs.Selection.{selected}
 use Rattle.include_resolve.specs.Texts.{IsSpelled, IsFaulty}
 use Rattle.include_resolve.specs.declared.fault.IncludeFault.TheVariants as fault
 
--- Where the walk stands: the names of the open files, the innermost first; how many files were opened so far; and how many
--- bytes they have together.
+-- Where the walk stands: the names of the open files, the innermost first; how many files were opened so far; and how
+-- many bytes they have together.
 pub record Walk : Type 0 where
   pub path : List Text
   pub opened : ℕ
@@ -54,7 +55,8 @@ pub record IsRead (told : Option Files) (walk : Walk) (name bytes : Text) : Type
   pub in_budget : walk.read + length bytes ≤ TOTAL_SIZE
 
 mutual
-  -- what is given where these names are tried in turn, for a name that is written so, with a selection of formulas or none
+  -- what is given where these names are tried in turn, for a name that is written so, with a selection of formulas or
+  -- none
   pub data Opens (told : Option Files) (root : Option Text) : Walk → List Text → Text → Option (List Name) → Answer → Type 0 where
     missing : {walk : Walk} {names : List Text} {written : Text} {selection : Option (List Name)} → All (IsMissing told) names → Opens told root walk names written selection (Err (fault.Missing written))
     cycle : {walk : Walk} {names : List Text} {name written : Text} {selection : Option (List Name)} → IsFirstFile told names name → is_on walk.path name ≡ true
@@ -74,16 +76,16 @@ mutual
   -- what items that stand in the file `from` give in turn
   pub data Replaces (told : Option Files) (root : Option Text) : Walk → Text → List Item → Answer → Type 0 where
     done : {walk : Walk} {from : Text} → Replaces told root walk from [] (Ok nothing)
-    stopped : {walk : Walk} {from : Text} {item : Item} {items : List Item} {cause : IncludeFault} → Takes told root walk from item (Err cause) → Replaces told root walk from (item ∷ items) (Err cause)
-    went_on : {walk : Walk} {from : Text} {item : Item} {items : List Item} {part : Problem} {answer : Answer} → Takes told root walk from item (Ok part)
+    stopped : {walk : Walk} {from : Text} {item : Item} {items : List Item} {cause : IncludeFault} → TakesItem told root walk from item (Err cause) → Replaces told root walk from (item ∷ items) (Err cause)
+    went_on : {walk : Walk} {from : Text} {item : Item} {items : List Item} {part : Problem} {answer : Answer} → TakesItem told root walk from item (Ok part)
         → Replaces told root (beyond walk part) from items answer → Replaces told root walk from (item ∷ items) (before part answer)
 
   -- what one item gives: a comment or a formula itself, an include what its file gives
-  pub data Takes (told : Option Files) (root : Option Text) : Walk → Text → Item → Answer → Type 0 where
-    comment : {walk : Walk} {from text : Text} → Takes told root walk from (Comment text) (Ok (item_alone (Comment text)))
-    formula : {walk : Walk} {from : Text} {annotated : Annotated} → Takes told root walk from (Formula annotated) (Ok (item_alone (Formula annotated)))
+  pub data TakesItem (told : Option Files) (root : Option Text) : Walk → Text → Item → Answer → Type 0 where
+    comment : {walk : Walk} {from text : Text} → TakesItem told root walk from (Comment text) (Ok (item_alone (Comment text)))
+    formula : {walk : Walk} {from : Text} {annotated : Annotated} → TakesItem told root walk from (Formula annotated) (Ok (item_alone (Formula annotated)))
     replaced : {walk : Walk} {from : Text} {inclusion : Inclusion} {answer : Answer} → Opens told root walk (tried_names from root inclusion.file) inclusion.file inclusion.names answer
-        → Takes told root walk from (Include inclusion) answer
+        → TakesItem told root walk from (Include inclusion) answer
 
 -- what the file of this name gives, with all that it includes
 abbrev pub Resolves : Option Files → Option Text → Text → Answer → Type 0

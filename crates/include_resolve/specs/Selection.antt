@@ -1,5 +1,5 @@
--- What a selection of formulas keeps of a file, as the TPTP technical manual has it. Names are compared as values: the word
--- `'1'` is not the number `1`.
+-- What a selection of formulas keeps of a file, as the TPTP technical manual has it. Names are compared as values: the
+-- word `'1'` is not the number `1`.
 use Rattle.std.specs.Prelude.{not, Bool, false, List, filter, find, None, Some, Ok, Err}
 use Rattle.std.specs.declared.option.Option.{Option}
 use Rattle.std.specs.List.{list_any}

@@ -1,5 +1,5 @@
--- What the text of a file spells: the items that its tokens derive by the productions of the TPTP BNF, or the first fault
--- in it. A fault of the tokens comes before each fault of the productions.
+-- What the text of a file spells: the items that its tokens derive by the productions of the TPTP BNF, or the first
+-- fault in it. A fault of the tokens comes before each fault of the productions.
 use Rattle.std.specs.Prelude.{ℕ, List, length, Ok, Err}
 use Rattle.tptp_base.specs.declared.item.Item.{Item}
 use Rattle.tptp_base.specs.declared.place.Region.{Region}

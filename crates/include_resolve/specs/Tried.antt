@@ -1,5 +1,5 @@
--- Which names of files are tried on the walk through the files of a problem: that of the problem, and those that an include
--- can name, each until one is a file.
+-- Which names of files are tried on the walk through the files of a problem: that of the problem, and those that an
+-- include can name, each until one is a file.
 use Rattle.std.specs.Prelude.{◌≡◌, ◌≤◌, List, [], ◌∷◌, length, false, Some, Ok}
 use Rattle.std.specs.declared.option.Option.{Option}
 use Rattle.tptp_base.specs.declared.item.Include.{Include as Inclusion}
@@ -9,7 +9,7 @@ use Rattle.tptp_base.specs.Store.{Files, IsMissing, file_at}
 use Rattle.include_resolve.specs.declared.problem.Problem.{Problem}
 use Rattle.include_resolve.specs.declared.problem.TheConstants.{MAX_DEPTH}
 use Rattle.include_resolve.specs.Names.{Text, tried_names, is_on}
-use Rattle.include_resolve.specs.Resolved.{Walk, start, inside, beyond, IsFirstFile, IsRead, Takes}
+use Rattle.include_resolve.specs.Resolved.{Walk, start, inside, beyond, IsFirstFile, IsRead, TakesItem}
 use Rattle.include_resolve.specs.Texts.{IsSpelled}
 
 -- the name is tried, where these are tried in turn until one is a file
@@ -33,7 +33,7 @@ mutual
   pub data TriesInItems (told : Option Files) (root : Option Text) (name : Text) : Walk → Text → List Item → Type 0 where
     here : {walk : Walk} {from : Text} {inclusion : Inclusion} {items : List Item} → TriesToOpen told root name walk (tried_names from root inclusion.file)
         → TriesInItems told root name walk from (Include inclusion ∷ items)
-    later : {walk : Walk} {from : Text} {item : Item} {items : List Item} {part : Problem} → Takes told root walk from item (Ok part)
+    later : {walk : Walk} {from : Text} {item : Item} {items : List Item} {part : Problem} → TakesItem told root walk from item (Ok part)
         → TriesInItems told root name (beyond walk part) from items → TriesInItems told root name walk from (item ∷ items)
 
 -- the walk through the files of this problem tries the name

@@ -8,8 +8,8 @@ ghost use Rattle.include_resolve.specs.Parts.{Answer};
 ghost use Rattle.include_resolve.specs.Resolved.{Resolves};
 ghost use Rattle.include_resolve.specs.Tried.{HasAllTried, Tries};
 
-/// A file gives a problem with all that it includes, or there is a first fault on the walk through the files, and never two
-/// of them.
+/// A file gives a problem with all that it includes, or there is a first fault on the walk through the files, and never
+/// two of them.
 pub fn one_answer()
     ensures some { (files : Files) (root : Option (List ℕ)) (name : List ℕ) → HasAnswer files root name }
     ensures one { (files : Files) (root : Option (List ℕ)) (name : List ℕ) (answer other : Answer) →
@@ -35,11 +35,13 @@ pub fn a_problem_is_within_what_was_read()
         Resolves told root name (Ok problem) → IsWithin problem.read (size_of_items problem.items) }
 {}
 
-/// The walk looks at no other files than those whose names it tries: a store that has the same files under these names gives
-/// the same answer. So a further file under another name changes nothing.
+/// The walk looks at no other files than those whose names it tries: a store that has the same files under these names
+/// gives the same answer. So a further file under another name changes nothing.
 pub fn only_tried_files_count()
     ensures same { (files after : Files) (root : Option (List ℕ)) (name : List ℕ) (answer : Answer) →
-        HasAllTried files after root name → Resolves (Some files) root name answer → Resolves (Some after) root name answer }
+        HasAllTried files after root name → Resolves (Some files) root name answer
+        → Resolves (Some after) root name answer }
     ensures further { (files : Files) (root : Option (List ℕ)) (name other bytes : List ℕ) (answer : Answer) →
-        (Tries files root name other → ⊥) → Resolves (Some files) root name answer → Resolves (Some ((other, bytes) ∷ files)) root name answer }
+        (Tries files root name other → ⊥) → Resolves (Some files) root name answer
+        → Resolves (Some ((other, bytes) ∷ files)) root name answer }
 {}

@@ -1,4 +1,5 @@
-//! Includes replaced: the items of a file and of all that it includes, or the first fault on the walk through the files.
+//! Includes replaced: the items of a file and of all that it includes, or the first fault on the walk through the
+//! files.
 #![tactic(auto)]
 
 mod fault;

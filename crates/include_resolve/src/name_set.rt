@@ -30,7 +30,8 @@ impl NameSet {
 
     /// Adds a name, where it is not there yet.
     pub fn add(&mut self, alloc: Global, name: &Name) -> Result<(), IncludeFault>
-        ensures ok { OnOk result ((other : NameOf) → knows self.new other ≡ (is_same_name other name.now || knows self.old other)) }
+        ensures ok { OnOk result ((other : NameOf)
+            → knows self.new other ≡ (is_same_name other name.now || knows self.old other)) }
         ensures err { IfErr result (λ fault. fault ≡ IncludeFault.Memory) }
     {
         match name {
@@ -52,7 +53,8 @@ impl NameSet {
 
 // Adds a text, where it is not there yet.
 fn insert(alloc: Global, known: &mut IndexSet<Vec<u8>>, text: &[u8]) -> Result<(), IncludeFault>
-    ensures ok { OnOk result ((other : List ℕ) → has known.new.keys other ≡ (bytes_eq other text.now || has known.old.keys other)) }
+    ensures ok { OnOk result ((other : List ℕ)
+        → has known.new.keys other ≡ (bytes_eq other text.now || has known.old.keys other)) }
     ensures err { IfErr result (λ fault. fault ≡ IncludeFault.Memory) }
 {
     let key = Vec::from_slice(alloc, text)?;

@@ -34,7 +34,8 @@ pub fn tried_names(
     root: Option<&str>,
     name: &str,
 ) -> Result<Names, IncludeFault>
-    ensures names { IfOk result (λ names. string_bytes names.first ∷ map string_bytes (option_to_list names.other) ≡ spec.tried_names from.now (option_copied root.entry) name.now) }
+    ensures names { IfOk result (λ names. string_bytes names.first ∷ map string_bytes (option_to_list names.other)
+        ≡ spec.tried_names from.now (option_copied root.entry) name.now) }
     ensures err { IfErr result (λ fault. fault ≡ IncludeFault.Memory) }
 {
     if is_absolute(name) {
@@ -70,7 +71,8 @@ fn directory(name: &str) -> &str
 
 // The root, `/` and the name, where a root is given.
 fn rooted(alloc: Global, root: Option<&str>, name: &str) -> Result<Option<String>, IncludeFault>
-    ensures ok { IfOk result (λ other. map string_bytes (option_to_list other) ≡ spec.rooted (option_copied root.entry) name.now) }
+    ensures ok { IfOk result (λ other. map string_bytes (option_to_list other)
+        ≡ spec.rooted (option_copied root.entry) name.now) }
     ensures err { IfErr result (λ fault. fault ≡ IncludeFault.Memory) }
 {
     match root {

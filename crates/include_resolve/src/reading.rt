@@ -1,5 +1,6 @@
 // How a file is looked for and read.
-ghost use Rattle.std.specs.Prelude.{◌≡◌, ◌≤◌, ◌∷◌, [], All, IfOk, IfErr, IfNone, MatchOption, map, option_to_list, string_bytes};
+ghost use Rattle.std.specs.Prelude.{◌≡◌, ◌≤◌, ◌∷◌, [], All, IfOk, IfErr, IfNone, MatchOption, map, option_to_list};
+ghost use Rattle.std.specs.Prelude.{string_bytes};
 ghost use Rattle.tptp_base.specs.Count.{Rose};
 ghost use Rattle.tptp_base.specs.Store.{IsMissing};
 ghost use Rattle.include_resolve.specs.code.Reading.{IsReadOf, IsStop};
@@ -34,7 +35,8 @@ pub fn find_file<S: Store>(
 ) -> Result<Option<Found>, IncludeFault>
     ensures found { IfOk result (λ found. MatchOption found
         (All (IsMissing (S.files store.old)) (string_bytes names.first ∷ map string_bytes (option_to_list names.other)))
-        (λ file. IsFirstFile (S.files store.old) (string_bytes names.first ∷ map string_bytes (option_to_list names.other)) (string_bytes file.name)
+        (λ file. IsFirstFile (S.files store.old) (string_bytes names.first
+        ∷ map string_bytes (option_to_list names.other)) (string_bytes file.name)
         × IsReadOf (S.files store.old) (string_bytes file.name) budget file.read)) }
     ensures absent { IfOk result (λ found. IfNone found (Rose (S.absents store.old) (S.absents store.new))) }
     ensures cause { IfErr result (λ fault. IsStop fault (Rose (S.faults store.old) (S.faults store.new))) }

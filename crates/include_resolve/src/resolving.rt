@@ -1,5 +1,6 @@
 // The walk through the files.
-ghost use Rattle.std.specs.Prelude.{◌≡◌, ◌⊎◌, ◌≤◌, ◌+◌, ◌-◌, ◌∷◌, [], ◌++◌, ◌<◌, List, ℕ, length, All, false, IfOk, IfErr, OnOk, IsErrOf, string_bytes};
+ghost use Rattle.std.specs.Prelude.{◌≡◌, ◌⊎◌, ◌≤◌, ◌+◌, ◌-◌, ◌∷◌, [], ◌++◌, ◌<◌, List, ℕ, length, All, false, IfOk};
+ghost use Rattle.std.specs.Prelude.{IfErr, OnOk, IsErrOf, string_bytes};
 ghost use Rattle.std.specs.Option.{option_copied};
 ghost use Rattle.tptp_base.specs.Count.{Rose};
 ghost use Rattle.tptp_base.specs.Quotable.{IsQuotable};
@@ -49,9 +50,14 @@ fn open<S: Store>(
     requires room { length (path_names level.now.path.now) + level.now.room ≡ max_depth + 1 }
     requires budget { opened.old.read ≤ total_size }
     requires few_files { length opened.old.names ≤ opened.old.read }
-    ensures gives { Gives (spec.Opens (S.files store.old) (option_copied level.now.root) (walk_of (path_names level.now.path.now) opened.old) (list_of names) wanted.now.written.now wanted.now.selection.now) opened.old opened.new result }
+    ensures gives { Gives
+        (spec.Opens (S.files store.old) (option_copied level.now.root)
+        (walk_of (path_names level.now.path.now) opened.old)
+        (list_of names) wanted.now.written.now wanted.now.selection.now) opened.old opened.new result }
     ensures read { opened.new.read ≤ total_size }
-    ensures cause { IfErr result (λ fault. HasCause fault (Rose (S.absents store.old) (S.absents store.new)) (Rose (S.faults store.old) (S.faults store.new))) }
+    ensures cause { IfErr result (λ fault.
+        HasCause fault (Rose (S.absents store.old) (S.absents store.new))
+        (Rose (S.faults store.old) (S.faults store.new))) }
     ensures same_files { S.files store.new ≡ S.files store.old }
     ensures more_absents { S.absents store.old ≤ S.absents store.new }
     ensures more_faults { S.faults store.old ≤ S.faults store.new }
@@ -76,9 +82,13 @@ fn open_found<S: Store>(
     requires few_files { length opened.old.names ≤ opened.old.read }
     requires read { IsReadOf (S.files store.old) (string_bytes found.name) (total_size - opened.old.read) found.read }
     ensures gives { (names : List (List ℕ)) → spec.IsFirstFile (S.files store.old) names (string_bytes found.name)
-        → Gives (spec.Opens (S.files store.old) (option_copied level.now.root) (walk_of (path_names level.now.path.now) opened.old) names wanted.now.written.now wanted.now.selection.now) opened.old opened.new result }
+        → Gives (spec.Opens (S.files store.old) (option_copied level.now.root)
+        (walk_of (path_names level.now.path.now)
+        opened.old) names wanted.now.written.now wanted.now.selection.now) opened.old opened.new result }
     ensures read { opened.new.read ≤ total_size }
-    ensures cause { IfErr result (λ fault. HasCause fault (Rose (S.absents store.old) (S.absents store.new)) (Rose (S.faults store.old) (S.faults store.new))) }
+    ensures cause { IfErr result (λ fault.
+        HasCause fault (Rose (S.absents store.old) (S.absents store.new))
+        (Rose (S.faults store.old) (S.faults store.new))) }
     ensures same_files { S.files store.new ≡ S.files store.old }
     ensures more_absents { S.absents store.old ≤ S.absents store.new }
     ensures more_faults { S.faults store.old ≤ S.faults store.new }
@@ -110,9 +120,13 @@ fn replace<S: Store>(
     requires budget { opened.old.read ≤ total_size }
     requires few_files { length opened.old.names + length items ≤ opened.old.read + 1 }
     requires names { All HasQuotableFile items }
-    ensures gives { Gives (spec.Replaces (S.files store.old) (option_copied level.now.root) (walk_of (path_names level.now.path.now) opened.old) from.now items) opened.old opened.new result }
+    ensures gives { Gives
+        (spec.Replaces (S.files store.old) (option_copied level.now.root)
+        (walk_of (path_names level.now.path.now) opened.old) from.now items) opened.old opened.new result }
     ensures read { opened.new.read ≤ total_size }
-    ensures cause { IfErr result (λ fault. HasCause fault (Rose (S.absents store.old) (S.absents store.new)) (Rose (S.faults store.old) (S.faults store.new))) }
+    ensures cause { IfErr result (λ fault.
+        HasCause fault (Rose (S.absents store.old) (S.absents store.new))
+        (Rose (S.faults store.old) (S.faults store.new))) }
     ensures same_files { S.files store.new ≡ S.files store.old }
     ensures more_absents { S.absents store.old ≤ S.absents store.new }
     ensures more_faults { S.faults store.old ≤ S.faults store.new }
@@ -139,9 +153,14 @@ fn take<S: Store>(
     requires budget { opened.old.read ≤ total_size }
     requires few_files { length opened.old.names ≤ opened.old.read }
     requires name { HasQuotableFile item }
-    ensures adds { Adds (spec.Takes (S.files store.old) (option_copied level.now.root) (walk_of (path_names level.now.path.now) opened.old) from.now item) opened.old opened.new kept.old kept.new result }
+    ensures adds { Adds
+        (spec.TakesItem (S.files store.old) (option_copied level.now.root)
+        (walk_of (path_names level.now.path.now)
+        opened.old) from.now item) opened.old opened.new kept.old kept.new result }
     ensures read { opened.new.read ≤ total_size }
-    ensures cause { IfErr result (λ fault. HasCause fault (Rose (S.absents store.old) (S.absents store.new)) (Rose (S.faults store.old) (S.faults store.new))) }
+    ensures cause { IfErr result (λ fault.
+        HasCause fault (Rose (S.absents store.old) (S.absents store.new))
+        (Rose (S.faults store.old) (S.faults store.new))) }
     ensures same_files { S.files store.new ≡ S.files store.old }
     ensures more_absents { S.absents store.old ≤ S.absents store.new }
     ensures more_faults { S.faults store.old ≤ S.faults store.new }
@@ -169,9 +188,14 @@ fn included<S: Store>(
     requires budget { opened.old.read ≤ total_size }
     requires few_files { length opened.old.names ≤ opened.old.read }
     requires name { IsQuotable include.now.file }
-    ensures gives { Gives (spec.Takes (S.files store.old) (option_copied level.now.root) (walk_of (path_names level.now.path.now) opened.old) from.now (Item.Include include.now)) opened.old opened.new result }
+    ensures gives { Gives
+        (spec.TakesItem (S.files store.old) (option_copied level.now.root)
+        (walk_of (path_names level.now.path.now) opened.old) from.now
+        (Item.Include include.now)) opened.old opened.new result }
     ensures read { opened.new.read ≤ total_size }
-    ensures cause { IfErr result (λ fault. HasCause fault (Rose (S.absents store.old) (S.absents store.new)) (Rose (S.faults store.old) (S.faults store.new))) }
+    ensures cause { IfErr result (λ fault.
+        HasCause fault (Rose (S.absents store.old) (S.absents store.new))
+        (Rose (S.faults store.old) (S.faults store.new))) }
     ensures same_files { S.files store.new ≡ S.files store.old }
     ensures more_absents { S.absents store.old ≤ S.absents store.new }
     ensures more_faults { S.faults store.old ≤ S.faults store.new }
@@ -261,7 +285,8 @@ pub fn resolve<S: Store>(
     ensures few { IfOk result (λ problem. length problem.items ≤ problem.read) }
     ensures few_files { IfOk result (λ problem. length problem.files ≤ problem.read + 1) }
     // A missing file and a fault of the store have their cause in this call.
-    ensures missing { (written : List ℕ) → IsErrOf result (IncludeFault.Missing written) → Rose (S.absents store.old) (S.absents store.new) }
+    ensures missing { (written : List ℕ) → IsErrOf result (IncludeFault.Missing written)
+        → Rose (S.absents store.old) (S.absents store.new) }
     ensures store_fault { IsErrOf result IncludeFault.Store → Rose (S.faults store.old) (S.faults store.new) }
 
     ensures same_files { S.files store.new ≡ S.files store.old }

@@ -96,7 +96,8 @@ fn formula_set(alloc: Global, items: &[Item]) -> Result<NameSet, IncludeFault>
 
 // Adds the name of the item, if it is a formula.
 fn add_formula(alloc: Global, set: &mut NameSet, item: &Item) -> Result<(), IncludeFault>
-    ensures ok { OnOk result ((other : NameOf) → knows set.new other ≡ (is_named other item.now || knows set.old other)) }
+    ensures ok { OnOk result ((other : NameOf)
+        → knows set.new other ≡ (is_named other item.now || knows set.old other)) }
     ensures err { IfErr result (λ fault. fault ≡ IncludeFault.Memory) }
 {
     match item {

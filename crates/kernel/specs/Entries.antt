@@ -47,7 +47,8 @@ pub record MayName (t : Statements) (k : ℕ) (symbol : Symbol) (a : Form) : Typ
   pub absent : occurs_in k a ≡ false
   pub added : Sorted t.vocabulary [] (naming k symbol a)
 
--- The function of number k may choose for the formula: it is new to all formulas, and the formula speaks of its arguments and of a value.
+-- The function of number k may choose for the formula: it is new to all formulas, and the formula speaks of its
+-- arguments and of a value.
 pub record MayChoose (t : Statements) (k : ℕ) (symbol : Symbol) (a : Form) : Type 0 where
   pub found : slice_get t.vocabulary.symbols k ≡ Some symbol
   pub kind : symbol.kind ≡ Function

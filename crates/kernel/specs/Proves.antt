@@ -6,7 +6,9 @@ use Rattle.fof_terms.specs.Sorts.{Sorted, sort_of_term}
 use Rattle.fof_terms.specs.Lift.{lifted}
 use Rattle.fof_terms.specs.Instance.{instance_at}
 use Rattle.kernel.specs.Statements.{Statements}
-use Rattle.kernel.specs.declared.proof.Proof.{Proof, Line, Hyp, AndI', AndE', OrI', OrE', ImpI', ImpE', NotI', NotE', Raa', IffI', IffL', IffR', AllI', AllE', ExI', ExE', Refl, Subst', Inhabit', Row_of-Proof, end_of-Proof, more_of-Proof}
+use Rattle.kernel.specs.declared.proof.Proof.{Proof, Line, Hyp, AndI', AndE', OrI', OrE', ImpI', ImpE', NotI', NotE'}
+use Rattle.kernel.specs.declared.proof.Proof.{Raa', IffI', IffL', IffR', AllI', AllE', ExI', ExE', Refl, Subst'}
+use Rattle.kernel.specs.declared.proof.Proof.{Inhabit', Row_of-Proof, end_of-Proof, more_of-Proof}
 
 -- the formula or the formulas over one variable more, number 0
 abbrev pub over : Form → Form

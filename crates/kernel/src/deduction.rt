@@ -34,7 +34,8 @@ pub fn conclude(
     proof: &Proof,
 ) -> Result<Option<Form>, Memory>
     requires { IsContext theory.now.vocabulary (reverse context.now.sorts) (reverse context.now.hyps) }
-    ensures { IfOk result (λ answer. Concludes theory.now (reverse context.now.sorts) (reverse context.now.hyps) proof.now answer) }
+    ensures { IfOk result (λ answer.
+        Concludes theory.now (reverse context.now.sorts) (reverse context.now.hyps) proof.now answer) }
 {
     let sorts = context.sorts.as_slice();
     let room = (MAX_VARIABLES - sorts.len()) as u32;
@@ -57,7 +58,8 @@ fn conclude_in(
     room: u32,
 ) -> Result<Shown, Memory>
     requires { IsReach theory.now.vocabulary (scope_sorts scope.now) (hypotheses hyps.now) room }
-    ensures { IfOk result (λ answer. Concludes theory.now (scope_sorts scope.now) (hypotheses hyps.now) proof.now answer) }
+    ensures { IfOk result (λ answer.
+        Concludes theory.now (scope_sorts scope.now) (hypotheses hyps.now) proof.now answer) }
 {
     match proof {
         Proof::Line(number) => line(alloc, theory, scope, *number),
@@ -164,7 +166,8 @@ fn under(
     room: u32,
 ) -> Result<Shown, Memory>
     requires { IsReach theory.now.vocabulary (scope_sorts scope.now) (hypotheses hyps.now) room }
-    ensures { IfOk result (λ answer. ConcludesUnder theory.now (scope_sorts scope.now) (hypotheses hyps.now) assumed.now part.now answer) }
+    ensures { IfOk result (λ answer.
+        ConcludesUnder theory.now (scope_sorts scope.now) (hypotheses hyps.now) assumed.now part.now answer) }
 {
     if !well_sorted_in(assumed, theory.signature(), scope) {
         return Ok(None);
@@ -191,7 +194,8 @@ fn over(
     room: u32,
 ) -> Result<Shown, Memory>
     requires { IsReach theory.now.vocabulary (scope_sorts scope.now) (hypotheses hyps.now) room }
-    ensures { IfOk result (λ answer. Concludes theory.now (sort ∷ scope_sorts scope.now) (all_over (hypotheses hyps.now)) part.now answer) }
+    ensures { IfOk result (λ answer. Concludes theory.now (sort
+        ∷ scope_sorts scope.now) (all_over (hypotheses hyps.now)) part.now answer) }
 {
     if !has_room(theory, room, sort) {
         return Ok(None);
@@ -219,7 +223,8 @@ fn over_under(
     room: u32,
 ) -> Result<Shown, Memory>
     requires { IsReach theory.now.vocabulary (scope_sorts scope.now) (hypotheses hyps.now) room }
-    ensures { IfOk result (λ answer. ConcludesUnder theory.now (sort ∷ scope_sorts scope.now) (all_over (hypotheses hyps.now)) assumed.now part.now answer) }
+    ensures { IfOk result (λ answer. ConcludesUnder theory.now (sort
+        ∷ scope_sorts scope.now) (all_over (hypotheses hyps.now)) assumed.now part.now answer) }
 {
     if !has_room(theory, room, sort) {
         return Ok(None);
@@ -246,7 +251,8 @@ fn each_concluded(
     room: u32,
 ) -> Result<Option<List<Form>>, Memory>
     requires { IsReach theory.now.vocabulary (scope_sorts scope.now) (hypotheses hyps.now) room }
-    ensures { IfOk result (λ found. (as_ : List Formula) → (found ≡ Some as_) ↔ ProveAll theory.now (scope_sorts scope.now) (hypotheses hyps.now) parts.now as_) }
+    ensures { IfOk result (λ found. (as_ : List Formula)
+        → (found ≡ Some as_) ↔ ProveAll theory.now (scope_sorts scope.now) (hypotheses hyps.now) parts.now as_) }
 {
     let mut forms = List::new(alloc);
     for part in parts {
@@ -271,7 +277,8 @@ fn by_cases(
     room: u32,
 ) -> Result<Shown, Memory>
     requires { IsReach theory.now.vocabulary (scope_sorts scope.now) (hypotheses hyps.now) room }
-    ensures { IfOk result (λ answer. (p : Deduction) → Concludes theory.now (scope_sorts scope.now) (hypotheses hyps.now) p shown.now
+    ensures { IfOk result (λ answer. (p : Deduction)
+        → Concludes theory.now (scope_sorts scope.now) (hypotheses hyps.now) p shown.now
         → Concludes theory.now (scope_sorts scope.now) (hypotheses hyps.now) (OrE goal.now p cases.now) answer) }
 {
     match disjunction(shown) {
@@ -296,7 +303,8 @@ fn all_conclude(
     room: u32,
 ) -> Result<bool, Memory>
     requires { IsReach theory.now.vocabulary (scope_sorts scope.now) (hypotheses hyps.now) room }
-    ensures { IfOk result (λ all. IsTrue all ↔ EachUnder theory.now (scope_sorts scope.now) (hypotheses hyps.now) goal.now cases.now members.now) }
+    ensures { IfOk result (λ all. IsTrue all
+        ↔ EachUnder theory.now (scope_sorts scope.now) (hypotheses hyps.now) goal.now cases.now members.now) }
 {
     if cases.len() != members.len() {
         return Ok(false);
@@ -322,7 +330,8 @@ fn by_contradiction(
     room: u32,
 ) -> Result<Shown, Memory>
     requires { IsReach theory.now.vocabulary (scope_sorts scope.now) (hypotheses hyps.now) room }
-    ensures { IfOk result (λ answer. Concludes theory.now (scope_sorts scope.now) (hypotheses hyps.now) (Raa goal.now part.now) answer) }
+    ensures { IfOk result (λ answer.
+        Concludes theory.now (scope_sorts scope.now) (hypotheses hyps.now) (Raa goal.now part.now) answer) }
 {
     let copy = Boxed::new(alloc, goal.copy(alloc)?)?;
     let denied = Boxed::new(alloc, Form::Not(copy))?;
@@ -343,7 +352,8 @@ fn by_witness(
     room: u32,
 ) -> Result<Shown, Memory>
     requires { IsReach theory.now.vocabulary (scope_sorts scope.now) (hypotheses hyps.now) room }
-    ensures { IfOk result (λ answer. (p : Deduction) → Concludes theory.now (scope_sorts scope.now) (hypotheses hyps.now) p shown.now
+    ensures { IfOk result (λ answer. (p : Deduction)
+        → Concludes theory.now (scope_sorts scope.now) (hypotheses hyps.now) p shown.now
         → Concludes theory.now (scope_sorts scope.now) (hypotheses hyps.now) (ExE goal.now p rest.now) answer) }
 {
     match existential(shown) {
@@ -357,8 +367,10 @@ fn by_witness(
 
 // The conjunction of what was concluded, if each part concluded something.
 fn conjoined(alloc: Global, found: Option<List<Form>>) -> Result<Shown, Memory>
-    ensures { IfOk result (λ answer. (t : Statements) (v : List ℕ) (h : List Formula) (parts : List Deduction) → IsScope t.vocabulary v
-        → ((as_ : List Formula) → (found ≡ Some as_) ↔ ProveAll t v h parts as_) → Concludes t v h (AndI parts) answer) }
+    ensures { IfOk result (λ answer. (t : Statements) (v : List ℕ) (h : List Formula) (parts : List Deduction)
+        → IsScope t.vocabulary v
+        → ((as_ : List Formula) → (found ≡ Some as_) ↔ ProveAll t v h parts as_)
+        → Concludes t v h (AndI parts) answer) }
 {
     match found {
         Some(forms) => Ok(Some(Boxed::new(alloc, Form::And(forms))?)),

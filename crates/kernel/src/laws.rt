@@ -7,5 +7,6 @@ ghost use Rattle.kernel.specs.declared.proof.Proof.{Proof};
 
 /// A proof shows one formula at most, under the same hypotheses over the same variables.
 pub fn a_proof_shows_one_formula()
-    ensures { (theory : Statements) (sorts : List ℕ) (hypotheses : List Form) (proof : Proof) (first second : Form) → Proves theory sorts hypotheses proof first → Proves theory sorts hypotheses proof second → first ≡ second }
+    ensures { (theory : Statements) (sorts : List ℕ) (hypotheses : List Form) (proof : Proof) (first second : Form)
+        → Proves theory sorts hypotheses proof first → Proves theory sorts hypotheses proof second → first ≡ second }
 {}

@@ -9,7 +9,8 @@ use indexmap::IndexSet;
 /// Puts the symbols into the set, which has room for them.
 pub fn mark(used: &mut IndexSet<SymId>, symbols: &[SymId])
     requires { length symbols.now ≤ spare used.old }
-    ensures { (symbol : ℕ) → contains nat_eq used.new symbol ≡ (contains nat_eq used.old symbol || is_listed symbols.now symbol) }
+    ensures { (symbol : ℕ)
+        → contains nat_eq used.new symbol ≡ (contains nat_eq used.old symbol || is_listed symbols.now symbol) }
 {
     for symbol in symbols {
         used.insert(*symbol).unwrap();

@@ -44,7 +44,8 @@ pub fn specialized(
 ) -> Result<Shown, Memory>
     requires { (a : Formula) → shown.now ≡ Some a → Sorted theory.now.vocabulary (scope_sorts scope.now) a }
     ensures { IfOk result (λ answer. (h : List Formula) (p : Deduction) →
-        Concludes theory.now (scope_sorts scope.now) h p shown.now → Concludes theory.now (scope_sorts scope.now) h (AllE term.now p) answer) }
+        Concludes theory.now (scope_sorts scope.now) h p shown.now
+        → Concludes theory.now (scope_sorts scope.now) h (AllE term.now p) answer) }
 {
     match universal(shown) {
         Some((sort, body)) => {
@@ -72,7 +73,8 @@ pub fn witnessed(
     requires scope { IsScope theory.now.vocabulary (scope_sorts scope.now) }
     requires room { length (scope_sorts scope.now) + room ≡ 2147483647 }
     ensures { IfOk result (λ answer. (h : List Formula) (p : Deduction) →
-        Concludes theory.now (scope_sorts scope.now) h p shown.now → Concludes theory.now (scope_sorts scope.now) h (ExI sort body.now term.now p) answer) }
+        Concludes theory.now (scope_sorts scope.now) h p shown.now
+        → Concludes theory.now (scope_sorts scope.now) h (ExI sort body.now term.now p) answer) }
 {
     if !has_sort(theory, scope, term, sort) {
         return Ok(None);
@@ -99,7 +101,8 @@ pub fn reflexive(
     term: &Term,
 ) -> Result<Shown, Memory>
     requires { IsScope theory.now.vocabulary (scope_sorts scope.now) }
-    ensures { IfOk result (λ answer. (h : List Formula) → Concludes theory.now (scope_sorts scope.now) h (Refl term.now) answer) }
+    ensures { IfOk result (λ answer. (h : List Formula)
+        → Concludes theory.now (scope_sorts scope.now) h (Refl term.now) answer) }
 {
     match sort_of(term, theory.signature(), scope) {
         Some(_sort) => Ok(Some(Boxed::new(alloc, Form::Eq(term.copy(alloc)?, term.copy(alloc)?))?)),
@@ -122,7 +125,8 @@ pub fn substituted(
     requires room { length (scope_sorts scope.now) + room ≡ 2147483647 }
     requires sorted { (a : Formula) → sides.now ≡ Some a → Sorted theory.now.vocabulary (scope_sorts scope.now) a }
     ensures { IfOk result (λ answer. (h : List Formula) (p q : Deduction) →
-        Concludes theory.now (scope_sorts scope.now) h p sides.now → Concludes theory.now (scope_sorts scope.now) h q shown.now
+        Concludes theory.now (scope_sorts scope.now) h p sides.now
+        → Concludes theory.now (scope_sorts scope.now) h q shown.now
         → Concludes theory.now (scope_sorts scope.now) h (Subst sort body.now p q) answer) }
 {
     match equation(sides) {
@@ -152,7 +156,10 @@ pub fn same_over(
     shown: &Shown,
 ) -> Result<Shown, Memory>
     requires { IsScope theory.now.vocabulary (scope_sorts scope.now) }
-    ensures { IfOk result (λ answer. (a : Formula) → (answer ≡ Some a) ↔ ((a ≡ goal.now) × Sorted theory.now.vocabulary (scope_sorts scope.now) goal.now × (shown.now ≡ Some (over goal.now)))) }
+    ensures { IfOk result (λ answer. (a : Formula)
+        → (answer ≡ Some a)
+        ↔ ((a ≡ goal.now) × Sorted theory.now.vocabulary (scope_sorts scope.now) goal.now
+        × (shown.now ≡ Some (over goal.now)))) }
 {
     if !well_sorted_in(goal, theory.signature(), scope) {
         return Ok(None);

@@ -3,7 +3,8 @@ ghost use Rattle.std.specs.Prelude.{ℕ, ◌≡◌, ◌↔◌, List, Some, IsTru
 ghost use Rattle.fof_terms.specs.Sorts.{IsScope, Sorted};
 ghost use Rattle.fof_terms.specs.Scope.{scope_sorts};
 ghost use Rattle.fof_terms.specs.declared.form.Form.{Form as Formula};
-ghost use Rattle.kernel.specs.declared.proof.Proof.{Proof as Deduction, Line, AndE, OrI, ImpI, ImpE, NotI, NotE, IffI, IffL, IffR};
+ghost use Rattle.kernel.specs.declared.proof.Proof.{Proof as Deduction, Line, AndE, OrI, ImpI, ImpE, NotI, NotE, IffI};
+ghost use Rattle.kernel.specs.declared.proof.Proof.{IffL, IffR};
 ghost use Rattle.kernel.specs.Statements.{Statements};
 ghost use Rattle.kernel.specs.Concludes.{Concludes};
 ghost use Rattle.kernel.specs.code.Concludes.{ConcludesUnder, Kept};
@@ -19,7 +20,8 @@ use tptp_base::{Boxed, List, Memory};
 /// The formula of the theory.
 pub fn line(alloc: Global, theory: &Theory, scope: &Scope<'_>, number: u64) -> Result<Shown, Memory>
     requires { IsScope theory.now.vocabulary (scope_sorts scope.now) }
-    ensures { IfOk result (λ answer. (h : List Formula) → Concludes theory.now (scope_sorts scope.now) h (Line number) answer) }
+    ensures { IfOk result (λ answer. (h : List Formula)
+        → Concludes theory.now (scope_sorts scope.now) h (Line number) answer) }
 {
     match theory.formula(number) {
         Some(form) => copied(alloc, Some(form)),
@@ -49,7 +51,8 @@ pub fn or_introduced(
 ) -> Result<Shown, Memory>
     requires { IsScope theory.now.vocabulary (scope_sorts scope.now) }
     ensures { IfOk result (λ answer. (h : List Formula) (p : Deduction) →
-        Concludes theory.now (scope_sorts scope.now) h p shown.now → Concludes theory.now (scope_sorts scope.now) h (OrI members.now chosen p) answer) }
+        Concludes theory.now (scope_sorts scope.now) h p shown.now
+        → Concludes theory.now (scope_sorts scope.now) h (OrI members.now chosen p) answer) }
 {
     if !is_chosen(members, chosen, shown) {
         return Ok(None);
@@ -132,7 +135,8 @@ pub fn equivalent(
     back: &Shown,
 ) -> Result<Shown, Memory>
     ensures { IfOk result (λ answer. (t : Statements) (v : List ℕ) (h : List Formula) (p q : Deduction) →
-        ConcludesUnder t v h left.now p forth.now → ConcludesUnder t v h right.now q back.now → Concludes t v h (IffI left.now right.now p q) answer) }
+        ConcludesUnder t v h left.now p forth.now → ConcludesUnder t v h right.now q back.now
+        → Concludes t v h (IffI left.now right.now p q) answer) }
 {
     if !is_shown(forth, right) {
         return Ok(None);

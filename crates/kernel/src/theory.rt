@@ -1,4 +1,5 @@
-ghost use Rattle.std.specs.Prelude.{◌≡◌, ◌↔◌, [], length, slice_get, Some, None, IsTrue, IfOk, IfSome, OnOk, OnErr, IsErrOf};
+ghost use Rattle.std.specs.Prelude.{◌≡◌, ◌↔◌, [], length, slice_get, Some, None, IsTrue, IfOk, IfSome, OnOk, OnErr};
+ghost use Rattle.std.specs.Prelude.{IsErrOf};
 ghost use Rattle.std.specs.Option.{option_copied};
 ghost use Rattle.std.specs.List.{All as Each, list_any};
 ghost use Rattle.fof_terms.specs.Sorts.{Sorted};
@@ -9,7 +10,8 @@ ghost use Rattle.fof_terms.specs.declared.signature.Symbol.{Symbol as Sign};
 ghost use Rattle.kernel.specs.declared.entry.Decl.TheVariants.{Sort as NewSort, Symbol as NewSymbol};
 ghost use Rattle.kernel.specs.Statements.{IsRefuted};
 ghost use Rattle.kernel.specs.Concludes.{Concludes};
-ghost use Rattle.kernel.specs.Entries.{Legal, After, MayDeclare, MayName, MayChoose, declared, with_formula, naming, choice};
+ghost use Rattle.kernel.specs.Entries.{Legal, After, MayDeclare, MayName, MayChoose, declared, with_formula, naming};
+ghost use Rattle.kernel.specs.Entries.{choice};
 
 use crate::closing::{choice_of, naming_of};
 use crate::context::Context;
@@ -144,7 +146,8 @@ impl Theory {
     }
 
     fn declare_sort(&mut self, name: &[u8]) -> Result<(), AdmitFault>
-        ensures ok { OnOk result (MayDeclare self.old (NewSort name.now) × (self.new ≡ declared self.old (NewSort name.now))) }
+        ensures ok { OnOk result (MayDeclare self.old (NewSort name.now)
+            × (self.new ≡ declared self.old (NewSort name.now))) }
         ensures illegal { IsErrOf result AdmitFault.Illegal → MayDeclare self.old (NewSort name.now) → ⊥ }
         ensures err { OnErr result (self.new ≡ self.old) }
     {
@@ -154,7 +157,8 @@ impl Theory {
     }
 
     fn declare_symbol(&mut self, symbol: &Symbol) -> Result<(), AdmitFault>
-        ensures ok { OnOk result (MayDeclare self.old (NewSymbol symbol.now) × (self.new ≡ declared self.old (NewSymbol symbol.now))) }
+        ensures ok { OnOk result (MayDeclare self.old (NewSymbol symbol.now)
+            × (self.new ≡ declared self.old (NewSymbol symbol.now))) }
         ensures illegal { IsErrOf result AdmitFault.Illegal → MayDeclare self.old (NewSymbol symbol.now) → ⊥ }
         ensures err { OnErr result (self.new ≡ self.old) }
     {
@@ -196,7 +200,9 @@ impl Theory {
 
     // What naming the formula adds, if the predicate may name it.
     fn named(&self, predicate: SymId, form: &Form) -> Result<Option<Form>, Memory>
-        ensures { IfOk result (λ answer. (a : Formula) → (answer ≡ Some a) ↔ ((symbol : Sign) × MayName self.now predicate symbol form.now × (a ≡ naming predicate symbol form.now))) }
+        ensures { IfOk result (λ answer. (a : Formula)
+            → (answer ≡ Some a)
+            ↔ ((symbol : Sign) × MayName self.now predicate symbol form.now × (a ≡ naming predicate symbol form.now))) }
     {
         let Some(symbol) = self.signature.symbol(predicate) else {
             return Ok(None);
@@ -222,7 +228,9 @@ impl Theory {
 
     // What choosing for the formula adds, if the function may choose for it.
     fn chosen(&self, function: SymId, form: &Form) -> Result<Option<Form>, Memory>
-        ensures { IfOk result (λ answer. (a : Formula) → (answer ≡ Some a) ↔ ((symbol : Sign) × MayChoose self.now function symbol form.now × (a ≡ choice function symbol form.now))) }
+        ensures { IfOk result (λ answer. (a : Formula)
+            → (answer ≡ Some a)
+            ↔ ((symbol : Sign) × MayChoose self.now function symbol form.now × (a ≡ choice function symbol form.now))) }
     {
         let Some(symbol) = self.signature.symbol(function) else {
             return Ok(None);

@@ -21,7 +21,9 @@ pub(crate) fn arms_of(
     requires few { length forms.now ≤ 100000 }
     requires norms { norms.now ≡ map (norm_of way.positive) forms.now }
     requires parts { MemberSteps way.positive way.forth forms.now parts }
-    ensures { IfOk result (λ made. Arms way.conjunction way.positive way.forth (binder_depth (node_of way.conjunction forms.now)) forms.now forms.now made) }
+    ensures { IfOk result (λ made.
+        Arms way.conjunction way.positive way.forth
+        (binder_depth (node_of way.conjunction forms.now)) forms.now forms.now made) }
 {
     let mut left = reversed(alloc, parts)?;
     let mut made = List::new(alloc);

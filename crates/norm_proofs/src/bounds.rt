@@ -42,8 +42,8 @@ fn one(alloc: Global, sort: SortId, body: &Form, part: Part) -> Result<Part, Mem
     ex_i(alloc, sort, lift(alloc, body, 1, 1)?, Term::Var(0), part)
 }
 
-// Between a quantified formula and the quantifier over its body's normal form, by the part, which is between the body and
-// that.
+// Between a quantified formula and the quantifier over its body's normal form, by the part, which is between the body
+// and that.
 fn bound(
     alloc: Global,
     way: Way,
@@ -54,7 +54,8 @@ fn bound(
 ) -> Result<Part, Memory>
     requires body { lift_reach 1 1 body.now < 2 ^ 32 }
     requires norm { lift_reach 1 1 norm.now < 2 ^ 32 }
-    ensures { IfOk result (λ made. made ≡ bound_tree way.conjunction way.positive way.forth sort body.now norm.now part) }
+    ensures { IfOk result (λ made. made
+        ≡ bound_tree way.conjunction way.positive way.forth sort body.now norm.now part) }
 {
     if way.positive {
         return plain_bound(alloc, way, sort, body, norm, part);
@@ -82,7 +83,9 @@ fn no_one(
     number: u32,
     clash: Part,
 ) -> Result<Part, Memory>
-    ensures { IfOk result (λ made. made ≡ ImpI (quantifier_of (not kind) sort norm.now) (NotI (quantifier_of kind sort body.now) (ExE (Or []) (Hyp number) clash))) }
+    ensures { IfOk result (λ made. made
+        ≡ ImpI (quantifier_of (not kind) sort norm.now)
+        (NotI (quantifier_of kind sort body.now) (ExE (Or []) (Hyp number) clash))) }
 {
     let chosen = hyp(alloc, number)?;
     let absurd = ex_e(alloc, Form::Or(List::new(alloc)), chosen, clash)?;
@@ -128,7 +131,9 @@ fn other_one(
     part: Part,
 ) -> Result<Part, Memory>
     requires { lift_reach 1 1 to.now < 2 ^ 32 }
-    ensures { IfOk result (λ made. made ≡ ImpI (quantifier_of false sort from.now) (ExE (quantifier_of false sort to.now) (Hyp 0) (by_variable sort to.now part))) }
+    ensures { IfOk result (λ made. made
+        ≡ ImpI (quantifier_of false sort from.now)
+        (ExE (quantifier_of false sort to.now) (Hyp 0) (by_variable sort to.now part))) }
 {
     let found = one(alloc, sort, to, part)?;
     let chosen = hyp(alloc, 0)?;
@@ -221,8 +226,10 @@ pub(crate) fn quantified_step(
     requires norm { lift_reach 1 1 norm < 2 ^ 32 }
     requires depth { binder_depth norm < 2 ^ 32 - 1 }
     ensures norm { IfOk result (λ made. made.norm ≡ quantified (kind_of way.conjunction way.positive) sort norm) }
-    ensures part { IfOk result (λ made. (n : ℕ) → binder_depth norm ≤ binder_depth body.now → Between way.forth n part (signed_of way.positive body.now) norm
-        → Between way.forth (n + 1) made.part (signed_of way.positive (quantifier_of way.conjunction sort body.now)) (quantified (kind_of way.conjunction way.positive) sort norm)) }
+    ensures part { IfOk result (λ made. (n : ℕ) → binder_depth norm ≤ binder_depth body.now
+        → Between way.forth n part (signed_of way.positive body.now) norm
+        → Between way.forth (n + 1) made.part (signed_of way.positive (quantifier_of way.conjunction sort body.now))
+        (quantified (kind_of way.conjunction way.positive) sort norm)) }
 {
     let linked = bound(alloc, way, sort, body, norm.get(), part)?;
     if has_variable(norm.get(), 0) {

@@ -4,7 +4,8 @@ ghost use Rattle.clause_form.specs.Sizes.{norm_size_of};
 ghost use Rattle.fof_terms.specs.declared.form.Form.{Form as Formula, Not, Imp, Iff, Or};
 ghost use Rattle.fof_terms.specs.Sorts.{binder_depth};
 ghost use Rattle.norm_proofs.specs.code.Steps.{Between};
-ghost use Rattle.norm_proofs.specs.code.Connectives.{sides as sides_of, sides_back as sides_back_of, both_sides as both_sides_of};
+ghost use Rattle.norm_proofs.specs.code.Connectives.{sides as sides_of, sides_back as sides_back_of};
+ghost use Rattle.norm_proofs.specs.code.Connectives.{both_sides as both_sides_of};
 ghost use Rattle.norm_proofs.specs.code.Links.{Arms, kind_of};
 
 use crate::connectives::{both_sides, iff_sides, imp_sides, sides, sides_back, two};
@@ -23,7 +24,8 @@ use tptp_base::{Boxed, List, Memory};
 // An atom, or under minus its negation, as its own normal form.
 pub(crate) fn literal(alloc: Global, form: &Form, positive: bool) -> Result<Normed, Memory>
     ensures norm { IfOk result (λ made. made.norm ≡ signed_of positive form.now) }
-    ensures part { IfOk result (λ made. (forth : Bool) (n : ℕ) → Between forth n made.part (signed_of positive form.now) (signed_of positive form.now)) }
+    ensures part { IfOk result (λ made. (forth : Bool) (n : ℕ)
+        → Between forth n made.part (signed_of positive form.now) (signed_of positive form.now)) }
 {
     unchanged(alloc, signed(alloc, positive, copy(alloc, form)?)?)
 }
@@ -37,7 +39,8 @@ pub(crate) fn not_step(
     norm: &Form,
     part: Part,
 ) -> Result<Part, Memory>
-    ensures { IfOk result (λ made. (n : ℕ) → Between forth n part (signed_of (not positive) body.now) norm.now → Between forth n made (signed_of positive (Not body.now)) norm.now) }
+    ensures { IfOk result (λ made. (n : ℕ) → Between forth n part (signed_of (not positive) body.now) norm.now
+        → Between forth n made (signed_of positive (Not body.now)) norm.now) }
 {
     if positive {
         return Ok(part);
@@ -47,8 +50,8 @@ pub(crate) fn not_step(
     then(alloc, forth, twice, copy(alloc, norm)?, outer, part)
 }
 
-// Between a formula and the normal form of another one's negation, by the part between the formula's negation and the other
-// one, which goes the other way, and that between the other one's negation and its normal form.
+// Between a formula and the normal form of another one's negation, by the part between the formula's negation and the
+// other one, which goes the other way, and that between the other one's negation and its normal form.
 pub(crate) fn denied_step(
     alloc: Global,
     forth: bool,
@@ -58,7 +61,8 @@ pub(crate) fn denied_step(
     last: Part,
 ) -> Result<Part, Memory>
     requires { norm_size_of other.now ≤ 100000 }
-    ensures { IfOk result (λ made. (n : ℕ) → Between (not forth) n part (Not form.now) other.now → Between forth n last (Not other.now) (norm_of false other.now)
+    ensures { IfOk result (λ made. (n : ℕ) → Between (not forth) n part (Not form.now) other.now
+        → Between forth n last (Not other.now) (norm_of false other.now)
         → Between forth n made form.now (norm_of false other.now)) }
 {
     let first = denied(alloc, copy(alloc, form)?)?;
@@ -70,8 +74,8 @@ pub(crate) fn denied_step(
     then(alloc, forth, copy(alloc, form)?, norm, outer, inner)
 }
 
-// The normal form of a node, or under minus of its negation, with the proof between them, by the members' normal forms and
-// parts.
+// The normal form of a node, or under minus of its negation, with the proof between them, by the members' normal forms
+// and parts.
 pub(crate) fn node_step(
     alloc: Global,
     way: Way,
@@ -82,8 +86,10 @@ pub(crate) fn node_step(
     requires size { norm_size_of (node_of way.conjunction forms.now) ≤ 100000 }
     requires norms { norms.now ≡ map (norm_of way.positive) forms.now }
     ensures norm { IfOk result (λ made. made.norm ≡ norm_of way.positive (node_of way.conjunction forms.now)) }
-    ensures part { IfOk result (λ made. (n : ℕ) → Arms way.conjunction way.positive way.forth n forms.now forms.now parts
-        → Between way.forth n made.part (signed_of way.positive (node_of way.conjunction forms.now)) (norm_of way.positive (node_of way.conjunction forms.now))) }
+    ensures part { IfOk result (λ made. (n : ℕ)
+        → Arms way.conjunction way.positive way.forth n forms.now forms.now parts
+        → Between way.forth n made.part (signed_of way.positive (node_of way.conjunction forms.now))
+        (norm_of way.positive (node_of way.conjunction forms.now))) }
 {
     let linked = link(alloc, way, forms, norms, parts)?;
     let joined = join_step(alloc, way.kind(), way.forth, norms)?;
@@ -114,9 +120,11 @@ fn pair_step(
     requires size { norm_size_of (node_of way.conjunction forms.now) ≤ 100000 }
     requires norms { first.norm ∷ second.norm ∷ [] ≡ map (norm_of way.positive) forms.now }
     ensures norm { IfOk result (λ made. made.norm ≡ norm_of way.positive (node_of way.conjunction forms.now)) }
-    ensures part { IfOk result (λ made. (n : ℕ) (a b : Formula) → forms.now ≡ a ∷ b ∷ [] → Between way.forth n first.part (signed_of way.positive a) (norm_of way.positive a)
+    ensures part { IfOk result (λ made. (n : ℕ) (a b : Formula) → forms.now ≡ a ∷ b ∷ []
+        → Between way.forth n first.part (signed_of way.positive a) (norm_of way.positive a)
         → Between way.forth n second.part (signed_of way.positive b) (norm_of way.positive b)
-        → Between way.forth n made.part (signed_of way.positive (node_of way.conjunction forms.now)) (norm_of way.positive (node_of way.conjunction forms.now))) }
+        → Between way.forth n made.part (signed_of way.positive (node_of way.conjunction forms.now))
+        (norm_of way.positive (node_of way.conjunction forms.now))) }
 {
     let norms = two_forms(alloc, first.norm, second.norm)?;
     let one = arm(
@@ -150,7 +158,8 @@ fn two_forms(alloc: Global, first: Whole, second: Whole) -> Result<List<Form>, M
     Ok(made)
 }
 
-// The normal form of the disjunction of the sides of an implication, with the proof between them, by those for the sides.
+// The normal form of the disjunction of the sides of an implication, with the proof between them, by those for the
+// sides.
 pub(crate) fn sides_step(
     alloc: Global,
     positive: bool,
@@ -164,9 +173,11 @@ pub(crate) fn sides_step(
     requires first { first.norm ≡ norm_of (not positive) left.now }
     requires second { second.norm ≡ norm_of positive right.now }
     ensures norm { IfOk result (λ made. made.norm ≡ norm_of positive (Or (sides_of left.now right.now))) }
-    ensures part { IfOk result (λ made. (n : ℕ) → Between forth n first.part (signed_of (not positive) left.now) (norm_of (not positive) left.now)
+    ensures part { IfOk result (λ made. (n : ℕ)
+        → Between forth n first.part (signed_of (not positive) left.now) (norm_of (not positive) left.now)
         → Between forth n second.part (signed_of positive right.now) (norm_of positive right.now)
-        → Between forth n made.part (signed_of positive (Or (sides_of left.now right.now))) (norm_of positive (Or (sides_of left.now right.now)))) }
+        → Between forth n made.part (signed_of positive (Or (sides_of left.now right.now)))
+        (norm_of positive (Or (sides_of left.now right.now)))) }
 {
     let way = Way {
         conjunction: false,
@@ -193,9 +204,11 @@ pub(crate) fn back_step(
     requires first { first.norm ≡ norm_of positive left.now }
     requires second { second.norm ≡ norm_of (not positive) right.now }
     ensures norm { IfOk result (λ made. made.norm ≡ norm_of positive (Or (sides_back_of left.now right.now))) }
-    ensures part { IfOk result (λ made. (n : ℕ) → Between forth n first.part (signed_of positive left.now) (norm_of positive left.now)
+    ensures part { IfOk result (λ made. (n : ℕ)
+        → Between forth n first.part (signed_of positive left.now) (norm_of positive left.now)
         → Between forth n second.part (signed_of (not positive) right.now) (norm_of (not positive) right.now)
-        → Between forth n made.part (signed_of positive (Or (sides_back_of left.now right.now))) (norm_of positive (Or (sides_back_of left.now right.now)))) }
+        → Between forth n made.part (signed_of positive (Or (sides_back_of left.now right.now)))
+        (norm_of positive (Or (sides_back_of left.now right.now)))) }
 {
     let way = Way {
         conjunction: false,
@@ -217,7 +230,8 @@ fn under_sign(
     last: Whole,
     part: Part,
 ) -> Result<Part, Memory>
-    ensures { IfOk result (λ made. (n : ℕ) → Between (kind_of positive forth) n part first last → Between forth n made (signed_of positive first) (signed_of positive last)) }
+    ensures { IfOk result (λ made. (n : ℕ) → Between (kind_of positive forth) n part first last
+        → Between forth n made (signed_of positive first) (signed_of positive last)) }
 {
     if positive {
         return Ok(part);
@@ -225,7 +239,8 @@ fn under_sign(
     between_denied(alloc, forth, first, last, part)
 }
 
-// The normal form of an implication, or under minus of its negation, with the proof between them, by those for the sides.
+// The normal form of an implication, or under minus of its negation, with the proof between them, by those for the
+// sides.
 pub(crate) fn imp_step(
     alloc: Global,
     positive: bool,
@@ -239,9 +254,11 @@ pub(crate) fn imp_step(
     requires first { first.norm ≡ norm_of (not positive) left.now }
     requires second { second.norm ≡ norm_of positive right.now }
     ensures norm { IfOk result (λ made. made.norm ≡ norm_of positive (Imp left.now right.now)) }
-    ensures part { IfOk result (λ made. (n : ℕ) → Between forth n first.part (signed_of (not positive) left.now) (norm_of (not positive) left.now)
+    ensures part { IfOk result (λ made. (n : ℕ)
+        → Between forth n first.part (signed_of (not positive) left.now) (norm_of (not positive) left.now)
         → Between forth n second.part (signed_of positive right.now) (norm_of positive right.now)
-        → Between forth n made.part (signed_of positive (Imp left.now right.now)) (norm_of positive (Imp left.now right.now))) }
+        → Between forth n made.part (signed_of positive (Imp left.now right.now))
+        (norm_of positive (Imp left.now right.now))) }
 {
     let inner = sides_step(alloc, positive, forth, left, right, first, second)?;
     let turned = imp_sides(alloc, toward(positive, forth), left, right)?;
@@ -266,9 +283,13 @@ pub(crate) fn iff_step(
     requires first { first.norm ≡ norm_of positive (Or (sides_of left.now right.now)) }
     requires second { second.norm ≡ norm_of positive (Or (sides_back_of left.now right.now)) }
     ensures norm { IfOk result (λ made. made.norm ≡ norm_of positive (Iff left.now right.now)) }
-    ensures part { IfOk result (λ made. (n : ℕ) → Between forth n first.part (signed_of positive (Or (sides_of left.now right.now))) (norm_of positive (Or (sides_of left.now right.now)))
-        → Between forth n second.part (signed_of positive (Or (sides_back_of left.now right.now))) (norm_of positive (Or (sides_back_of left.now right.now)))
-        → Between forth n made.part (signed_of positive (Iff left.now right.now)) (norm_of positive (Iff left.now right.now))) }
+    ensures part { IfOk result (λ made. (n : ℕ)
+        → Between forth n first.part (signed_of positive (Or (sides_of left.now right.now)))
+        (norm_of positive (Or (sides_of left.now right.now)))
+        → Between forth n second.part (signed_of positive (Or (sides_back_of left.now right.now)))
+        (norm_of positive (Or (sides_back_of left.now right.now)))
+        → Between forth n made.part (signed_of positive (Iff left.now right.now))
+        (norm_of positive (Iff left.now right.now))) }
 {
     let way = Way {
         conjunction: true,
@@ -283,8 +304,8 @@ pub(crate) fn iff_step(
     by_other(alloc, positive, forth, whole, other, turned, inner)
 }
 
-// The normal form of a formula, with the proof between them, by a part between it and another formula of the same normal
-// form.
+// The normal form of a formula, with the proof between them, by a part between it and another formula of the same
+// normal form.
 fn by_other(
     alloc: Global,
     positive: bool,
@@ -296,8 +317,10 @@ fn by_other(
 ) -> Result<Normed, Memory>
     requires { inner.norm ≡ norm_of positive other }
     ensures norm { IfOk result (λ made. made.norm ≡ inner.norm) }
-    ensures part { IfOk result (λ made. (n : ℕ) → norm_of positive other ≡ norm_of positive whole → Between (kind_of positive forth) n turned whole other
-        → Between forth n inner.part (signed_of positive other) (norm_of positive other) → Between forth n made.part (signed_of positive whole) (norm_of positive whole)) }
+    ensures part { IfOk result (λ made. (n : ℕ) → norm_of positive other ≡ norm_of positive whole
+        → Between (kind_of positive forth) n turned whole other
+        → Between forth n inner.part (signed_of positive other) (norm_of positive other)
+        → Between forth n made.part (signed_of positive whole) (norm_of positive whole)) }
 {
     let Normed { norm, part } = inner;
     let first = signed(alloc, positive, copy(alloc, whole.get())?)?;

@@ -1,6 +1,8 @@
 ghost use Rattle.std.specs.Prelude.{◌≡◌, ◌∷◌, [], true, IfOk};
 ghost use Rattle.kernel.specs.declared.proof.Proof.{Raa, NotE, Hyp, OrI, OrE, IffI};
-ghost use Rattle.norm_proofs.specs.code.Connectives.{sides as sides_of, sides_back as sides_back_of, both_sides as both_sides_of, contrary as contrary_tree, side_at as side_tree, imp_tree, iff_tree};
+ghost use Rattle.norm_proofs.specs.code.Connectives.{sides as sides_of, sides_back as sides_back_of};
+ghost use Rattle.norm_proofs.specs.code.Connectives.{both_sides as both_sides_of, contrary as contrary_tree};
+ghost use Rattle.norm_proofs.specs.code.Connectives.{side_at as side_tree, imp_tree, iff_tree};
 
 use crate::steps::{copy, node, under};
 use derive_kit::{

@@ -2,7 +2,8 @@
 use fof_terms::Form;
 
 // About how many formulas stand in the proofs of the steps that name them all: the literals of the formula, those that
-// the members' proofs of disjunctions name, and those that disjunctions directly inside others name when they are joined.
+// the members' proofs of disjunctions name, and those that disjunctions directly inside others name when they are
+// joined.
 #[derive(Clone, Copy)]
 struct Effort {
     literals: u64,

@@ -1,10 +1,12 @@
-ghost use Rattle.std.specs.Prelude.{◌≡◌, ◌≤◌, ◌<◌, ◌+◌, ◌∷◌, [], ℕ, IfOk, MatchOption, Some, false, true, not, length, flat_map, slice_get};
+ghost use Rattle.std.specs.Prelude.{◌≡◌, ◌≤◌, ◌<◌, ◌+◌, ◌∷◌, [], ℕ, IfOk, MatchOption, Some, false, true, not, length};
+ghost use Rattle.std.specs.Prelude.{flat_map, slice_get};
 ghost use Rattle.std.specs.List.{list_any};
 ghost use Rattle.clause_form.specs.Norm.{node as node_of, members_of, ends, join as joined_of, joined_flat};
 ghost use Rattle.fof_terms.specs.declared.form.Form.{Form as Formula};
 ghost use Rattle.kernel.specs.declared.proof.Proof.{ImpI, OrE, Hyp};
 ghost use Rattle.norm_proofs.specs.code.Steps.{Between};
-ghost use Rattle.norm_proofs.specs.code.Joining.{numbered, spread_tree, lone_tree, gather_tree, Stands, SpreadTo, GatherTo};
+ghost use Rattle.norm_proofs.specs.code.Joining.{numbered, spread_tree, lone_tree, gather_tree, Stands, SpreadTo};
+ghost use Rattle.norm_proofs.specs.code.Joining.{GatherTo};
 ghost use Rattle.norm_proofs.specs.code.Settled.{ended_tree, alone_tree};
 
 use crate::links::{plain_link, toward};
@@ -74,7 +76,8 @@ fn spread(
     form: &Form,
 ) -> Result<List<Proof>, Memory>
     requires { length (members_of kind form.now) ≤ 100000 }
-    ensures { IfOk result (λ made. slice_get whole.now number ≡ Some form.now → SpreadTo kind whole.now (members_of kind form.now) made) }
+    ensures { IfOk result (λ made. slice_get whole.now number ≡ Some form.now
+        → SpreadTo kind whole.now (members_of kind form.now) made) }
 {
     match own_members(kind, form) {
         Some(inner) => spread_pieces(alloc, kind, whole, number, inner),
@@ -147,7 +150,8 @@ fn gather(
     form: &Form,
 ) -> Result<Part, Memory>
     requires { start + length (members_of kind form.now) ≤ 100000 }
-    ensures { IfOk result (λ made. Stands flat.now start (members_of kind form.now) → GatherTo kind flat.now (form.now ∷ []) (made ∷ [])) }
+    ensures { IfOk result (λ made. Stands flat.now start (members_of kind form.now)
+        → GatherTo kind flat.now (form.now ∷ []) (made ∷ [])) }
 {
     match own_members(kind, form) {
         Some(inner) => gather_pieces(alloc, kind, flat, start, inner.len()),

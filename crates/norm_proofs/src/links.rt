@@ -10,8 +10,8 @@ use kernel::Proof;
 use std::alloc::Global;
 use tptp_base::{List, Memory};
 
-/// Which proof is built: for a conjunction or universal quantifier, or else for a disjunction or existential one; for it
-/// or else for its negation; to its normal form, or else back.
+/// Which proof is built: for a conjunction or universal quantifier, or else for a disjunction or existential one; for
+/// it or else for its negation; to its normal form, or else back.
 #[derive(Clone, Copy)]
 pub(crate) struct Way {
     pub(crate) conjunction: bool,
@@ -45,7 +45,8 @@ pub(crate) fn arm(
     form: &Form,
     part: Part,
 ) -> Result<Part, Memory>
-    ensures { IfOk result (λ made. made ≡ arm_tree way.conjunction way.positive way.forth forms.now norms.now number form.now part) }
+    ensures { IfOk result (λ made. made
+        ≡ arm_tree way.conjunction way.positive way.forth forms.now norms.now number form.now part) }
 {
     if way.positive {
         if way.conjunction {

@@ -28,7 +28,8 @@ use tptp_base::{Boxed, List, Memory};
 pub fn norm_forth(alloc: Global, form: &Form) -> Result<Part, Memory>
     requires size { norm_size_of form.now ≤ 100000 }
     requires sorted { SortedSomewhere form.now }
-    ensures { IfOk result (λ proof. (t : Statements) (v : List ℕ) (h : List Formula) → length v ≤ 1000000000 → Sorted t.vocabulary v form.now
+    ensures { IfOk result (λ proof. (t : Statements) (v : List ℕ) (h : List Formula) → length v ≤ 1000000000
+        → Sorted t.vocabulary v form.now
         → Proves t v h proof (Imp form.now (norm_of true form.now))) }
 {
     whole_step(alloc, form, true)
@@ -38,15 +39,16 @@ pub fn norm_forth(alloc: Global, form: &Form) -> Result<Part, Memory>
 pub fn norm_back(alloc: Global, form: &Form) -> Result<Part, Memory>
     requires size { norm_size_of form.now ≤ 100000 }
     requires sorted { SortedSomewhere form.now }
-    ensures { IfOk result (λ proof. (t : Statements) (v : List ℕ) (h : List Formula) → length v ≤ 1000000000 → Sorted t.vocabulary v form.now
+    ensures { IfOk result (λ proof. (t : Statements) (v : List ℕ) (h : List Formula) → length v ≤ 1000000000
+        → Sorted t.vocabulary v form.now
         → Proves t v h proof (Imp (norm_of true form.now) form.now)) }
 {
     whole_step(alloc, form, false)
 }
 
 // Between the formula and its normal form. The members of disjunctions inside each other are joined level by level, and
-// each joining names the whole disjunction for each of its members; a conjunction is not named. So where the formula has many
-// disjunctions inside each other, and its negation few, the way is by the negation's normal form.
+// each joining names the whole disjunction for each of its members; a conjunction is not named. So where the formula
+// has many disjunctions inside each other, and its negation few, the way is by the negation's normal form.
 fn whole_step(alloc: Global, form: &Form, forth: bool) -> Result<Part, Memory>
     requires size { norm_size_of form.now ≤ 100000 }
     requires placed { IsPlaced form.now }

@@ -31,7 +31,8 @@ pub fn path_proof(alloc: Global, norm: &Form, path: &Path) -> Result<Part, Memor
     requires size { norm_size_of norm.now ≤ 100000 }
     requires sorted { SortedSomewhere norm.now }
     requires fits { (c : Found) × (reached path.now norm.now ≡ Some c) }
-    ensures { IfOk result (λ proof. (t : Statements) (v : List ℕ) (h : List Formula) (c : Found) → length v ≤ 1000000000 → Sorted t.vocabulary v norm.now
+    ensures { IfOk result (λ proof. (t : Statements) (v : List ℕ) (h : List Formula) (c : Found) → length v ≤ 1000000000
+        → Sorted t.vocabulary v norm.now
         → reached path.now norm.now ≡ Some c → Proves t v h proof (Imp norm.now (closed c))) }
 {
     along(alloc, norm, path)
@@ -157,7 +158,9 @@ fn gathered(
     whole: &Clause,
     arms: Items<Proof>,
 ) -> Result<Part, Memory>
-    ensures { IfOk result (λ made. Suits (Or forms.now) whole.now → PartsFrom (ArmAt whole.now forms.now) 0 forms.now arms → Between true (length whole.now.sorts) made (Or forms.now) (closed whole.now)) }
+    ensures { IfOk result (λ made. Suits (Or forms.now) whole.now
+        → PartsFrom (ArmAt whole.now forms.now) 0 forms.now arms
+        → Between true (length whole.now.sorts) made (Or forms.now) (closed whole.now)) }
 {
     let own = hyp(alloc, 0)?;
     let last = or_e(alloc, close(alloc, whole)?, own, arms)?;

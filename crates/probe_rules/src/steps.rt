@@ -1,6 +1,7 @@
 // The rules of clauses.
 ghost use Rattle.clause_form.specs.Covers.{CoversBy, scope_of};
-ghost use Rattle.clause_rules.specs.Answers.{IsAnswer, IsFirst, cover, eqfactor, norm as by_norm, paramodulation, resolution, rewrite, tautology};
+ghost use Rattle.clause_rules.specs.Answers.{IsAnswer, IsFirst, cover, eqfactor, norm as by_norm, paramodulation};
+ghost use Rattle.clause_rules.specs.Answers.{resolution, rewrite, tautology};
 ghost use Rattle.clause_rules.specs.NormRule.{IsFirstNorm, IsNormStep};
 ghost use Rattle.clause_rules.specs.Settled.{IsFit, Settles};
 ghost use Rattle.clause_rules.specs.Steps.{AreReady, IsReady};

@@ -5,7 +5,8 @@ ghost use Rattle.fof_terms.specs.Occurs.{occurs_in};
 ghost use Rattle.fof_terms.specs.Scope.{scope_sorts};
 ghost use Rattle.fof_terms.specs.Sorts.{Sorted, sort_of_term};
 ghost use Rattle.fof_terms.specs.Vocabulary.{IsDeclared, found_symbol};
-ghost use Rattle.std.specs.Prelude.{IfOk, IsErrOf, IsTrue, OnErr, OnOk, [], length, reverse, ◌++◌, ◌+◌, ◌<◌, ◌^◌, ◌↔◌, ◌∷◌, ◌≡◌};
+ghost use Rattle.std.specs.Prelude.{IfOk, IsErrOf, IsTrue, OnErr, OnOk, [], length, reverse, ◌++◌, ◌+◌, ◌<◌, ◌^◌, ◌↔◌};
+ghost use Rattle.std.specs.Prelude.{◌∷◌, ◌≡◌};
 ghost use Rattle.tptp_base.specs.declared.limit.LimitName.TheVariants.{Sorts, Symbols};
 ghost use Rattle.tptp_base.specs.declared.limit.LimitName.{LimitName as limit_name};
 

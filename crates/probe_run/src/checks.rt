@@ -19,8 +19,8 @@ use verifier::RunFault;
 
 /// Checks derivations.
 pub trait Checking {
-    /// Checks a derivation in the theory of its given formulas: writes the log, with a last entry where all is verified,
-    /// and gives the report.
+    /// Checks a derivation in the theory of its given formulas: writes the log, with a last entry where all is
+    /// verified, and gives the report.
     fn check_derivation<K: Sink>(
         alloc: Global,
         asked: &Asked<'_>,
@@ -36,7 +36,9 @@ pub trait Checking {
         requires ordered { IsOrdered derivation.now.graph.nodes derivation.now.graph }
         requires given { All (IsSentence theory.old.vocabulary) theory.old.formulas }
         requires lines { All (IsSentence signature.now) derivation.now.forms }
-        ensures checks { IfOk result (λ report. ChecksWithLog (asked_of asked.now) theory.old derivation.now signature.now report (K.taken log.old) (K.taken log.new)) }
+        ensures checks { IfOk result (λ report.
+            ChecksWithLog (asked_of asked.now) theory.old derivation.now signature.now report (K.taken log.old)
+            (K.taken log.new)) }
         ensures log { TakesSomeOfLog theory.old (K.taken log.old) (K.taken log.new) }
         ensures cause { IfErr result (λ fault. HasCause fault (Rose (K.faults log.old) (K.faults log.new))) }
         ensures more_faults { K.faults log.old ≤ K.faults log.new };

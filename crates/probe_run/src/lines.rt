@@ -25,8 +25,8 @@ use verifier::{Outcome, RunFault, close_log, declare, run_lines};
 
 /// Runs lines and logs their entries.
 pub trait Running {
-    /// Runs the lines of a derivation in the theory of its given formulas, in the order of its graph, and answers each in
-    /// the order of the text.
+    /// Runs the lines of a derivation in the theory of its given formulas, in the order of its graph, and answers each
+    /// in the order of the text.
     fn run_lines<K: Sink>(
         alloc: Global,
         forms: &[Form],
@@ -38,7 +38,14 @@ pub trait Running {
         requires ordered { IsOrdered graph.now.nodes graph.now }
         requires given { All (IsReady theory.old.vocabulary) theory.old.formulas }
         requires lines { All (IsReady theory.old.vocabulary) forms.now }
-        ensures ran { IfOk result (λ ran. LogsRun theory.old (record { given = theory.old.formulas; nodes = graph.now.nodes; forms = forms.now }) graph.now.order ran.answers ran.numbers theory.new (K.taken log.old) (K.taken log.new)) }
+        ensures ran { IfOk result (λ ran.
+            LogsRun theory.old
+            (record {
+              given = theory.old.formulas;
+              nodes = graph.now.nodes;
+              forms =
+                  forms.now;
+            }) graph.now.order ran.answers ran.numbers theory.new (K.taken log.old) (K.taken log.new)) }
         ensures cut { OnErr result (LogsSome theory.old (K.taken log.old) (K.taken log.new)) }
         ensures cause { IfErr result (λ fault. HasCause fault (Rose (K.faults log.old) (K.faults log.new))) }
         ensures more_faults { K.faults log.old ≤ K.faults log.new };
@@ -51,9 +58,13 @@ pub trait Running {
         log: &mut K,
     ) -> Result<(), RunFault>
         requires { CanAdmit theory.old (Declarations.declarations theory.old.vocabulary signature.now) }
-        ensures admits { OnOk result (Admits theory.old (Declarations.declarations theory.old.vocabulary signature.now) theory.new) }
-        ensures logged { OnOk result (Takes (K.taken log.old) (K.taken log.new) (entries_text (Declarations.declarations theory.old.vocabulary signature.now))) }
-        ensures in_range { OnOk result (HaveNumbersInRange (Declarations.declarations theory.old.vocabulary signature.now)) }
+        ensures admits { OnOk result
+            (Admits theory.old (Declarations.declarations theory.old.vocabulary signature.now) theory.new) }
+        ensures logged { OnOk result
+            (Takes (K.taken log.old) (K.taken log.new)
+            (entries_text (Declarations.declarations theory.old.vocabulary signature.now))) }
+        ensures in_range { OnOk result
+            (HaveNumbersInRange (Declarations.declarations theory.old.vocabulary signature.now)) }
         ensures cut { OnErr result (LogsSome theory.old (K.taken log.old) (K.taken log.new)) }
         ensures cause { IfErr result (λ fault. HasCause fault (Rose (K.faults log.old) (K.faults log.new))) }
         ensures more_faults { K.faults log.old ≤ K.faults log.new };
@@ -69,7 +80,8 @@ pub trait Running {
     ) -> Result<(), RunFault>
         requires { IsVerified verdict.now → HasFalseLine forms.now numbers.now }
         ensures closes { OnOk result (ClosesLog verdict.now forms.now numbers.now (K.taken log.old) (K.taken log.new)) }
-        ensures cut { (t : Statements) → LinesStand t forms.now numbers.now → OnErr result (LogsSome t (K.taken log.old) (K.taken log.new)) }
+        ensures cut { (t : Statements) → LinesStand t forms.now numbers.now
+            → OnErr result (LogsSome t (K.taken log.old) (K.taken log.new)) }
         ensures cause { IfErr result (λ fault. HasCause fault (Rose (K.faults log.old) (K.faults log.new))) }
         ensures more_faults { K.faults log.old ≤ K.faults log.new };
 }

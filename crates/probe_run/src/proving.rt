@@ -70,7 +70,9 @@ pub trait Proving {
         requires parent { IsReady signature.now parent.now.form }
         requires line { IsReady signature.now line.now }
         requires alike { AreAlike parent.now.form line.now }
-        ensures { IfOk result (λ proof. (formulas : ListOf Formula) → slice_get formulas parent.now.number ≡ Some parent.now.form → Proves (theory_of signature.now formulas) [] [] proof line.now) };
+        ensures { IfOk result (λ proof. (formulas : ListOf Formula)
+            → slice_get formulas parent.now.number ≡ Some parent.now.form
+            → Proves (theory_of signature.now formulas) [] [] proof line.now) };
 
     /// The entries of a line that puts functions in place of a parent's existential variables.
     fn skolem_entries(

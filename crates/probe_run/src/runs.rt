@@ -28,28 +28,35 @@ pub trait Commanding {
             (O.taken out.old) (O.taken out.new) (L.taken log.old) (L.taken log.new)) }
 
         // The log of a success is a list of legal entries that leads from what the problem gives to falsehood.
-        ensures sound { result ≡ 0 → IfSome (S.files store.old) (λ files. (request : Request) → IsForm (texts words.now) request
+        ensures sound { result ≡ 0
+            → IfSome (S.files store.old) (λ files. (request : Request) → IsForm (texts words.now) request
             → (problem derivation : List ℕ) (named : Option (List ℕ)) → request.task ≡ Verify problem derivation named
             → IsRefutation files request.root problem (L.taken log.old) (L.taken log.new)) }
 
         // An answer to a good derivation is that it is verified.
-        ensures good { IsAnswer result → IfSome (S.files store.old) (λ files. (request : Request) → IsForm (texts words.now) request
+        ensures good { IsAnswer result
+            → IfSome (S.files store.old) (λ files. (request : Request) → IsForm (texts words.now) request
             → (problem derivation : List ℕ) (named : Option (List ℕ)) → request.task ≡ Verify problem derivation named
             → AreGood files request.root problem derivation → result ≡ 0) }
 
         // An answer to a task that meets no fault in the files is that it succeeded.
-        ensures complete { IsAnswer result → IfSome (S.files store.old) (λ files. (request : Request) → IsForm (texts words.now) request
+        ensures complete { IsAnswer result
+            → IfSome (S.files store.old) (λ files. (request : Request) → IsForm (texts words.now) request
             → MeetsNoFault files request.root request.task → result ≡ 0) }
 
         // A file is said to be missing only where the store answered that it is.
-        ensures missing { result ≡ 3 → IfSome (S.files store.old) (λ files. (request : Request) → IsForm (texts words.now) request
+        ensures missing { result ≡ 3
+            → IfSome (S.files store.old) (λ files. (request : Request) → IsForm (texts words.now) request
             → SaysMissing files request.root request.task → Rose (S.absents store.old) (S.absents store.new)) }
 
         // Over any store: an answer, or a fault of the outside in this call, or want of memory.
         ensures status { IsAnswer result ⊎ ((4 ≤ result) × (result ≤ 6)) }
-        ensures absence { result ≡ 3 → Rose (S.absents store.old) (S.absents store.new) ⊎ TakesOtherFault (S.files store.old) (texts words.now) (O.taken out.old) (O.taken out.new) }
+        ensures absence { result ≡ 3
+            → Rose (S.absents store.old) (S.absents store.new)
+            ⊎ TakesOtherFault (S.files store.old) (texts words.now) (O.taken out.old) (O.taken out.new) }
         ensures store_fault { result ≡ 4 → Rose (S.faults store.old) (S.faults store.new) }
-        ensures sink_fault { result ≡ 5 → Rose (O.faults out.old) (O.faults out.new) ⊎ Rose (L.faults log.old) (L.faults log.new) };
+        ensures sink_fault { result ≡ 5
+            → Rose (O.faults out.old) (O.faults out.new) ⊎ Rose (L.faults log.old) (L.faults log.new) };
 }
 
 impl Commanding for Probe {

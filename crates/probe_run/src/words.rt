@@ -16,7 +16,8 @@ pub trait Asking {
 
     /// The name of the log, if the words ask for one.
     fn log_name(words: &[String]) -> Option<&str>
-        ensures asked { (request : Request) → IsForm (texts words.now) request → option_copied result ≡ spec.log_of request.task }
+        ensures asked { (request : Request) → IsForm (texts words.now) request
+            → option_copied result ≡ spec.log_of request.task }
         ensures nothing { HaveNoForm (texts words.now) → result ≡ None };
 }
 

@@ -32,7 +32,8 @@ pub fn check_entries(theory: &mut Theory, entries: &[Entry]) -> Result<(), Check
     ensures admitted { Leaves theory.old entries.now result theory.new }
     // Each of these answers comes wherever it is true, unless memory runs out.
     ensures refuted { Refutes theory.old entries.now → IfErr result (λ fault. fault ≡ CheckFault.Memory) }
-    ensures illegal { (number : ℕ) → IsFirstIllegal theory.old entries.now number → IsFaultedFor (CheckFault.Illegal number) result }
+    ensures illegal { (number : ℕ) → IsFirstIllegal theory.old entries.now number
+        → IsFaultedFor (CheckFault.Illegal number) result }
     ensures unrefuted { IsNotRefuted theory.old entries.now → IsFaultedFor CheckFault.NotRefuted result }
 {
     admit_all(theory, entries)

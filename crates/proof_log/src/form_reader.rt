@@ -31,7 +31,8 @@ pub fn form(alloc: Global, text: &mut Cursor<'_>, room: usize) -> Result<Boxed<F
 // A form whose parts have this room.
 #[cycle(form)]
 fn form_within(alloc: Global, text: &mut Cursor<'_>, room: usize) -> Result<Boxed<Form>, Stop>
-    ensures { Reads (spec.behind (head form_name form_names) (spec.form_by (spec.term room) (spec.form room)) text.old) result text.new }
+    ensures { Reads (spec.behind (head form_name form_names)
+        (spec.form_by (spec.term room) (spec.form room)) text.old) result text.new }
 {
     let name = head(text, &FORM_NAMES)?;
     form_of(alloc, text, room, name)

@@ -32,7 +32,8 @@ pub fn proof(alloc: Global, text: &mut Cursor<'_>, room: usize) -> Result<Boxed<
 // A proof whose parts have this room.
 #[cycle(proof)]
 fn proof_within(alloc: Global, text: &mut Cursor<'_>, room: usize) -> Result<Boxed<Proof>, Stop>
-    ensures { Reads (spec.behind (head proof_name proof_names) (spec.proof_by (spec.term room) (spec.form room) (spec.proof room)) text.old) result text.new }
+    ensures { Reads (spec.behind (head proof_name proof_names)
+        (spec.proof_by (spec.term room) (spec.form room) (spec.proof room)) text.old) result text.new }
 {
     let name = head(text, &PROOF_NAMES)?;
     proof_of(alloc, text, room, name)
@@ -89,14 +90,16 @@ pub fn proofs(alloc: Global, text: &mut Cursor<'_>, room: usize) -> Result<List<
 }
 
 fn line(alloc: Global, text: &mut Cursor<'_>, room: usize) -> Result<Boxed<Proof>, Stop>
-    ensures { Reads (spec.proof_by (spec.term room) (spec.form room) (spec.proof room) ProofName.Line text.old) result text.new }
+    ensures { Reads (spec.proof_by (spec.term room) (spec.form room)
+        (spec.proof room) ProofName.Line text.old) result text.new }
 {
     let line = large(text)?;
     Ok(Boxed::new(alloc, Proof::Line(line))?)
 }
 
 fn hypothesis(alloc: Global, text: &mut Cursor<'_>, room: usize) -> Result<Boxed<Proof>, Stop>
-    ensures { Reads (spec.proof_by (spec.term room) (spec.form room) (spec.proof room) ProofName.Hyp text.old) result text.new }
+    ensures { Reads (spec.proof_by (spec.term room) (spec.form room)
+        (spec.proof room) ProofName.Hyp text.old) result text.new }
 {
     let hypothesis = small(text)?;
     Ok(Boxed::new(alloc, Proof::Hyp(hypothesis))?)
@@ -104,7 +107,8 @@ fn hypothesis(alloc: Global, text: &mut Cursor<'_>, room: usize) -> Result<Boxed
 
 #[cycle(proof)]
 fn and_intro(alloc: Global, text: &mut Cursor<'_>, room: usize) -> Result<Boxed<Proof>, Stop>
-    ensures { Reads (spec.proof_by (spec.term room) (spec.form room) (spec.proof room) ProofName.AndI text.old) result text.new }
+    ensures { Reads (spec.proof_by (spec.term room) (spec.form room)
+        (spec.proof room) ProofName.AndI text.old) result text.new }
 {
     let parts = proofs(alloc, text, room)?;
     Ok(Boxed::new(alloc, Proof::AndI(parts))?)
@@ -112,7 +116,8 @@ fn and_intro(alloc: Global, text: &mut Cursor<'_>, room: usize) -> Result<Boxed<
 
 #[cycle(proof)]
 fn and_elim(alloc: Global, text: &mut Cursor<'_>, room: usize) -> Result<Boxed<Proof>, Stop>
-    ensures { Reads (spec.proof_by (spec.term room) (spec.form room) (spec.proof room) ProofName.AndE text.old) result text.new }
+    ensures { Reads (spec.proof_by (spec.term room) (spec.form room)
+        (spec.proof room) ProofName.AndE text.old) result text.new }
 {
     let member = small(text)?;
     let part = proof(alloc, text, room)?;
@@ -121,7 +126,8 @@ fn and_elim(alloc: Global, text: &mut Cursor<'_>, room: usize) -> Result<Boxed<P
 
 #[cycle(proof)]
 fn or_intro(alloc: Global, text: &mut Cursor<'_>, room: usize) -> Result<Boxed<Proof>, Stop>
-    ensures { Reads (spec.proof_by (spec.term room) (spec.form room) (spec.proof room) ProofName.OrI text.old) result text.new }
+    ensures { Reads (spec.proof_by (spec.term room) (spec.form room)
+        (spec.proof room) ProofName.OrI text.old) result text.new }
 {
     let members = forms(alloc, text, room)?;
     let member = small(text)?;
@@ -131,7 +137,8 @@ fn or_intro(alloc: Global, text: &mut Cursor<'_>, room: usize) -> Result<Boxed<P
 
 #[cycle(proof)]
 fn or_elim(alloc: Global, text: &mut Cursor<'_>, room: usize) -> Result<Boxed<Proof>, Stop>
-    ensures { Reads (spec.proof_by (spec.term room) (spec.form room) (spec.proof room) ProofName.OrE text.old) result text.new }
+    ensures { Reads (spec.proof_by (spec.term room) (spec.form room)
+        (spec.proof room) ProofName.OrE text.old) result text.new }
 {
     let goal = form(alloc, text, room)?;
     let part = proof(alloc, text, room)?;
@@ -141,7 +148,8 @@ fn or_elim(alloc: Global, text: &mut Cursor<'_>, room: usize) -> Result<Boxed<Pr
 
 #[cycle(proof)]
 fn implies_intro(alloc: Global, text: &mut Cursor<'_>, room: usize) -> Result<Boxed<Proof>, Stop>
-    ensures { Reads (spec.proof_by (spec.term room) (spec.form room) (spec.proof room) ProofName.ImpI text.old) result text.new }
+    ensures { Reads (spec.proof_by (spec.term room) (spec.form room)
+        (spec.proof room) ProofName.ImpI text.old) result text.new }
 {
     let form = form(alloc, text, room)?;
     let part = proof(alloc, text, room)?;
@@ -150,7 +158,8 @@ fn implies_intro(alloc: Global, text: &mut Cursor<'_>, room: usize) -> Result<Bo
 
 #[cycle(proof)]
 fn implies_elim(alloc: Global, text: &mut Cursor<'_>, room: usize) -> Result<Boxed<Proof>, Stop>
-    ensures { Reads (spec.proof_by (spec.term room) (spec.form room) (spec.proof room) ProofName.ImpE text.old) result text.new }
+    ensures { Reads (spec.proof_by (spec.term room) (spec.form room)
+        (spec.proof room) ProofName.ImpE text.old) result text.new }
 {
     let left = proof(alloc, text, room)?;
     let right = proof(alloc, text, room)?;
@@ -159,7 +168,8 @@ fn implies_elim(alloc: Global, text: &mut Cursor<'_>, room: usize) -> Result<Box
 
 #[cycle(proof)]
 fn not_intro(alloc: Global, text: &mut Cursor<'_>, room: usize) -> Result<Boxed<Proof>, Stop>
-    ensures { Reads (spec.proof_by (spec.term room) (spec.form room) (spec.proof room) ProofName.NotI text.old) result text.new }
+    ensures { Reads (spec.proof_by (spec.term room) (spec.form room)
+        (spec.proof room) ProofName.NotI text.old) result text.new }
 {
     let form = form(alloc, text, room)?;
     let part = proof(alloc, text, room)?;
@@ -168,7 +178,8 @@ fn not_intro(alloc: Global, text: &mut Cursor<'_>, room: usize) -> Result<Boxed<
 
 #[cycle(proof)]
 fn not_elim(alloc: Global, text: &mut Cursor<'_>, room: usize) -> Result<Boxed<Proof>, Stop>
-    ensures { Reads (spec.proof_by (spec.term room) (spec.form room) (spec.proof room) ProofName.NotE text.old) result text.new }
+    ensures { Reads (spec.proof_by (spec.term room) (spec.form room)
+        (spec.proof room) ProofName.NotE text.old) result text.new }
 {
     let left = proof(alloc, text, room)?;
     let right = proof(alloc, text, room)?;
@@ -177,7 +188,8 @@ fn not_elim(alloc: Global, text: &mut Cursor<'_>, room: usize) -> Result<Boxed<P
 
 #[cycle(proof)]
 fn by_contradiction(alloc: Global, text: &mut Cursor<'_>, room: usize) -> Result<Boxed<Proof>, Stop>
-    ensures { Reads (spec.proof_by (spec.term room) (spec.form room) (spec.proof room) ProofName.Raa text.old) result text.new }
+    ensures { Reads (spec.proof_by (spec.term room) (spec.form room)
+        (spec.proof room) ProofName.Raa text.old) result text.new }
 {
     let form = form(alloc, text, room)?;
     let part = proof(alloc, text, room)?;
@@ -186,7 +198,8 @@ fn by_contradiction(alloc: Global, text: &mut Cursor<'_>, room: usize) -> Result
 
 #[cycle(proof)]
 fn iff_intro(alloc: Global, text: &mut Cursor<'_>, room: usize) -> Result<Boxed<Proof>, Stop>
-    ensures { Reads (spec.proof_by (spec.term room) (spec.form room) (spec.proof room) ProofName.IffI text.old) result text.new }
+    ensures { Reads (spec.proof_by (spec.term room) (spec.form room)
+        (spec.proof room) ProofName.IffI text.old) result text.new }
 {
     let left = form(alloc, text, room)?;
     let right = form(alloc, text, room)?;
@@ -200,7 +213,8 @@ fn iff_intro(alloc: Global, text: &mut Cursor<'_>, room: usize) -> Result<Boxed<
 
 #[cycle(proof)]
 fn iff_left(alloc: Global, text: &mut Cursor<'_>, room: usize) -> Result<Boxed<Proof>, Stop>
-    ensures { Reads (spec.proof_by (spec.term room) (spec.form room) (spec.proof room) ProofName.IffL text.old) result text.new }
+    ensures { Reads (spec.proof_by (spec.term room) (spec.form room)
+        (spec.proof room) ProofName.IffL text.old) result text.new }
 {
     let left = proof(alloc, text, room)?;
     let right = proof(alloc, text, room)?;
@@ -209,7 +223,8 @@ fn iff_left(alloc: Global, text: &mut Cursor<'_>, room: usize) -> Result<Boxed<P
 
 #[cycle(proof)]
 fn iff_right(alloc: Global, text: &mut Cursor<'_>, room: usize) -> Result<Boxed<Proof>, Stop>
-    ensures { Reads (spec.proof_by (spec.term room) (spec.form room) (spec.proof room) ProofName.IffR text.old) result text.new }
+    ensures { Reads (spec.proof_by (spec.term room) (spec.form room)
+        (spec.proof room) ProofName.IffR text.old) result text.new }
 {
     let left = proof(alloc, text, room)?;
     let right = proof(alloc, text, room)?;
@@ -218,7 +233,8 @@ fn iff_right(alloc: Global, text: &mut Cursor<'_>, room: usize) -> Result<Boxed<
 
 #[cycle(proof)]
 fn all_intro(alloc: Global, text: &mut Cursor<'_>, room: usize) -> Result<Boxed<Proof>, Stop>
-    ensures { Reads (spec.proof_by (spec.term room) (spec.form room) (spec.proof room) ProofName.AllI text.old) result text.new }
+    ensures { Reads (spec.proof_by (spec.term room) (spec.form room)
+        (spec.proof room) ProofName.AllI text.old) result text.new }
 {
     let sort = small(text)?;
     let part = proof(alloc, text, room)?;
@@ -227,7 +243,8 @@ fn all_intro(alloc: Global, text: &mut Cursor<'_>, room: usize) -> Result<Boxed<
 
 #[cycle(proof)]
 fn all_elim(alloc: Global, text: &mut Cursor<'_>, room: usize) -> Result<Boxed<Proof>, Stop>
-    ensures { Reads (spec.proof_by (spec.term room) (spec.form room) (spec.proof room) ProofName.AllE text.old) result text.new }
+    ensures { Reads (spec.proof_by (spec.term room) (spec.form room)
+        (spec.proof room) ProofName.AllE text.old) result text.new }
 {
     let term = term(alloc, text, room)?;
     let part = proof(alloc, text, room)?;
@@ -236,7 +253,8 @@ fn all_elim(alloc: Global, text: &mut Cursor<'_>, room: usize) -> Result<Boxed<P
 
 #[cycle(proof)]
 fn exists_intro(alloc: Global, text: &mut Cursor<'_>, room: usize) -> Result<Boxed<Proof>, Stop>
-    ensures { Reads (spec.proof_by (spec.term room) (spec.form room) (spec.proof room) ProofName.ExI text.old) result text.new }
+    ensures { Reads (spec.proof_by (spec.term room) (spec.form room)
+        (spec.proof room) ProofName.ExI text.old) result text.new }
 {
     let sort = small(text)?;
     let form = form(alloc, text, room)?;
@@ -250,7 +268,8 @@ fn exists_intro(alloc: Global, text: &mut Cursor<'_>, room: usize) -> Result<Box
 
 #[cycle(proof)]
 fn exists_elim(alloc: Global, text: &mut Cursor<'_>, room: usize) -> Result<Boxed<Proof>, Stop>
-    ensures { Reads (spec.proof_by (spec.term room) (spec.form room) (spec.proof room) ProofName.ExE text.old) result text.new }
+    ensures { Reads (spec.proof_by (spec.term room) (spec.form room)
+        (spec.proof room) ProofName.ExE text.old) result text.new }
 {
     let goal = form(alloc, text, room)?;
     let left = proof(alloc, text, room)?;
@@ -259,7 +278,8 @@ fn exists_elim(alloc: Global, text: &mut Cursor<'_>, room: usize) -> Result<Boxe
 }
 
 fn reflexivity(alloc: Global, text: &mut Cursor<'_>, room: usize) -> Result<Boxed<Proof>, Stop>
-    ensures { Reads (spec.proof_by (spec.term room) (spec.form room) (spec.proof room) ProofName.Refl text.old) result text.new }
+    ensures { Reads (spec.proof_by (spec.term room) (spec.form room)
+        (spec.proof room) ProofName.Refl text.old) result text.new }
 {
     let term = term(alloc, text, room)?;
     Ok(Boxed::new(alloc, Proof::Refl(term.into_inner()))?)
@@ -267,7 +287,8 @@ fn reflexivity(alloc: Global, text: &mut Cursor<'_>, room: usize) -> Result<Boxe
 
 #[cycle(proof)]
 fn substitution(alloc: Global, text: &mut Cursor<'_>, room: usize) -> Result<Boxed<Proof>, Stop>
-    ensures { Reads (spec.proof_by (spec.term room) (spec.form room) (spec.proof room) ProofName.Subst text.old) result text.new }
+    ensures { Reads (spec.proof_by (spec.term room) (spec.form room)
+        (spec.proof room) ProofName.Subst text.old) result text.new }
 {
     let sort = small(text)?;
     let form = form(alloc, text, room)?;
@@ -278,7 +299,8 @@ fn substitution(alloc: Global, text: &mut Cursor<'_>, room: usize) -> Result<Box
 
 #[cycle(proof)]
 fn inhabited(alloc: Global, text: &mut Cursor<'_>, room: usize) -> Result<Boxed<Proof>, Stop>
-    ensures { Reads (spec.proof_by (spec.term room) (spec.form room) (spec.proof room) ProofName.Inhabit text.old) result text.new }
+    ensures { Reads (spec.proof_by (spec.term room) (spec.form room)
+        (spec.proof room) ProofName.Inhabit text.old) result text.new }
 {
     let sort = small(text)?;
     let goal = form(alloc, text, room)?;

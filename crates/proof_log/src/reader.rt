@@ -84,10 +84,13 @@ pub fn read_log(alloc: Global, bytes: &[u8]) -> Result<List<Entry>, LogFault>
     ensures answers { answers.Answers MAX_NESTING bytes.now result }
     ensures limit { IsErrOf result LogFault.Limit ↔ max_size < length bytes.now }
     // The text of a log is read, unless memory runs out.
-    ensures only { (entries : List Logged) → AreLogged entries → log_text entries ≡ bytes.now → Within MAX_NESTING (nested_log entries) → length bytes.now ≤ max_size → answers.IsReadAs entries result }
+    ensures only { (entries : List Logged) → AreLogged entries → log_text entries ≡ bytes.now
+        → Within MAX_NESTING (nested_log entries) → length bytes.now ≤ max_size → answers.IsReadAs entries result }
     // Each fault is told, unless memory runs out.
-    ensures text { (offset : ℕ) → IsFirstFault MAX_NESTING bytes.now offset → length bytes.now ≤ max_size → answers.IsRefusedFor (LogFault.Text offset) result }
-    ensures deep { (offset : ℕ) → IsFirstDeep MAX_NESTING bytes.now offset → length bytes.now ≤ max_size → answers.IsRefusedFor (LogFault.Deep offset) result }
+    ensures text { (offset : ℕ) → IsFirstFault MAX_NESTING bytes.now offset → length bytes.now ≤ max_size
+        → answers.IsRefusedFor (LogFault.Text offset) result }
+    ensures deep { (offset : ℕ) → IsFirstDeep MAX_NESTING bytes.now offset → length bytes.now ≤ max_size
+        → answers.IsRefusedFor (LogFault.Deep offset) result }
 {
     if bytes.len() as u64 > FILE_SIZE {
         return Err(LogFault::Limit);

@@ -29,8 +29,8 @@ pub fn write_header<K: Sink>(sink: &mut K) -> Result<(), SinkFault>
     put_all(sink, HEADER)
 }
 
-/// Appends the line of an entry; on a refusal a prefix of it. The line is made first, and written in one piece. Each number
-/// in it fits its type, as it is read back.
+/// Appends the line of an entry; on a refusal a prefix of it. The line is made first, and written in one piece. Each
+/// number in it fits its type, as it is read back.
 pub fn write_entry<K: Sink>(alloc: Global, entry: &Entry, sink: &mut K) -> Result<(), SinkFault>
     ensures ok { OnOk result (Takes (K.taken sink.old) (K.taken sink.new) (entry_text entry.now)) }
     ensures in_range { OnOk result (AreNumbersInRange entry.now) }
@@ -110,7 +110,8 @@ fn put_decl(decl: &Decl, line: &mut Vec<u8>) -> Result<(), AllocError>
 
 // Appends a declared symbol.
 fn put_symbol(symbol: &Symbol, line: &mut Vec<u8>) -> Result<(), AllocError>
-    ensures text { OnOk result (line.new.items ≡ line.old.items ++ symbol_text symbol.now.kind symbol.now.name symbol.now.args symbol.now.result) }
+    ensures text { OnOk result (line.new.items ≡ line.old.items
+        ++ symbol_text symbol.now.kind symbol.now.name symbol.now.args symbol.now.result) }
     ensures args { OnOk result (AreSmall symbol.now.args) }
     ensures small { OnOk result (IsSmall symbol.now.result) }
 {

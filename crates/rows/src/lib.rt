@@ -1,5 +1,5 @@
-//! Runs of a toolchain over files in memory, written as text and tried: the rows of a file of rows. `run_rows` is all that
-//! a program of rows calls, with the toolchain that it tries.
+//! Runs of a toolchain over files in memory, written as text and tried: the rows of a file of rows. `run_rows` is all
+//! that a program of rows calls, with the toolchain that it tries.
 #![tactic(auto)]
 
 mod bytes;

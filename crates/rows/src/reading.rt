@@ -18,8 +18,8 @@ pub struct Draft<'a> {
     pub lines: Vec<SettingLine<'a>>,
 }
 
-/// The rows of a text, in its order. What their lines say is not looked at, so a long text that is written in short takes no memory
-/// yet.
+/// The rows of a text, in its order. What their lines say is not looked at, so a long text that is written in short
+/// takes no memory yet.
 pub fn read_drafts(alloc: Global, text: &str) -> Result<Vec<Draft<'_>>, RowFault> {
     let mut reader = Reader {
         alloc,

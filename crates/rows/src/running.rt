@@ -12,8 +12,9 @@ use std::rt::{Env, Files};
 use std::{env, fs};
 use tptp_base::Memory;
 
-/// Tries the rows of each file that the words of the command line name, and prints what differs and how many rows there are.
-/// The exit status is 1 where a row differs, where a file cannot be read or has no row, and where no file is named.
+/// Tries the rows of each file that the words of the command line name, and prints what differs and how many rows there
+/// are. The exit status is 1 where a row differs, where a file cannot be read or has no row, and where no file is
+/// named.
 pub fn run_rows<R: Env + Files + Print + AllocGlobal, T: Toolchain>(
     rt: &R,
     toolchain: &T,
@@ -74,8 +75,8 @@ struct Tried {
     log: Vec<u8>,
 }
 
-// Runs a row over the log that the row before has written. It is run once more, over a store that gives a byte at a time, where
-// nothing differs, no call is to fail, and the row does not want the plain store alone.
+// Runs a row over the log that the row before has written. It is run once more, over a store that gives a byte at a
+// time, where nothing differs, no call is to fail, and the row does not want the plain store alone.
 fn try_row<T: Toolchain>(
     toolchain: &T,
     alloc: Global,

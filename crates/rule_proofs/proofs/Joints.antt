@@ -12,12 +12,12 @@ use Rattle.clause_form.specs.Covers.{lit_image, scope_of, AreSorted}
 use Rattle.unify_terms.specs.Substitution.{image_at}
 use Rattle.clause_rules.specs.Steps.{AreReady, IsClauseAt, IsJoint, images_of_parents, instances, apart_from, scope_of_both}
 use Rattle.clause_rules.specs.Justified.{Shows}
-use Rattle.clause_rules.specs.Answers.{Rule as Word, IsAnswer}
+use Rattle.clause_rules.specs.Answers.{ShapeRule as Word, IsAnswer}
 use Rattle.clause_rules.specs.declared.just.Just.{Just}
 use Rattle.clause_rules.specs.declared.just.Just.TheVariants.{Resolution, Paramodulation}
 use Rattle.clause_form.specs.declared.path.Parent.{Parent}
 use Rattle.clause_form.specs.ClauseView.{clause_of}
-use Rattle.clause_rules.specs.ResolutionRule.{IsResolvent, Resolves, IsResolutionStep}
+use Rattle.clause_rules.specs.ResolutionRule.{IsResolvent, ResolvesTo, IsResolutionStep}
 use Rattle.clause_rules.specs.ParamodulationRule.{IsParamodulant, Paramodulates, IsParamodulationStep}
 use Rattle.clause_proofs.specs.declared.opening.Opened.{Opened}
 use Rattle.clause_proofs.specs.declared.premises.Premise.{Premise}
@@ -89,7 +89,7 @@ module _ (w : Vocabulary) (e : Clause) (images : List Term) (fl fr : Form) (ol o
     right_lits : rp.lits ≡ map (lit_image (image_at right_part)) or_.clause.lits
     right_lits = hr.lits ∙ ap (λ (xs : List Term). map (lit_image (image_at xs)) or_.clause.lits) eri
 
-    pub resolvent_of : (i j : ℕ) → Resolves w ol.clause or_.clause e i j (scope_of_both ol.clause or_.clause) (images_of_parents e images) → IsResolvent e.lits lp.lits rp.lits i j
+    pub resolvent_of : (i j : ℕ) → ResolvesTo w ol.clause or_.clause e i j (scope_of_both ol.clause or_.clause) (images_of_parents e images) → IsResolvent e.lits lp.lits rp.lits i j
     resolvent_of i j r =
         subst (λ (xs : List Lit). IsResolvent e.lits xs rp.lits i j) (left_instances ∙ sym left_lits)
         (subst (λ (xs : List Lit). IsResolvent e.lits (instances (images_of_parents e images) ol.clause.lits) xs i j) (right_instances ∙ sym right_lits) r.resolvent)
@@ -160,10 +160,10 @@ joint_here w images c d e x y z f g h joint =
     subst (λ (k : Clause). IsJoint w k (scope_of_both x y) images) (sym h)
     (subst (λ (k : Clause). IsJoint w e (scope_of_both k y) images) (sym f) (subst (λ (k : Clause). IsJoint w e (scope_of_both c k) images) (sym g) joint))
 
-pub resolves_here : (w : Vocabulary) (images : List Term) (c d e x y z : Clause) (i j : ℕ) → x ≡ c → y ≡ d → z ≡ e → Resolves w c d e i j (scope_of_both c d) (images_of_parents e images) → Resolves w x y z i j (scope_of_both x y) (images_of_parents z images)
+pub resolves_here : (w : Vocabulary) (images : List Term) (c d e x y z : Clause) (i j : ℕ) → x ≡ c → y ≡ d → z ≡ e → ResolvesTo w c d e i j (scope_of_both c d) (images_of_parents e images) → ResolvesTo w x y z i j (scope_of_both x y) (images_of_parents z images)
 resolves_here w images c d e x y z i j f g h r =
-    subst (λ (k : Clause). Resolves w x y k i j (scope_of_both x y) (images_of_parents k images)) (sym h)
-    (subst (λ (k : Clause). Resolves w k y e i j (scope_of_both k y) (images_of_parents e images)) (sym f) (subst (λ (k : Clause). Resolves w c k e i j (scope_of_both c k) (images_of_parents e images)) (sym g) r))
+    subst (λ (k : Clause). ResolvesTo w x y k i j (scope_of_both x y) (images_of_parents k images)) (sym h)
+    (subst (λ (k : Clause). ResolvesTo w k y e i j (scope_of_both k y) (images_of_parents e images)) (sym f) (subst (λ (k : Clause). ResolvesTo w c k e i j (scope_of_both c k) (images_of_parents e images)) (sym g) r))
 
 pub resolution_holds : (w : Vocabulary) (parents : List Parent) (line : Form) (a b i j : ℕ) (images : List Term) → Shows w parents line (Resolution a b i j images) → IsResolutionStep w parents line
 resolution_holds w parents line a b i j images (c, d, e, joint, at) = (a, b, i, j, c, d, e, scope_of_both c d, images_of_parents e images, at)

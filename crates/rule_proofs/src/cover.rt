@@ -68,7 +68,8 @@ pub fn by_cover(
     }
 }
 
-// A proof of the line by the parent of that number in the list: the line covers what the path reaches in its normal form.
+// A proof of the line by the parent of that number in the list: the line covers what the path reaches in its normal
+// form.
 fn covered(
     alloc: Global,
     signature: &Signature,
@@ -162,8 +163,8 @@ fn as_closed(clause: Clause) -> Opened
     Opened { clause, is_or }
 }
 
-// A proof of the line by a clause that it covers, with a part that shows the clause. More variables than a normal form's
-// proof can have, of which no memory has the formulas, are answered by want of memory.
+// A proof of the line by a clause that it covers, with a part that shows the clause. More variables than a normal
+// form's proof can have, of which no memory has the formulas, are answered by want of memory.
 fn cover_opened(
     alloc: Global,
     signature: &Signature,
@@ -177,8 +178,11 @@ fn cover_opened(
     requires clause { IsClosed signature.now clause.now }
     requires few { length clause.now.clause.sorts ≤ 100000 }
     requires joint { IsJoint signature.now opened.now.clause (scope_of clause.now.clause) subst.now }
-    requires covers { AreCovered opened.now.clause.lits (instances (images_of_parents opened.now.clause subst.now) clause.now.clause.lits) }
-    ensures { IfOk result (λ proof. (formulas : ListOf Formula) → ShowsAnywhere signature.now formulas (closed_form clause.now.clause) fact → Proves (theory_of signature.now formulas) [] [] proof line.now) }
+    requires covers { AreCovered opened.now.clause.lits
+        (instances (images_of_parents opened.now.clause subst.now) clause.now.clause.lits) }
+    ensures { IfOk result (λ proof. (formulas : ListOf Formula)
+        → ShowsAnywhere signature.now formulas (closed_form clause.now.clause) fact
+        → Proves (theory_of signature.now formulas) [] [] proof line.now) }
 {
     let own = opened.clause.sorts.as_slice();
     let sorts = clause.clause.sorts.as_slice();

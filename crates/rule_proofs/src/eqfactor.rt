@@ -90,7 +90,8 @@ fn factored(
 ) -> Result<Part, Memory>
     requires ready { AreReady signature.now parents.now }
     requires line { IsReady signature.now line.now }
-    requires shown { Shows signature.now parents.now line.now (ByEqFactor parent factor.first factor.first_flipped factor.second factor.second_flipped subst.now) }
+    requires shown { Shows signature.now parents.now line.now
+        (ByEqFactor parent factor.first factor.first_flipped factor.second factor.second_flipped subst.now) }
     ensures { IfOk result (ShowsLine signature.now parents.now line.now) }
 {
     let parent = &parents[parent as usize];
@@ -115,8 +116,12 @@ fn factor_opened(
     requires line { IsReadyClause signature.now line.now opened.now }
     requires parent { IsReadyClause signature.now parent.now.form clause.now }
     requires joint { IsJoint signature.now opened.now.clause (scope_of clause.now.clause) subst.now }
-    requires factors { Factors signature.now clause.now.clause opened.now.clause factor.first factor.first_flipped factor.second factor.second_flipped (scope_of clause.now.clause) (images_of_parents opened.now.clause subst.now) }
-    ensures { IfOk result (λ proof. (formulas : ListOf Formula) → slice_get formulas parent.now.number ≡ Some parent.now.form → Proves (theory_of signature.now formulas) [] [] proof line.now) }
+    requires factors { Factors signature.now clause.now.clause opened.now.clause factor.first factor.first_flipped
+        factor.second factor.second_flipped (scope_of clause.now.clause)
+        (images_of_parents opened.now.clause subst.now) }
+    ensures { IfOk result (λ proof. (formulas : ListOf Formula)
+        → slice_get formulas parent.now.number ≡ Some parent.now.form
+        → Proves (theory_of signature.now formulas) [] [] proof line.now) }
 {
     let own = opened.clause.sorts.as_slice();
     let sorts = clause.clause.sorts.as_slice();
@@ -137,10 +142,13 @@ fn refute_factor(
     premise: Premise,
     factor: Factor,
 ) -> Result<Part, Memory>
-    requires factored { IsFactored line.now.clause.lits premise.lits factor.first factor.first_flipped factor.second factor.second_flipped }
+    requires factored { IsFactored line.now.clause.lits premise.lits factor.first factor.first_flipped factor.second
+        factor.second_flipped }
     requires goal { IsGoal signature.now (scope_sorts scope.now) line.now }
     requires sorted { AreSorted signature.now (scope_sorts scope.now) premise.lits }
-    ensures { IfOk result (λ part. (formulas : ListOf Formula) → ShowsBody signature.now (scope_sorts scope.now) formulas premise.is_or premise.lits premise.part → RefutesBody signature.now (scope_sorts scope.now) formulas (body line.now) part) }
+    ensures { IfOk result (λ part. (formulas : ListOf Formula)
+        → ShowsBody signature.now (scope_sorts scope.now) formulas premise.is_or premise.lits premise.part
+        → RefutesBody signature.now (scope_sorts scope.now) formulas (body line.now) part) }
 {
     let pivot = premise.lits.as_slice()[factor.first as usize].copy(alloc)?;
     let other = premise.lits.as_slice()[factor.second as usize].copy(alloc)?;
@@ -158,11 +166,13 @@ fn two_equations(
     other: &Lit,
     factor: Factor,
 ) -> Result<Part, Memory>
-    requires factoring { (side first second : Inner) × IsFactoring line.now.clause.lits pivot.now other.now factor.first_flipped factor.second_flipped side first second }
+    requires factoring { (side first second : Inner)
+        × IsFactoring line.now.clause.lits pivot.now other.now factor.first_flipped factor.second_flipped side first second }
     requires goal { IsGoal signature.now (scope_sorts scope.now) line.now }
     requires pivot { Sorted signature.now (scope_sorts scope.now) (lit_form pivot.now) }
     requires other { Sorted signature.now (scope_sorts scope.now) (lit_form other.now) }
-    ensures { IfOk result (λ part. (formulas : ListOf Formula) → RefutesIn signature.now (scope_sorts scope.now) formulas (body line.now) (lit_form pivot.now) part) }
+    ensures { IfOk result (λ part. (formulas : ListOf Formula)
+        → RefutesIn signature.now (scope_sorts scope.now) formulas (body line.now) (lit_form pivot.now) part) }
 {
     let AtomOf::Eq(left, right) = &pivot.atom else {
         unreachable!()
@@ -197,7 +207,9 @@ fn linked(
     requires goal { IsGoal signature.now (scope_sorts scope.now) line.now }
     requires first { Sorted signature.now (scope_sorts scope.now) (Equation side.now first.now) }
     requires second { Sorted signature.now (scope_sorts scope.now) (Equation side.now second.now) }
-    ensures { IfOk result (λ part. (formulas : ListOf Formula) → RefutesIn signature.now (scope_sorts scope.now) formulas (body line.now) (lit_form (equation factor.first_flipped side.now first.now)) part) }
+    ensures { IfOk result (λ part. (formulas : ListOf Formula)
+        → RefutesIn signature.now (scope_sorts scope.now) formulas (body line.now)
+        (lit_form (equation factor.first_flipped side.now first.now)) part) }
 {
     let denied = unequal_lit(alloc, first, second)?;
     let none = contrary(alloc, signature, scope, line, &denied, 2)?;

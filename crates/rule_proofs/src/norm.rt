@@ -48,7 +48,9 @@ pub fn normed(
     requires parent { IsReady signature.now parent.now.form }
     requires line { IsReady signature.now line.now }
     requires alike { AreAlike parent.now.form line.now }
-    ensures { IfOk result (λ proof. (formulas : ListOf Formula) → slice_get formulas parent.now.number ≡ Some parent.now.form → Proves (theory_of signature.now formulas) [] [] proof line.now) }
+    ensures { IfOk result (λ proof. (formulas : ListOf Formula)
+        → slice_get formulas parent.now.number ≡ Some parent.now.form
+        → Proves (theory_of signature.now formulas) [] [] proof line.now) }
 {
     let forth = norm_forth(alloc, &parent.form)?;
     let own = imp_e(alloc, forth, formula(alloc, parent.number)?)?;

@@ -93,7 +93,9 @@ fn paramodulated(
 ) -> Result<Part, Memory>
     requires ready { AreReady signature.now parents.now }
     requires line { IsReady signature.now line.now }
-    requires shown { Shows signature.now parents.now line.now (ByParamodulation into from change.now.into_lit change.now.at change.now.from_lit change.now.flipped subst.now) }
+    requires shown { Shows signature.now parents.now line.now
+        (ByParamodulation into from change.now.into_lit change.now.at change.now.from_lit change.now.flipped
+        subst.now) }
     ensures { IfOk result (ShowsLine signature.now parents.now line.now) }
 {
     let into = &parents[into as usize];
@@ -131,9 +133,14 @@ fn paramodulate_opened(
     requires line { IsReadyClause signature.now line.now opened.now }
     requires left { IsReadyClause signature.now left.now.form left_opened.now }
     requires right { IsReadyClause signature.now right.now.form right_opened.now }
-    requires joint { IsJoint signature.now opened.now.clause (scope_of_both left_opened.now.clause right_opened.now.clause) subst.now }
-    requires paramodulates { Paramodulates signature.now left_opened.now.clause right_opened.now.clause opened.now.clause change.now.into_lit change.now.at change.now.from_lit change.now.flipped (scope_of_both left_opened.now.clause right_opened.now.clause) (images_of_parents opened.now.clause subst.now) }
-    ensures { IfOk result (λ proof. (formulas : ListOf Formula) → slice_get formulas left.now.number ≡ Some left.now.form → slice_get formulas right.now.number ≡ Some right.now.form
+    requires joint { IsJoint signature.now opened.now.clause
+        (scope_of_both left_opened.now.clause right_opened.now.clause) subst.now }
+    requires paramodulates { Paramodulates signature.now left_opened.now.clause right_opened.now.clause
+        opened.now.clause change.now.into_lit change.now.at change.now.from_lit change.now.flipped
+        (scope_of_both left_opened.now.clause right_opened.now.clause) (images_of_parents opened.now.clause subst.now) }
+    ensures { IfOk result (λ proof. (formulas : ListOf Formula)
+        → slice_get formulas left.now.number ≡ Some left.now.form
+        → slice_get formulas right.now.number ≡ Some right.now.form
         → Proves (theory_of signature.now formulas) [] [] proof line.now) }
 {
     let own = opened.clause.sorts.as_slice();
@@ -175,15 +182,18 @@ fn paramodulant(
     from: Premise,
     change: &Change,
 ) -> Result<Part, Memory>
-    requires paramodulant { IsParamodulant line.now.clause.lits into.lits from.lits change.now.into_lit change.now.at change.now.from_lit change.now.flipped }
+    requires paramodulant { IsParamodulant line.now.clause.lits into.lits from.lits change.now.into_lit change.now.at
+        change.now.from_lit change.now.flipped }
     requires few { length images.now ≤ 1000000000 }
     requires place { HasPlace lits.now change.now.into_lit change.now.at }
     requires instances { AreInstances signature.now (scope_sorts scope.now) images.now lits.now into.lits }
     requires goal { IsGoal signature.now (scope_sorts scope.now) line.now }
     requires into { AreSorted signature.now (scope_sorts scope.now) into.lits }
     requires from { AreSorted signature.now (scope_sorts scope.now) from.lits }
-    ensures { IfOk result (λ part. (formulas : ListOf Formula) → ShowsBody signature.now (scope_sorts scope.now) formulas into.is_or into.lits into.part
-        → ShowsBody signature.now (scope_sorts scope.now) formulas from.is_or from.lits from.part → RefutesBody signature.now (scope_sorts scope.now) formulas (body line.now) part) }
+    ensures { IfOk result (λ part. (formulas : ListOf Formula)
+        → ShowsBody signature.now (scope_sorts scope.now) formulas into.is_or into.lits into.part
+        → ShowsBody signature.now (scope_sorts scope.now) formulas from.is_or from.lits from.part
+        → RefutesBody signature.now (scope_sorts scope.now) formulas (body line.now) part) }
 {
     let equation = from.lits.as_slice()[change.from_lit as usize].copy(alloc)?;
     let mark = images.images.len() as u32;
@@ -205,7 +215,8 @@ fn paramodulant(
 // The literals with the variable of that number at the place.
 fn marked_at(alloc: Global, lits: &[Lit], change: &Change, mark: u32) -> Result<List<Lit>, Memory>
     requires { HasPlace lits.now change.now.into_lit change.now.at }
-    ensures { IfOk result (λ made. (k : Literal) → slice_get lits.now change.now.into_lit ≡ Some k → made ≡ slice_set lits.now change.now.into_lit (lit_put_at change.now.at (Var mark) k)) }
+    ensures { IfOk result (λ made. (k : Literal) → slice_get lits.now change.now.into_lit ≡ Some k
+        → made ≡ slice_set lits.now change.now.into_lit (lit_put_at change.now.at (Var mark) k)) }
 {
     let at = change.into_lit as usize;
     let changed = put_in(alloc, &lits[at], change.at.as_slice(), &Term::Var(mark))?;

@@ -4,7 +4,7 @@ ghost use Rattle.fof_terms.specs.declared.form.Form.{Form as Formula};
 ghost use Rattle.fof_terms.specs.Scope.{scope_sorts};
 ghost use Rattle.clause_form.specs.Covers.{AreSorted};
 ghost use Rattle.clause_rules.specs.Justified.{Shows};
-ghost use Rattle.clause_rules.specs.ResolutionRule.{IsResolvent, Resolves};
+ghost use Rattle.clause_rules.specs.ResolutionRule.{IsResolvent, ResolvesTo};
 ghost use Rattle.clause_rules.specs.Steps.{AreReady, IsJoint, IsReady, images_of_parents, scope_of_both};
 ghost use Rattle.clause_rules.specs.declared.just.Just.TheVariants.{Resolution as ByResolution};
 ghost use Rattle.clause_rules.specs.Answers.{resolution as resolution_rule};
@@ -109,9 +109,14 @@ fn resolve_opened(
     requires line { IsReadyClause signature.now line.now opened.now }
     requires left { IsReadyClause signature.now left.now.form left_opened.now }
     requires right { IsReadyClause signature.now right.now.form right_opened.now }
-    requires joint { IsJoint signature.now opened.now.clause (scope_of_both left_opened.now.clause right_opened.now.clause) subst.now }
-    requires resolves { (j : ℕ) × Resolves signature.now left_opened.now.clause right_opened.now.clause opened.now.clause left_lit j (scope_of_both left_opened.now.clause right_opened.now.clause) (images_of_parents opened.now.clause subst.now) }
-    ensures { IfOk result (λ proof. (formulas : ListOf Formula) → slice_get formulas left.now.number ≡ Some left.now.form → slice_get formulas right.now.number ≡ Some right.now.form
+    requires joint { IsJoint signature.now opened.now.clause
+        (scope_of_both left_opened.now.clause right_opened.now.clause) subst.now }
+    requires resolves { (j : ℕ)
+        × ResolvesTo signature.now left_opened.now.clause right_opened.now.clause opened.now.clause left_lit j
+        (scope_of_both left_opened.now.clause right_opened.now.clause) (images_of_parents opened.now.clause subst.now) }
+    ensures { IfOk result (λ proof. (formulas : ListOf Formula)
+        → slice_get formulas left.now.number ≡ Some left.now.form
+        → slice_get formulas right.now.number ≡ Some right.now.form
         → Proves (theory_of signature.now formulas) [] [] proof line.now) }
 {
     let own = opened.clause.sorts.as_slice();
@@ -150,8 +155,10 @@ fn resolvent(
     requires goal { IsGoal signature.now (scope_sorts scope.now) line.now }
     requires left { AreSorted signature.now (scope_sorts scope.now) left.lits }
     requires right { AreSorted signature.now (scope_sorts scope.now) right.lits }
-    ensures { IfOk result (λ part. (formulas : ListOf Formula) → ShowsBody signature.now (scope_sorts scope.now) formulas left.is_or left.lits left.part
-        → ShowsBody signature.now (scope_sorts scope.now) formulas right.is_or right.lits right.part → RefutesBody signature.now (scope_sorts scope.now) formulas (body line.now) part) }
+    ensures { IfOk result (λ part. (formulas : ListOf Formula)
+        → ShowsBody signature.now (scope_sorts scope.now) formulas left.is_or left.lits left.part
+        → ShowsBody signature.now (scope_sorts scope.now) formulas right.is_or right.lits right.part
+        → RefutesBody signature.now (scope_sorts scope.now) formulas (body line.now) part) }
 {
     let pivot = left.lits.as_slice()[left_lit as usize].copy(alloc)?;
     let under = refuted(alloc, signature, scope, line, right, &pivot)?;

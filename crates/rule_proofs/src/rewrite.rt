@@ -87,7 +87,8 @@ fn rewritten(
 ) -> Result<Part, Memory>
     requires ready { AreReady signature.now parents.now }
     requires line { IsReady signature.now line.now }
-    requires shown { Shows signature.now parents.now line.now (ByRewrite into by change.now.target change.now.flipped change.now.matching subst.now) }
+    requires shown { Shows signature.now parents.now line.now
+        (ByRewrite into by change.now.target change.now.flipped change.now.matching subst.now) }
     ensures { IfOk result (ShowsLine signature.now parents.now line.now) }
 {
     let into = &parents[into as usize];
@@ -126,9 +127,15 @@ fn rewrite_opened(
     requires left { IsReadyClause signature.now left.now.form left_opened.now }
     requires right { IsReadyClause signature.now right.now.form right_opened.now }
     requires matched { IsMatch signature.now left_opened.now.clause right_opened.now.clause change.now.matching }
-    requires joint { IsJoint signature.now opened.now.clause (scope_of_both left_opened.now.clause right_opened.now.clause) subst.now }
-    requires rewrites { Rewrites signature.now left_opened.now.clause right_opened.now.clause opened.now.clause change.now.target change.now.flipped (scope_of right_opened.now.clause) (images_of_parents left_opened.now.clause change.now.matching) (scope_of_both left_opened.now.clause right_opened.now.clause) (images_of_parents opened.now.clause subst.now) }
-    ensures { IfOk result (λ proof. (formulas : ListOf Formula) → slice_get formulas left.now.number ≡ Some left.now.form → slice_get formulas right.now.number ≡ Some right.now.form
+    requires joint { IsJoint signature.now opened.now.clause
+        (scope_of_both left_opened.now.clause right_opened.now.clause) subst.now }
+    requires rewrites { Rewrites signature.now left_opened.now.clause right_opened.now.clause opened.now.clause
+        change.now.target change.now.flipped (scope_of right_opened.now.clause)
+        (images_of_parents left_opened.now.clause change.now.matching)
+        (scope_of_both left_opened.now.clause right_opened.now.clause) (images_of_parents opened.now.clause subst.now) }
+    ensures { IfOk result (λ proof. (formulas : ListOf Formula)
+        → slice_get formulas left.now.number ≡ Some left.now.form
+        → slice_get formulas right.now.number ≡ Some right.now.form
         → Proves (theory_of signature.now formulas) [] [] proof line.now) }
 {
     let own = opened.clause.sorts.as_slice();
@@ -166,8 +173,10 @@ fn chained(
     subst: &Subst,
 ) -> Result<Subst, Memory>
     requires matching { length change.now.matching ≡ length left.now.clause.sorts + length right.now.clause.sorts }
-    requires subst { length subst.now ≡ length opened.now.clause.sorts + (length left.now.clause.sorts + length right.now.clause.sorts) }
-    ensures { IfOk result (λ images. images ≡ chained_images opened.now.clause left.now.clause right.now.clause change.now.matching subst.now) }
+    requires subst { length subst.now
+        ≡ length opened.now.clause.sorts + (length left.now.clause.sorts + length right.now.clause.sorts) }
+    ensures { IfOk result (λ images. images
+        ≡ chained_images opened.now.clause left.now.clause right.now.clause change.now.matching subst.now) }
 {
     let own = opened.clause.sorts.as_slice().len();
     let first = left.clause.sorts.as_slice().len();
@@ -191,12 +200,16 @@ fn rewriting(
     change: &Change,
 ) -> Result<Part, Memory>
     requires few { length images.now ≤ 1000000000 }
-    requires rewriting { (e : Literal) × (from.lits ≡ e ∷ []) × ((marked : ListOf Literal) → AreLitsRewritten change.now.target (Var (length images.now)) lits.now marked
-        → IsRewriting signature.now (scope_sorts scope.now) line.now.clause.lits images.now marked into.lits e change.now.flipped) }
+    requires rewriting { (e : Literal) × (from.lits ≡ e ∷ [])
+        × ((marked : ListOf Literal) → AreLitsRewritten change.now.target (Var (length images.now)) lits.now marked
+        → IsRewriting signature.now
+        (scope_sorts scope.now) line.now.clause.lits images.now marked into.lits e change.now.flipped) }
     requires goal { IsGoal signature.now (scope_sorts scope.now) line.now }
     requires from { AreSorted signature.now (scope_sorts scope.now) from.lits }
-    ensures { IfOk result (λ part. (formulas : ListOf Formula) → ShowsBody signature.now (scope_sorts scope.now) formulas into.is_or into.lits into.part
-        → ShowsBody signature.now (scope_sorts scope.now) formulas from.is_or from.lits from.part → RefutesBody signature.now (scope_sorts scope.now) formulas (body line.now) part) }
+    ensures { IfOk result (λ part. (formulas : ListOf Formula)
+        → ShowsBody signature.now (scope_sorts scope.now) formulas into.is_or into.lits into.part
+        → ShowsBody signature.now (scope_sorts scope.now) formulas from.is_or from.lits from.part
+        → RefutesBody signature.now (scope_sorts scope.now) formulas (body line.now) part) }
 {
     let equation = from.lits.as_slice()[0].copy(alloc)?;
     let mark = Term::Var(images.images.len() as u32);

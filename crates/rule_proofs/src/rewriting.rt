@@ -42,7 +42,9 @@ pub fn read(
 ) -> Result<Part, Memory>
     requires sorted { Sorted signature.now (scope_sorts scope.now) (Equation left.now right.now) }
     requires room { length (scope_sorts scope.now) < 2147483647 }
-    ensures { IfOk result (ShowsFrom signature.now (scope_sorts scope.now) 0 (lit_form (equation_of flipped left.now right.now)) (Equation left.now right.now)) }
+    ensures { IfOk result
+        (ShowsFrom signature.now (scope_sorts scope.now) 0 (lit_form (equation_of flipped left.now right.now))
+        (Equation left.now right.now)) }
 {
     let own = hyp(alloc, 0)?;
     if flipped {
@@ -53,8 +55,8 @@ pub fn read(
 }
 
 /// Falsehood under the negation of the line's body, by the instances `from`, of which the equation is the only literal
-/// that the line may not cover, and `into`, whose literals have the equation's left side for the mark of the marked ones.
-/// With its right side there, the line covers them.
+/// that the line may not cover, and `into`, whose literals have the equation's left side for the mark of the marked
+/// ones. With its right side there, the line covers them.
 pub fn by_equation(
     alloc: Global,
     signature: &Signature,
@@ -67,13 +69,16 @@ pub fn by_equation(
     into: Premise,
     from: Premise,
 ) -> Result<Part, Memory>
-    requires rewriting { IsRewriting signature.now (scope_sorts scope.now) line.now.clause.lits images.now marked.now into.lits equation.now flipped }
+    requires rewriting { IsRewriting signature.now
+        (scope_sorts scope.now) line.now.clause.lits images.now marked.now into.lits equation.now flipped }
     requires settled { AllSettled line.now.clause.lits (opposite_of equation.now) from.lits }
     requires goal { IsGoal signature.now (scope_sorts scope.now) line.now }
     requires from { AreSorted signature.now (scope_sorts scope.now) from.lits }
     requires equation { Sorted signature.now (scope_sorts scope.now) (lit_form equation.now) }
-    ensures { IfOk result (λ part. (formulas : ListOf Formula) → ShowsBody signature.now (scope_sorts scope.now) formulas into.is_or into.lits into.part
-        → ShowsBody signature.now (scope_sorts scope.now) formulas from.is_or from.lits from.part → RefutesBody signature.now (scope_sorts scope.now) formulas (body line.now) part) }
+    ensures { IfOk result (λ part. (formulas : ListOf Formula)
+        → ShowsBody signature.now (scope_sorts scope.now) formulas into.is_or into.lits into.part
+        → ShowsBody signature.now (scope_sorts scope.now) formulas from.is_or from.lits from.part
+        → RefutesBody signature.now (scope_sorts scope.now) formulas (body line.now) part) }
 {
     let under = rewritten(
         alloc, signature, scope, line, marked, images, equation, flipped, into,
@@ -93,11 +98,14 @@ fn rewritten(
     flipped: bool,
     into: Premise,
 ) -> Result<Part, Memory>
-    requires rewriting { IsRewriting signature.now (scope_sorts scope.now) line.now.clause.lits images.now marked.now into.lits equation.now flipped }
+    requires rewriting { IsRewriting signature.now
+        (scope_sorts scope.now) line.now.clause.lits images.now marked.now into.lits equation.now flipped }
     requires goal { IsGoal signature.now (scope_sorts scope.now) line.now }
     requires equation { Sorted signature.now (scope_sorts scope.now) (lit_form equation.now) }
-    ensures { IfOk result (λ part. (formulas h : ListOf Formula) → ShowsBody signature.now (scope_sorts scope.now) formulas into.is_or into.lits into.part
-        → ShowsUnder signature.now (scope_sorts scope.now) formulas (lit_form equation.now ∷ Denied (body line.now) ∷ h) (Or []) part) }
+    ensures { IfOk result (λ part. (formulas h : ListOf Formula)
+        → ShowsBody signature.now (scope_sorts scope.now) formulas into.is_or into.lits into.part
+        → ShowsUnder signature.now (scope_sorts scope.now) formulas (lit_form equation.now ∷ Denied (body line.now)
+        ∷ h) (Or []) part) }
 {
     match &equation.atom {
         AtomOf::Eq(first, second) => {
@@ -130,8 +138,10 @@ fn filled(
     requires sorted { Sorted signature.now (scope_sorts scope.now) (Equation left.now right.now) }
     requires room { length (scope_sorts scope.now) < 2147483647 }
     ensures lits { IfOk result (λ made. made.lits ≡ filled_lits images.now marked.now right.now) }
-    ensures shows { IfOk result (λ made. (formulas h : ListOf Formula) → slice_get h 0 ≡ Some (lit_form (equation_of flipped left.now right.now))
-        → ShowsUnder signature.now (scope_sorts scope.now) formulas h (body_of into.is_or into.lits) into.part → ShowsUnder signature.now (scope_sorts scope.now) formulas h (body_of made.is_or made.lits) made.part) }
+    ensures shows { IfOk result (λ made. (formulas h : ListOf Formula)
+        → slice_get h 0 ≡ Some (lit_form (equation_of flipped left.now right.now))
+        → ShowsUnder signature.now (scope_sorts scope.now) formulas h (body_of into.is_or into.lits) into.part
+        → ShowsUnder signature.now (scope_sorts scope.now) formulas h (body_of made.is_or made.lits) made.part) }
 {
     let sort = known_sort(left, signature, scope);
     let is_or = into.is_or;

@@ -1,5 +1,6 @@
 //! Lines that are true by their form.
-ghost use Rattle.std.specs.Prelude.{◌≡◌, ℕ, Some, slice_get, length, List as ListOf, IfOk, IfSome, IfNone, IsTrue, ◌↔◌, ◌⊎◌};
+ghost use Rattle.std.specs.Prelude.{◌≡◌, ℕ, Some, slice_get, length, List as ListOf, IfOk, IfSome, IfNone, IsTrue, ◌↔◌};
+ghost use Rattle.std.specs.Prelude.{◌⊎◌};
 ghost use Rattle.fof_terms.specs.declared.form.Form.{Form as Formula};
 ghost use Rattle.fof_terms.specs.Scope.{scope_sorts};
 ghost use Rattle.fof_terms.specs.Sorts.{Sorted};
@@ -59,7 +60,8 @@ fn true_by_form(
 ) -> Result<Part, Memory>
     requires trivial { IsTrivial line.now.clause.lits }
     requires goal { IsGoal signature.now (scope_sorts scope.now) line.now }
-    ensures { IfOk result (λ part. (formulas : ListOf Formula) → RefutesBody signature.now (scope_sorts scope.now) formulas (body line.now) part) }
+    ensures { IfOk result (λ part. (formulas : ListOf Formula)
+        → RefutesBody signature.now (scope_sorts scope.now) formulas (body line.now) part) }
 {
     let lits = line.clause.lits.as_slice();
     match twofold(lits) {
@@ -89,7 +91,8 @@ fn is_opposed(lits: &[Lit], lit: &Lit) -> bool
 
 // The place of a literal whose opposite is covered too; None exactly where the literals are not true by their form.
 fn twofold(lits: &[Lit]) -> Option<usize>
-    ensures some { IfSome result (λ i. (l : Literal) × (slice_get lits.now i ≡ Some l) × IsCovered lits.now (opposite_of l)) }
+    ensures some { IfSome result (λ i. (l : Literal) × (slice_get lits.now i ≡ Some l)
+        × IsCovered lits.now (opposite_of l)) }
     ensures none { IfNone result (IsTrivial lits.now → ⊥) }
 {
     for i in 0..lits.len() {
@@ -112,7 +115,8 @@ fn both_covered(
     requires other { IsCovered line.now.clause.lits (opposite_of lit.now) }
     requires goal { IsGoal signature.now (scope_sorts scope.now) line.now }
     requires sorted { Sorted signature.now (scope_sorts scope.now) (lit_form lit.now) }
-    ensures { IfOk result (λ part. (formulas : ListOf Formula) → RefutesBody signature.now (scope_sorts scope.now) formulas (body line.now) part) }
+    ensures { IfOk result (λ part. (formulas : ListOf Formula)
+        → RefutesBody signature.now (scope_sorts scope.now) formulas (body line.now) part) }
 {
     let under = contrary(alloc, signature, scope, line, lit, 1)?;
     let fact = denial(alloc, lit, under)?;

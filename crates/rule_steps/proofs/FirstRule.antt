@@ -6,9 +6,9 @@ use Rattle.fof_terms.specs.Vocabulary.{Vocabulary}
 use Rattle.fof_terms.specs.declared.form.Form.{Form}
 use Rattle.clause_form.specs.declared.path.Parent.{Parent}
 use Rattle.clause_rules.specs.declared.just.Just.{Just}
-use Rattle.clause_rules.specs.Answers.{Rule, norm, cover, tautology, resolution, paramodulation, eqfactor, rewrite, Holds, IsAnswer, place_of, IsFirst}
+use Rattle.clause_rules.specs.Answers.{ShapeRule, norm, cover, tautology, resolution, paramodulation, eqfactor, rewrite, Holds, IsAnswer, place_of, IsFirst}
 
-abbrev rule_at : ℕ → Rule
+abbrev rule_at : ℕ → ShapeRule
 rule_at zero = norm
 rule_at (suc zero) = cover
 rule_at (suc (suc zero)) = tautology
@@ -17,7 +17,7 @@ rule_at (suc (suc (suc (suc zero)))) = paramodulation
 rule_at (suc (suc (suc (suc (suc zero))))) = eqfactor
 rule_at (suc (suc (suc (suc (suc (suc n)))))) = rewrite
 
-at_place : (r : Rule) → rule_at (place_of r) ≡ r
+at_place : (r : ShapeRule) → rule_at (place_of r) ≡ r
 at_place norm = refl
 at_place cover = refl
 at_place tautology = refl
@@ -26,7 +26,7 @@ at_place paramodulation = refl
 at_place eqfactor = refl
 at_place rewrite = refl
 
-few : (r : Rule) → place_of r < 7
+few : (r : ShapeRule) → place_of r < 7
 few norm = omega arith
 few cover = omega arith
 few tautology = omega arith
@@ -37,13 +37,13 @@ few rewrite = omega arith
 
 module _ (v : Vocabulary) (parents : List Parent) (line : Form) where
   abbrev pub Below : ℕ → Type 0
-  Below n = (rule : Rule) → place_of rule < n → Holds v parents line rule → ⊥
+  Below n = (rule : ShapeRule) → place_of rule < n → Holds v parents line rule → ⊥
 
   none_below : Below 0
   none_below rule h = absurd (omega arith)
 
   -- one rule more that does not hold
-  pub extend : (r : Rule) (found : Option Just) → found ≡ None → IsAnswer v parents line r found → Below (place_of r) → Below (place_of r + 1)
+  pub extend : (r : ShapeRule) (found : Option Just) → found ≡ None → IsAnswer v parents line r found → Below (place_of r) → Below (place_of r + 1)
   extend r None e no_ below = λ rule h holds.
       elim (below_or_above (place_of rule) (place_of r)) [
         | inl lt ↦ below rule lt holds
@@ -55,11 +55,11 @@ module _ (v : Vocabulary) (parents : List Parent) (line : Form) where
   extend r (Some just) e shown below = absurd (let f = e in cc)
 
   -- the first that holds
-  pub first : (r : Rule) (found : Option Just) (just : Just) → found ≡ Some just → IsAnswer v parents line r found → Below (place_of r) → IsFirst v parents line (Some just)
+  pub first : (r : ShapeRule) (found : Option Just) (just : Just) → found ≡ Some just → IsAnswer v parents line r found → Below (place_of r) → IsFirst v parents line (Some just)
   first r None just e no_ below = absurd (let f = e in cc)
   first r (Some found) just e shown below =
       let same : found ≡ just = cc in
-      subst (λ (j : Just). IsFirst v parents line (Some j)) same (shown.1, λ rule lt. below rule (subst (λ (x : Rule). place_of rule < place_of x) shown.0 lt))
+      subst (λ (j : Just). IsFirst v parents line (Some j)) same (shown.1, λ rule lt. below rule (subst (λ (x : ShapeRule). place_of rule < place_of x) shown.0 lt))
 
   -- the last rule
   pub last : (found : Option Just) → IsAnswer v parents line rewrite found → Below 6 → IsFirst v parents line found

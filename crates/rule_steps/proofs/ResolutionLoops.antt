@@ -15,7 +15,7 @@ use Rattle.clause_rules.specs.declared.just.Just.TheVariants.{Resolution}
 use Rattle.rule_steps.specs.declared.resolution_rule.Found.{Found}
 use Rattle.clause_rules.specs.Answers.{IsAnswer, resolution, rule_of}
 use Rattle.clause_rules.specs.Justified.{Shows}
-use Rattle.clause_rules.specs.ResolutionRule.{Resolves}
+use Rattle.clause_rules.specs.ResolutionRule.{ResolvesTo}
 use Rattle.rule_steps.specs.code.ResolutionSearch.{ResolvesWith, ResolvesFrom, ShowsWith, ShowsFrom, FoundAt, FoundInSlot, FoundPivot, FoundWith, FoundFrom, FoundAmong}
 use Rattle.substitution_search.specs.Screens.{NeverPivot}
 use Rattle.rule_steps.specs.code.SlotFits.{IsSlotFit, AllFit}
@@ -64,7 +64,7 @@ module _ (v : Vocabulary) (clauses : List (Option Clause)) (line : Clause) where
         }
 
   pub in_slot : (left right : Clause) (slot : Option Clause) (i : ℕ) → slot ≡ Some right → (found : Option Found) → FoundAt v left right line i found → FoundInSlot v left slot line i found
-  in_slot left right slot i is None none = λ other e. let same : other ≡ right = cc in subst (λ (x : Clause). (j : ℕ) (more : List ℕ) (s : ℕ → Term) → Resolves v left x line i j more s → ⊥) (sym same) none
+  in_slot left right slot i is None none = λ other e. let same : other ≡ right = cc in subst (λ (x : Clause). (j : ℕ) (more : List ℕ) (s : ℕ → Term) → ResolvesTo v left x line i j more s → ⊥) (sym same) none
   in_slot left right slot i is (Some found) shown = (right, is, shown)
 
   -- the literal is no pivot, whichever the right clause
@@ -115,7 +115,7 @@ resolution_answer v parents form line clauses is same None none = λ h.
       rest = record {
         right = h.5;
         there = ap (λ (cs : List (Option Clause)). slice_get cs h.1) same ∙ at.right_clause;
-        resolves = subst (λ (x : Clause). Resolves v h.4 h.5 x h.2 h.3 h.7 h.8) e at.resolves;
+        resolves = subst (λ (x : Clause). ResolvesTo v h.4 h.5 x h.2 h.3 h.7 h.8) e at.resolves;
       };
     })
 resolution_answer v parents form line clauses is same (Some just) shown =

@@ -16,7 +16,7 @@ use Rattle.unify_terms.specs.Substitution.{image_at}
 use Rattle.clause_rules.specs.declared.joint.Joint.{Joint}
 use Rattle.rule_steps.specs.declared.resolution_rule.Found.{Found}
 use Rattle.clause_rules.specs.JointClauses.{IsJoined}
-use Rattle.clause_rules.specs.ResolutionRule.{IsResolvent, Resolves}
+use Rattle.clause_rules.specs.ResolutionRule.{IsResolvent, ResolvesTo}
 use Rattle.rule_steps.specs.code.ResolutionSearch.{resolution_needs, NeverResolves, AsksAt, FoundAt}
 use Rattle.substitution_search.specs.Screens.{NeverClash, NeverPivot}
 use Rattle.clause_rules.specs.Settled.{IsFit, Settles}
@@ -113,7 +113,7 @@ module _ (v : Vocabulary) (left right line : Clause) (left_fit : IsFit v left) (
         (subst (λ ms. Q (map (lit_image (image_at images)) line.lits) (map (lit_image (image_at images)) joint.left) (map (lit_image (image_at images)) ms)) (sym joined.right_lits)
         (subst (λ ks. Q (map (lit_image (image_at images)) line.lits) (map (lit_image (image_at images)) ks) (map (lit_image (image_at images)) (map (lit_apart (length line.sorts)) (apart_from left right.lits)))) (sym joined.left_lits) h))
 
-    pub settled : (found : Option (List Term)) → IsSolution v joint.scope goal found → Settles v line parents (Resolves v left right line i j) found
+    pub settled : (found : Option (List Term)) → IsSolution v joint.scope goal found → Settles v line parents (ResolvesTo v left right line i j) found
     settled None none = λ more s r.
         let images = made v line parents more s r.images in
         let h = held_by_made v line parents line_fit.sorted left.lits (apart_from left right.lits) Q (left_fits v left right left_fit) (right_fits v left right right_fit) more s r.images r.resolvent in
@@ -157,7 +157,7 @@ never_left line left right i j never = λ s r h. never s h.pivot h.in_left h.lef
 pub never_right : (line left right : List Lit) (i j : ℕ) → NeverPivot line right j → NeverResolves line left right i j
 never_right line left right i j never = λ s r h. never r h.opposite h.in_right h.right_covered
 
-pub no_resolution : (v : Vocabulary) (left right line : Clause) (i j : ℕ) → NeverResolves line.lits left.lits right.lits i j → (more : List ℕ) (s : ℕ → Term) → Resolves v left right line i j more s → ⊥
+pub no_resolution : (v : Vocabulary) (left right line : Clause) (i j : ℕ) → NeverResolves line.lits left.lits right.lits i j → (more : List ℕ) (s : ℕ → Term) → ResolvesTo v left right line i j more s → ⊥
 no_resolution v left right line i j never more s r =
     never s (λ k. s (k + length left.sorts)) (subst (λ ks. IsResolvent line.lits (instances s left.lits) ks i j) (images_apart s (length left.sorts) right.lits) r.resolvent)
 
@@ -174,20 +174,20 @@ module _ (v : Vocabulary) (left right line : Clause) (left_fit : IsFit v left) (
   pub asked_sorted : goal_sorted v joint.scope.sorts goal ≡ true
   asked_sorted = goal_is_sorted v left right line left_fit right_fit line_fit joint joined i j goal asks pivot_at.0 opposite_at.0 pivot_at.1 opposite_at.1
 
-  pub asked_settled : (found : Option (List Term)) → IsSolution v joint.scope goal found → Settles v line (scope_of_both left right) (Resolves v left right line i j) found
+  pub asked_settled : (found : Option (List Term)) → IsSolution v joint.scope goal found → Settles v line (scope_of_both left right) (ResolvesTo v left right line i j) found
   asked_settled = settled v left right line left_fit right_fit line_fit joint joined i j goal asks pivot_at.0 opposite_at.0 pivot_at.1 opposite_at.1
 
 -- literals of a resolution are literals of the clauses
-pub left_within : (v : Vocabulary) (left right line : Clause) (i j : ℕ) (more : List ℕ) (s : ℕ → Term) → Resolves v left right line i j more s → i < length left.lits
+pub left_within : (v : Vocabulary) (left right line : Clause) (i j : ℕ) (more : List ℕ) (s : ℕ → Term) → ResolvesTo v left right line i j more s → i < length left.lits
 left_within v left right line i j more s r = let k = get_of_map (lit_image s) left.lits i r.resolvent.pivot r.resolvent.in_left in slice_get_within left.lits i k.0 k.1
 
-pub right_within : (v : Vocabulary) (left right line : Clause) (i j : ℕ) (more : List ℕ) (s : ℕ → Term) → Resolves v left right line i j more s → j < length right.lits
+pub right_within : (v : Vocabulary) (left right line : Clause) (i j : ℕ) (more : List ℕ) (s : ℕ → Term) → ResolvesTo v left right line i j more s → j < length right.lits
 right_within v left right line i j more s r =
     let m = get_of_map (lit_image s) (apart_from left right.lits) j r.resolvent.opposite r.resolvent.in_right in
     let l = get_of_map (lit_apart (length left.sorts)) right.lits j m.0 m.1 in
     slice_get_within right.lits j l.0 l.1
 
 -- nothing was found at a literal
-pub not_at : (v : Vocabulary) (left right line : Clause) (i : ℕ) (found : Option Found) → found ≡ None → FoundAt v left right line i found → (j : ℕ) (more : List ℕ) (s : ℕ → Term) → Resolves v left right line i j more s → ⊥
+pub not_at : (v : Vocabulary) (left right line : Clause) (i : ℕ) (found : Option Found) → found ≡ None → FoundAt v left right line i found → (j : ℕ) (more : List ℕ) (s : ℕ → Term) → ResolvesTo v left right line i j more s → ⊥
 not_at v left right line i None e none = none
 not_at v left right line i (Some found) e none = λ j more s r. cc

@@ -10,8 +10,8 @@ use std::alloc::Global;
 use substitution_search::{first_target, may_others_be_covered, no_guess};
 use tptp_base::{List, Memory};
 
-/// Whether one substitution may cover by the line all literals of the clause but literal i. A cheap test and a guess come
-/// first.
+/// Whether one substitution may cover by the line all literals of the clause but literal i. A cheap test and a guess
+/// come first.
 pub fn may_rest_be_covered(
     alloc: Global,
     sig: &Signature,

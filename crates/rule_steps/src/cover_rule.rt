@@ -5,7 +5,8 @@ ghost use Rattle.clause_form.specs.Norm.{norm_of};
 ghost use Rattle.clause_form.specs.Sizes.{norm_size_of};
 ghost use Rattle.clause_rules.specs.declared.just.Just.TheVariants.{Cover};
 ghost use Rattle.clause_rules.specs.Answers.{IsAnswer, cover};
-ghost use Rattle.rule_steps.specs.code.CoverFound.{FoundCover, FoundInForm, FoundCoverAmong, SettlesReached, ShowsCover};
+ghost use Rattle.rule_steps.specs.code.CoverFound.{FoundCover, FoundInForm, FoundCoverAmong, SettlesReached};
+ghost use Rattle.rule_steps.specs.code.CoverFound.{ShowsCover};
 ghost use Rattle.clause_rules.specs.NormRule.{HasNorm};
 ghost use Rattle.clause_rules.specs.Settled.{IsFit, Settles};
 ghost use Rattle.clause_rules.specs.Steps.{AreReady, IsReady};
@@ -139,7 +140,8 @@ fn cover_at_once(
     requires small { norm_size_of norm.now ≤ 100000 }
     requires norm { is_sorted sig.now [] norm.now ≡ true }
     requires line { IsFit sig.now line.now }
-    ensures { IfOk result (λ found. IfSome found (λ covering. ShowsCover sig.now norm.now line.now covering.path covering.subst)) }
+    ensures { IfOk result (λ found.
+        IfSome found (λ covering. ShowsCover sig.now norm.now line.now covering.path covering.subst)) }
 {
     let path = first_path(norm, alloc)?;
     match clause_of_path(alloc, norm, &path)? {
@@ -243,7 +245,9 @@ pub fn cover_clause(
 ) -> Result<Option<Subst>, Memory>
     requires clause { IsFit sig.now clause.now }
     requires line { IsFit sig.now line.now }
-    ensures { IfOk result (λ found. Settles sig.now line.now (scope_of clause.now) (CoversBy sig.now (scope_of clause.now) clause.now.lits line.now) found) }
+    ensures { IfOk result (λ found.
+        Settles sig.now line.now (scope_of clause.now)
+        (CoversBy sig.now (scope_of clause.now) clause.now.lits line.now) found) }
 {
     let joint = join_one(alloc, sig, line, clause)?;
     settle_covers(
@@ -264,7 +268,10 @@ fn cover_guessed(
 ) -> Result<Option<Subst>, Memory>
     requires clause { IsFit sig.now clause.now }
     requires line { IsFit sig.now line.now }
-    ensures { IfOk result (λ found. IfSome found (λ images. Settles sig.now line.now (scope_of clause.now) (CoversBy sig.now (scope_of clause.now) clause.now.lits line.now) (Some images))) }
+    ensures { IfOk result (λ found.
+        IfSome found (λ images.
+        Settles sig.now line.now (scope_of clause.now) (CoversBy sig.now (scope_of clause.now) clause.now.lits line.now)
+        (Some images))) }
 {
     let joint = join_one(alloc, sig, line, clause)?;
     settle_narrowed(

@@ -3,7 +3,8 @@ ghost use Rattle.clause_form.specs.Covers.{scope_of};
 ghost use Rattle.clause_rules.specs.declared.just.Just.TheVariants.{EqFactor};
 ghost use Rattle.clause_rules.specs.Answers.{IsAnswer, eqfactor};
 ghost use Rattle.clause_rules.specs.EqFactorRule.{Factors};
-ghost use Rattle.rule_steps.specs.code.EqFactorSearch.{FoundFactor, FoundInParent, FoundInParents, NoneRead, NoneWith, NoneFrom, NoneIn};
+ghost use Rattle.rule_steps.specs.code.EqFactorSearch.{FoundFactor, FoundInParent, FoundInParents, NoneRead, NoneWith};
+ghost use Rattle.rule_steps.specs.code.EqFactorSearch.{NoneFrom, NoneIn};
 ghost use Rattle.clause_rules.specs.JointClauses.{IsJoinedOne};
 ghost use Rattle.clause_rules.specs.Settled.{IsFit, Settles};
 ghost use Rattle.rule_steps.specs.code.SlotFits.{IsSlotFit, AllFit};
@@ -93,7 +94,9 @@ fn factor_at(
     requires joint { IsJoinedOne line.now clause.now joint.now }
     requires first { i < length joint.now.left }
     requires second { j < length joint.now.left }
-    ensures { IfOk result (λ found. Settles sig.now line.now (scope_of clause.now) (Factors sig.now clause.now line.now i first_flipped j second_flipped) found) }
+    ensures { IfOk result (λ found.
+        Settles sig.now line.now (scope_of clause.now)
+        (Factors sig.now clause.now line.now i first_flipped j second_flipped) found) }
 {
     if i == j {
         return Ok(None);
@@ -135,7 +138,8 @@ fn factor_read(
     requires joint { IsJoinedOne line.now clause.now joint.now }
     requires first { i < length joint.now.left }
     requires second { j < length joint.now.left }
-    ensures { IfOk result (λ found. FoundFactor sig.now clause.now line.now (NoneRead sig.now clause.now line.now i first_flipped j) found) }
+    ensures { IfOk result (λ found.
+        FoundFactor sig.now clause.now line.now (NoneRead sig.now clause.now line.now i first_flipped j) found) }
 {
     let straight = factor_at(alloc, sig, clause, line, joint, i, first_flipped, j, false)?;
     if let Some(subst) = straight {
@@ -156,7 +160,15 @@ fn factored(
     second_flipped: bool,
     subst: Subst,
 ) -> Result<Option<Factor>, Memory>
-    ensures { IfOk result (λ made. made ≡ Some (record { first = i; first_flipped = first_flipped; second = j; second_flipped = second_flipped; subst = subst })) }
+    ensures { IfOk result (λ made. made
+        ≡ Some (record {
+          first = i;
+          first_flipped = first_flipped;
+          second = j;
+          second_flipped = second_flipped;
+          subst =
+              subst;
+        })) }
 {
     let first = number(i)?;
     let second = number(j)?;
@@ -184,7 +196,8 @@ fn factor_with(
     requires joint { IsJoinedOne line.now clause.now joint.now }
     requires first { i < length joint.now.left }
     requires second { j < length joint.now.left }
-    ensures { IfOk result (λ found. FoundFactor sig.now clause.now line.now (NoneWith sig.now clause.now line.now i j) found) }
+    ensures { IfOk result (λ found.
+        FoundFactor sig.now clause.now line.now (NoneWith sig.now clause.now line.now i j) found) }
 {
     let straight = factor_read(alloc, sig, clause, line, joint, i, false, j)?;
     if let Some(factor) = straight {
@@ -210,7 +223,8 @@ fn factor_from(
     requires line { IsFit sig.now line.now }
     requires joint { IsJoinedOne line.now clause.now joint.now }
     requires first { i < length joint.now.left }
-    ensures { IfOk result (λ found. FoundFactor sig.now clause.now line.now (NoneFrom sig.now clause.now line.now i) found) }
+    ensures { IfOk result (λ found.
+        FoundFactor sig.now clause.now line.now (NoneFrom sig.now clause.now line.now i) found) }
 {
     if !may_others_be_covered(line.lits.as_slice(), clause.lits.as_slice(), i) {
         return Ok(None);
@@ -235,7 +249,8 @@ fn factor_joint(
     requires clause { IsFit sig.now clause.now }
     requires line { IsFit sig.now line.now }
     requires joint { IsJoinedOne line.now clause.now joint.now }
-    ensures { IfOk result (λ found. FoundFactor sig.now clause.now line.now (NoneIn sig.now clause.now line.now) found) }
+    ensures { IfOk result (λ found.
+        FoundFactor sig.now clause.now line.now (NoneIn sig.now clause.now line.now) found) }
 {
     for i in 0..joint.left.len() {
         let found = factor_from(alloc, sig, clause, line, joint, i)?;
@@ -288,7 +303,8 @@ fn factor_among(
 
 // The justification with this clause.
 fn justified(a: usize, factor: Factor) -> Result<Option<Just>, Memory>
-    ensures { IfOk result (λ just. just ≡ Some (EqFactor a factor.first factor.first_flipped factor.second factor.second_flipped factor.subst)) }
+    ensures { IfOk result (λ just. just
+        ≡ Some (EqFactor a factor.first factor.first_flipped factor.second factor.second_flipped factor.subst)) }
 {
     let parent = number(a)?;
     let Factor {

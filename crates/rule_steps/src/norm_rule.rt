@@ -29,7 +29,8 @@ pub fn norm_step(
 /// The number in the list, counted from 0, of the first parent with the line's normal form. None exactly where no
 /// parent has it.
 pub fn first_norm(alloc: Global, parents: &[Parent], line: &Form) -> Result<Option<u32>, Memory>
-    ensures { IfOk result (λ found. MatchOption found (IsNormStep parents.now line.now → ⊥) (IsFirstNorm parents.now line.now)) }
+    ensures { IfOk result (λ found. MatchOption found (IsNormStep parents.now line.now
+        → ⊥) (IsFirstNorm parents.now line.now)) }
 {
     match small_norm(alloc, line)? {
         Some(made) => first_alike(alloc, parents, made.get()),
@@ -50,7 +51,8 @@ fn small_norm(alloc: Global, form: &Form) -> Result<Option<Boxed<Form>>, Memory>
 
 // The number of the first parent with this normal form.
 fn first_alike(alloc: Global, parents: &[Parent], made: &Form) -> Result<Option<u32>, Memory>
-    ensures { IfOk result (λ found. MatchOption found ((a : ℕ) → NormsAlike parents.now made.now a → ⊥) (IsFirstAlike parents.now made.now)) }
+    ensures { IfOk result (λ found. MatchOption found ((a : ℕ) → NormsAlike parents.now made.now a
+        → ⊥) (IsFirstAlike parents.now made.now)) }
 {
     for at in 0..parents.len() {
         let is_alike = is_norm_of(alloc, made, &parents[at].form)?;

@@ -1,10 +1,12 @@
-ghost use Rattle.std.specs.Prelude.{◌≡◌, ◌↔◌, ◌<◌, ◌≤◌, ◌++◌, false, length, remove, IsTrue, Some, IfOk, option_copied, slice_get, slice_set};
+ghost use Rattle.std.specs.Prelude.{◌≡◌, ◌↔◌, ◌<◌, ◌≤◌, ◌++◌, false, length, remove, IsTrue, Some, IfOk, option_copied};
+ghost use Rattle.std.specs.Prelude.{slice_get, slice_set};
 ghost use Rattle.fof_terms.specs.Sorts.{sort_of_term};
 ghost use Rattle.clause_rules.specs.declared.just.Just.TheVariants.{Paramodulation};
 ghost use Rattle.clause_rules.specs.Answers.{IsAnswer, paramodulation};
 ghost use Rattle.clause_rules.specs.JointClauses.{IsJoined};
 ghost use Rattle.clause_rules.specs.ParamodulationRule.{HasPlace, Paramodulates};
-ghost use Rattle.rule_steps.specs.code.ParamodulationSearch.{FoundAtLit, FoundAtSite, FoundAtSites, FoundInClause, FoundInClauses, HasClause, NeverAt, TriedAtSite};
+ghost use Rattle.rule_steps.specs.code.ParamodulationSearch.{FoundAtLit, FoundAtSite, FoundAtSites, FoundInClause};
+ghost use Rattle.rule_steps.specs.code.ParamodulationSearch.{FoundInClauses, HasClause, NeverAt, TriedAtSite};
 ghost use Rattle.clause_rules.specs.Places.{lit_put_at};
 ghost use Rattle.rule_steps.specs.code.SlotFits.{AllFit};
 ghost use Rattle.clause_rules.specs.Settled.{IsFit, Settles};
@@ -232,7 +234,9 @@ fn justified(
     reading: &Reading,
     subst: Subst,
 ) -> Result<Option<Just>, Memory>
-    ensures { IfOk result (λ just. just ≡ Some (Paramodulation site.now.clause reading.now.clause site.now.lit site.now.at reading.now.lit reading.now.flipped subst)) }
+    ensures { IfOk result (λ just. just
+        ≡ Some (Paramodulation site.now.clause reading.now.clause site.now.lit site.now.at reading.now.lit
+        reading.now.flipped subst)) }
 {
     let at = Position::from_slice(alloc, site.at.as_slice())?;
     Ok(Some(Just::Paramodulation {
@@ -292,7 +296,10 @@ fn of_clauses(
     requires into { IsFit sig.now into.now }
     requires from { IsFit sig.now from.now }
     requires line { IsFit sig.now line.now }
-    ensures { IfOk result (λ found. Settles sig.now line.now (scope_of_both into.now from.now) (Paramodulates sig.now into.now from.now line.now site.now.lit site.now.at reading.now.lit reading.now.flipped) found) }
+    ensures { IfOk result (λ found.
+        Settles sig.now line.now (scope_of_both into.now from.now)
+        (Paramodulates sig.now into.now from.now line.now site.now.lit site.now.at reading.now.lit
+        reading.now.flipped) found) }
 {
     match spot_in(into.lits.as_slice(), site.lit, site.at.as_slice()) {
         Some(spot) => match equation_in(from.lits.as_slice(), reading.lit, reading.flipped) {
@@ -329,7 +336,10 @@ fn of_joint(
     requires from { IsFit sig.now from.now }
     requires line { IsFit sig.now line.now }
     requires place { HasPlace into.now.lits site.now.lit site.now.at }
-    ensures { IfOk result (λ found. Settles sig.now line.now (scope_of_both into.now from.now) (Paramodulates sig.now into.now from.now line.now site.now.lit site.now.at reading.now.lit reading.now.flipped) found) }
+    ensures { IfOk result (λ found.
+        Settles sig.now line.now (scope_of_both into.now from.now)
+        (Paramodulates sig.now into.now from.now line.now site.now.lit site.now.at reading.now.lit
+        reading.now.flipped) found) }
 {
     let joint = join(alloc, sig, line, into, from)?;
     match spot_in(joint.left.as_slice(), site.lit, site.at.as_slice()) {
@@ -364,7 +374,8 @@ fn is_one_sort(
     left: &Term,
     right: &Term,
 ) -> Result<bool, Memory>
-    ensures { IfOk result (λ answer. IsTrue answer ↔ (sort_of_term sig.now scope.now.sorts left.now ≡ sort_of_term sig.now scope.now.sorts right.now)) }
+    ensures { IfOk result (λ answer. IsTrue answer
+        ↔ (sort_of_term sig.now scope.now.sorts left.now ≡ sort_of_term sig.now scope.now.sorts right.now)) }
 {
     let sorts = reversed(alloc, scope.sorts.as_slice())?;
     let reach = Reach::Outside(sorts.as_slice());
@@ -383,8 +394,11 @@ fn paramodulated(
     sides: &Sides<'_>,
 ) -> Result<List<Lit>, Memory>
     requires into { slice_get joint.now.left site.now.lit ≡ Some spot.now.lit.now }
-    requires from { slice_get joint.now.right reading.now.lit ≡ Some (equation reading.now.flipped sides.now.left.now sides.now.right.now) }
-    ensures { IfOk result (λ made. made ≡ slice_set joint.now.left site.now.lit (lit_put_at site.now.at sides.now.right.now spot.now.lit.now) ++ remove joint.now.right reading.now.lit) }
+    requires from { slice_get joint.now.right reading.now.lit
+        ≡ Some (equation reading.now.flipped sides.now.left.now sides.now.right.now) }
+    ensures { IfOk result (λ made. made
+        ≡ slice_set joint.now.left site.now.lit (lit_put_at site.now.at sides.now.right.now spot.now.lit.now)
+        ++ remove joint.now.right reading.now.lit) }
 {
     let mut lits = copy_lits(alloc, joint.left.as_slice())?;
     let changed: Lit = put_in(alloc, spot.lit, site.at.as_slice(), sides.right)?;

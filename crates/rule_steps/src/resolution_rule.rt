@@ -1,8 +1,9 @@
 ghost use Rattle.std.specs.Prelude.{◌≡◌, ◌<◌, false, length, Some, IfOk};
 ghost use Rattle.clause_rules.specs.declared.just.Just.TheVariants.{Resolution};
 ghost use Rattle.clause_rules.specs.Answers.{IsAnswer, resolution};
-ghost use Rattle.clause_rules.specs.ResolutionRule.{Resolves};
-ghost use Rattle.rule_steps.specs.code.ResolutionSearch.{resolution_needs, AsksAt, NeverResolves, FoundAt, FoundInSlot, FoundPivot, FoundWith, FoundFrom, FoundAmong};
+ghost use Rattle.clause_rules.specs.ResolutionRule.{ResolvesTo};
+ghost use Rattle.rule_steps.specs.code.ResolutionSearch.{resolution_needs, AsksAt, NeverResolves, FoundAt, FoundInSlot};
+ghost use Rattle.rule_steps.specs.code.ResolutionSearch.{FoundPivot, FoundWith, FoundFrom, FoundAmong};
 ghost use Rattle.clause_rules.specs.Settled.{IsFit, Settles};
 ghost use Rattle.rule_steps.specs.code.SlotFits.{IsSlotFit, AllFit};
 ghost use Rattle.clause_rules.specs.Steps.{scope_of_both, AreReady, IsReady};
@@ -211,7 +212,8 @@ fn resolution_goal(
     pivot: &Lit,
     opposite: &Lit,
 ) -> Result<Goal, Memory>
-    ensures { IfOk result (λ goal. goal ≡ goal_of_needs (resolution_needs line.now left.now right.now pivot.now opposite.now)) }
+    ensures { IfOk result (λ goal. goal
+        ≡ goal_of_needs (resolution_needs line.now left.now right.now pivot.now opposite.now)) }
 {
     let clash = Goal::Any(ways_to(alloc, !pivot.positive, &pivot.atom, opposite)?);
     let mut goals = alone(alloc, clash)?;
@@ -237,7 +239,9 @@ fn resolve_at(
     requires line { IsFit sig.now line.now }
     requires left_lit { i < length left.now.lits }
     requires right_lit { j < length right.now.lits }
-    ensures { IfOk result (λ found. Settles sig.now line.now (scope_of_both left.now right.now) (Resolves sig.now left.now right.now line.now i j) found) }
+    ensures { IfOk result (λ found.
+        Settles sig.now line.now (scope_of_both left.now right.now)
+        (ResolvesTo sig.now left.now right.now line.now i j) found) }
 {
     let line_lits = line.lits.as_slice();
     if !may_resolve(line_lits, left.lits.as_slice(), right.lits.as_slice(), i, j) {
@@ -248,8 +252,8 @@ fn resolve_at(
     settle(alloc, sig, &joint.scope, &goal)
 }
 
-// Whether the literals may become complementary, and all others of the right clause be covered or be its one. These tests
-// are cheap, and come before a goal is made.
+// Whether the literals may become complementary, and all others of the right clause be covered or be its one. These
+// tests are cheap, and come before a goal is made.
 fn may_resolve(line: &[Lit], left: &[Lit], right: &[Lit], i: usize, j: usize) -> bool
     requires left_lit { i < length left.now }
     requires right_lit { j < length right.now }

@@ -4,7 +4,8 @@ ghost use Rattle.clause_form.specs.Covers.{AreSorted, CoversBy};
 ghost use Rattle.clause_rules.specs.declared.just.Just.TheVariants.{Rewrite};
 ghost use Rattle.clause_rules.specs.Answers.{IsAnswer, rewrite};
 ghost use Rattle.clause_rules.specs.RewriteRule.{StandsIn};
-ghost use Rattle.rule_steps.specs.code.RewriteSearch.{NeverRewritten, RewritesAtSite, RewritesAtSites, SettlesRewriting, TriedRewriting};
+ghost use Rattle.rule_steps.specs.code.RewriteSearch.{NeverRewritten, RewritesAtSite, RewritesAtSites};
+ghost use Rattle.rule_steps.specs.code.RewriteSearch.{SettlesRewriting, TriedRewriting};
 ghost use Rattle.rule_steps.specs.code.SlotFits.{AllFit};
 ghost use Rattle.clause_rules.specs.Settled.{IsFit, Settles};
 ghost use Rattle.clause_rules.specs.Steps.{AreReady, IsReady, scope_of_both};
@@ -28,7 +29,8 @@ pub struct Rewriting {
 }
 
 /// A justification by the rule `rewrite`: an instance of the left side of a parent that is one positive equation, as it
-/// is read, stands in another parent, and each occurrence gives way to the right side. None exactly where there is none.
+/// is read, stands in another parent, and each occurrence gives way to the right side. None exactly where there is
+/// none.
 pub fn rewrite_step(
     alloc: Global,
     sig: &Signature,
@@ -108,7 +110,9 @@ fn at_site(
 
 // The justification at this place with this equation.
 fn justified(site: &Site, reading: &Reading, rewriting: Rewriting) -> Result<Option<Just>, Memory>
-    ensures { IfOk result (λ just. just ≡ Some (Rewrite site.now.clause reading.now.clause rewriting.target reading.now.flipped rewriting.by_subst rewriting.subst)) }
+    ensures { IfOk result (λ just. just
+        ≡ Some (Rewrite site.now.clause reading.now.clause rewriting.target reading.now.flipped rewriting.by_subst
+        rewriting.subst)) }
 {
     let Rewriting {
         target,
@@ -150,7 +154,8 @@ fn with_reading(
     }
 }
 
-// A rewriting of this term with the equation that a clause is, read so: cheap tests of the two terms and of the literals come first.
+// A rewriting of this term with the equation that a clause is, read so: cheap tests of the two terms and of the
+// literals come first.
 fn of_term(
     alloc: Global,
     sig: &Signature,
@@ -252,7 +257,8 @@ fn rewriting_of(
     by_subst: Subst,
     found: Option<Subst>,
 ) -> Result<Option<Rewriting>, Memory>
-    ensures { IfOk result (λ made. made ≡ option_map (λ s. record { target = target.now; by_subst = by_subst; subst = s }) found) }
+    ensures { IfOk result (λ made. made
+        ≡ option_map (λ s. record { target = target.now; by_subst = by_subst; subst = s }) found) }
 {
     match found {
         Some(subst) => {
@@ -280,7 +286,9 @@ fn cover_lits(
     requires by { length by.now.sorts ≤ 1000000000 }
     requires line { IsFit sig.now line.now }
     requires lits { AreSorted sig.now (scope_of_both into.now by.now) lits.now }
-    ensures { IfOk result (λ found. Settles sig.now line.now (scope_of_both into.now by.now) (CoversBy sig.now (scope_of_both into.now by.now) lits.now line.now) found) }
+    ensures { IfOk result (λ found.
+        Settles sig.now line.now (scope_of_both into.now by.now)
+        (CoversBy sig.now (scope_of_both into.now by.now) lits.now line.now) found) }
 {
     let rigid = line.sorts.len() as u32;
     let mut sorts = scope_of_clause(alloc, line)?;

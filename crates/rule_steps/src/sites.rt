@@ -1,6 +1,8 @@
 //! All places of clauses at which a term may be replaced, and all equations of clauses, as they are read.
 ghost use Rattle.std.specs.Prelude.{◌≡◌, ◌++◌, IfOk, OnOk};
-ghost use Rattle.rule_steps.specs.code.ParamodulationSearch.{HasEquation, HasSpot, readings_from, readings_of_atom, readings_of_lits, readings_of_slot, sites_from, sites_of_lits, sites_of_places, sites_of_slot};
+ghost use Rattle.rule_steps.specs.code.ParamodulationSearch.{HasEquation, HasSpot, readings_from, readings_of_atom};
+ghost use Rattle.rule_steps.specs.code.ParamodulationSearch.{readings_of_lits, readings_of_slot, sites_from};
+ghost use Rattle.rule_steps.specs.code.ParamodulationSearch.{sites_of_lits, sites_of_places, sites_of_slot};
 ghost use Rattle.clause_rules.specs.PlaceSearch.{places_of};
 
 use crate::sides::{Sides, sides_of};

@@ -1,4 +1,5 @@
--- The rule `choice`: the line says, for all values of some variables, that where there is such a thing, new functions give it.
+-- The rule `choice`: the line says, for all values of some variables, that where there is such a thing, new functions
+-- give it.
 use Rattle.std.specs.Prelude.{ℕ, zero, suc, ◌≡◌, ◌<◌, ◌⊎◌, true, false, List, [], ◌∷◌, reverse}
 use Rattle.std.specs.List.{AllByRecursion as Each}
 use Rattle.fof_terms.specs.declared.term.Term.{Var}
@@ -11,8 +12,8 @@ use Rattle.kernel.specs.Entries.{for_all}
 use Rattle.skolem_fresh.specs.declared.just.Use.{Use}
 use Rattle.skolem_fresh.specs.Uses.{value_of, Fits, AreArguments, AreNew}
 
--- The formula a begins with k existential quantifiers, and b is what stands under them, with the value of a function for
--- each of their variables that occurs, the outermost first. One that doesn't occur goes with no function.
+-- The formula a begins with k existential quantifiers, and b is what stands under them, with the value of a function
+-- for each of their variables that occurs, the outermost first. One that doesn't occur goes with no function.
 abbrev pub IsOpened : ℕ → List Use → Form → Form → Type 0
 IsOpened zero uses a b = (uses ≡ []) × (b ≡ a)
 IsOpened (suc k) uses a b = (s : ℕ) × (body : Form) × (a ≡ Ex s body)

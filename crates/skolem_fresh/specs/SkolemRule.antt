@@ -1,5 +1,5 @@
--- The rule `skolem`: the line is, by its normal form, a parent's normal form with new functions in place of its existential
--- variables. A formula whose norm size is over 100,000 has no normal form here.
+-- The rule `skolem`: the line is, by its normal form, a parent's normal form with new functions in place of its
+-- existential variables. A formula whose norm size is over 100,000 has no normal form here.
 use Rattle.std.specs.Prelude.{ℕ, ◌≡◌, ◌<◌, ◌≤◌, true, List, [], ◌∷◌, ◌++◌, length, map, Some, slice_get}
 use Rattle.fof_terms.specs.declared.term.Term.{Term}
 use Rattle.fof_terms.specs.declared.form.Form.{Form, Atom, Eq, Not, And, Or, All, Ex}
@@ -25,8 +25,9 @@ pub record MayReplace (v : Vocabulary) (scope : List ℕ) (u : Use) (s : ℕ) (b
   pub fits : Fits v scope u
 
 mutual
-  -- Under universal quantifiers over these sorts, the second formula is the first, a normal form, without its existential
-  -- quantifiers: from the left and from the outermost on, the value of the next function stands for the variable of each.
+  -- Under universal quantifiers over these sorts, the second formula is the first, a normal form, without its
+  -- existential quantifiers: from the left and from the outermost on, the value of the next function stands for the
+  -- variable of each.
   pub data IsSkolemized (v : Vocabulary) : List ℕ → List Use → Form → Form → Type 0 where
     an_atom : (scope : List ℕ) (p : ℕ) (ts : List Term) → IsSkolemized v scope [] (Atom p ts) (Atom p ts)
     an_equation : (scope : List ℕ) (l r : Term) → IsSkolemized v scope [] (Eq l r) (Eq l r)

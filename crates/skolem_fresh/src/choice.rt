@@ -17,15 +17,16 @@ use kernel::Theory;
 use std::alloc::Global;
 use tptp_base::{List, Memory};
 
-/// A justification by the rule `choice`: the line says of new functions that they choose what there is. None exactly where
-/// it is no such line.
+/// A justification by the rule `choice`: the line says of new functions that they choose what there is. None exactly
+/// where it is no such line.
 pub fn choice_step(
     alloc: Global,
     theory: &Theory,
     line: &Form,
 ) -> Result<Option<SkolemJust>, Memory>
     requires { SortedTo 1000000000 theory.now.vocabulary [] line.now }
-    ensures { IfOk result (λ answer. MatchOption answer (IsChoiceStep theory.now line.now → ⊥) (ShowsChoice theory.now line.now)) }
+    ensures { IfOk result (λ answer. MatchOption answer (IsChoiceStep theory.now line.now
+        → ⊥) (ShowsChoice theory.now line.now)) }
 {
     match chosen_under(alloc, theory, &Scope::Outside(&[]), line)? {
         Some(uses) => Ok(Some(SkolemJust::Choice { uses })),

@@ -11,8 +11,8 @@ use kernel::{Entry, Theory};
 use std::alloc::Global;
 use tptp_base::{List, Memory};
 
-/// Entries that are legal in turn and end with a lemma of the line: for each function of the justification, the outermost
-/// existential variable first, that it chooses what there is. They cite no formula.
+/// Entries that are legal in turn and end with a lemma of the line: for each function of the justification, the
+/// outermost existential variable first, that it chooses what there is. They cite no formula.
 pub fn choice_entries(
     alloc: Global,
     theory: &Theory,

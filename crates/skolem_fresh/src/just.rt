@@ -16,8 +16,8 @@ pub struct Use {
 /// What shows that a line brings in new functions as a rule says.
 #[derive(Drop)]
 pub enum SkolemJust {
-    /// The parent of that number, counted from 0, and a function for each existential quantifier of its normal form, from
-    /// the left.
+    /// The parent of that number, counted from 0, and a function for each existential quantifier of its normal form,
+    /// from the left.
     Skolem { parent: usize, uses: List<Use> },
     /// A function for each of the existential variables that occur, the outermost first.
     Choice { uses: List<Use> },

@@ -1,6 +1,6 @@
-//! The two rules that bring in new functions: a step that puts functions in place of a parent's existential variables, and a
-//! line that says of new functions that they choose what there is. Each is recognised, and then taken apart into entries
-//! that a kernel takes.
+//! The two rules that bring in new functions: a step that puts functions in place of a parent's existential variables,
+//! and a line that says of new functions that they choose what there is. Each is recognised, and then taken apart into
+//! entries that a kernel takes.
 #![tactic(auto)]
 
 mod choice;

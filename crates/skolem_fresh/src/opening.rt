@@ -62,7 +62,8 @@ pub(crate) fn read_uses(
     requires within { IsWithin sig.now (scope_sorts scope.now) form.now }
     requires enough { count ≤ leading_in form.now }
     requires leaves { leaves.now ≡ leaves_of 0 right.now }
-    ensures { IfOk result (λ answer. IsRead sig.now (scope_sorts scope.now) count form.now right.now uses.old uses.new answer) }
+    ensures { IfOk result (λ answer.
+        IsRead sig.now (scope_sorts scope.now) count form.now right.now uses.old uses.new answer) }
 {
     if count == 0 {
         return Ok(equal(form, right));
@@ -87,8 +88,8 @@ pub(crate) fn read_uses(
     }
 }
 
-// What stands under an existential quantifier, with the value of a function in place of its variable, where that occurs.
-// The value is read off these terms, and the function is added; None where it doesn't fit.
+// What stands under an existential quantifier, with the value of a function in place of its variable, where that
+// occurs. The value is read off these terms, and the function is added; None where it doesn't fit.
 fn next_form(
     alloc: Global,
     sig: &Signature,
@@ -99,7 +100,8 @@ fn next_form(
     uses: &mut List<Use>,
 ) -> Result<Option<Boxed<Form>>, Memory>
     requires within { IsWithin sig.now (scope_sorts scope.now) (Ex sort body.now) }
-    ensures { IfOk result (λ next. IsNext sig.now (scope_sorts scope.now) sort body.now leaves.now uses.old uses.new next) }
+    ensures { IfOk result (λ next.
+        IsNext sig.now (scope_sorts scope.now) sort body.now leaves.now uses.old uses.new next) }
 {
     if !has_variable(body, 0) {
         let next = instantiate(alloc, body, &Term::Var(0))?;

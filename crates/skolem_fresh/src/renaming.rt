@@ -56,8 +56,8 @@ fn rename_terms(
     Ok(made)
 }
 
-/// The formula, under so many quantifiers, over the arguments of a function in place of the variables that it is applied
-/// to.
+/// The formula, under so many quantifiers, over the arguments of a function in place of the variables that it is
+/// applied to.
 #[cycle(rename)]
 #[tactic(auto, using(crate::proofs::RenamedFacts::renamed_equations))]
 pub fn rename(alloc: Global, variables: &[u32], form: &Form, depth: u32) -> Result<Form, Memory>

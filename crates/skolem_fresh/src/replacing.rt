@@ -16,8 +16,9 @@ use fof_terms::{Form, Scope, Signature, SortId, has_variable, instantiate};
 use std::alloc::Global;
 use tptp_base::{Boxed, List, Memory};
 
-// The body of an existential quantifier with the value of a function in place of its variable, which stands under so many
-// universal ones. The value is read off these terms, and the function is added. None where it may not take that place.
+// The body of an existential quantifier with the value of a function in place of its variable, which stands under so
+// many universal ones. The value is read off these terms, and the function is added. None where it may not take that
+// place.
 pub(crate) fn replaced(
     alloc: Global,
     sig: &Signature,
@@ -29,7 +30,8 @@ pub(crate) fn replaced(
     uses: &mut List<Use>,
 ) -> Result<Option<Boxed<Form>>, Memory>
     requires within { IsWithin sig.now (scope_sorts scope.now) (Ex sort body.now) }
-    ensures { IfOk result (λ next. IsReplaced sig.now (scope_sorts scope.now) outer sort body.now leaves.now uses.old uses.new next) }
+    ensures { IfOk result (λ next.
+        IsReplaced sig.now (scope_sorts scope.now) outer sort body.now leaves.now uses.old uses.new next) }
 {
     let Some(found) = function_for(alloc, sig, scope, outer, sort, body, leaves)? else {
         return Ok(None);
@@ -51,7 +53,8 @@ fn function_for(
     leaves: &[Leaf],
 ) -> Result<Option<Use>, Memory>
     requires within { IsWithin sig.now (scope_sorts scope.now) (Ex sort body.now) }
-    ensures { IfOk result (λ found. IsFunctionFor sig.now (scope_sorts scope.now) outer sort body.now leaves.now found) }
+    ensures { IfOk result (λ found.
+        IsFunctionFor sig.now (scope_sorts scope.now) outer sort body.now leaves.now found) }
 {
     if !has_variable(body, 0) {
         return Ok(None);
@@ -76,7 +79,8 @@ fn may_replace(
     function: &Use,
 ) -> Result<bool, Memory>
     requires within { IsWithin sig.now (scope_sorts scope.now) (Ex function.now.sort body.now) }
-    ensures { IfOk result (λ answer. IsTrue answer ↔ MayReplace sig.now (scope_sorts scope.now) function.now function.now.sort body.now) }
+    ensures { IfOk result (λ answer. IsTrue answer
+        ↔ MayReplace sig.now (scope_sorts scope.now) function.now function.now.sort body.now) }
 {
     let variables = function.variables.as_slice();
     if !are_distinct(variables) {

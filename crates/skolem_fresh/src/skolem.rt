@@ -23,8 +23,8 @@ use std::alloc::Global;
 use tptp_base::{Boxed, List, Memory};
 
 /// A justification by the rule `skolem`: by its normal form the line is a parent with new functions in place of its
-/// existential variables. None exactly where it is so of no parent; a formula whose norm size is over 100,000 has no normal
-/// form here.
+/// existential variables. None exactly where it is so of no parent; a formula whose norm size is over 100,000 has no
+/// normal form here.
 pub fn skolem_step(
     alloc: Global,
     theory: &Theory,
@@ -33,7 +33,8 @@ pub fn skolem_step(
 ) -> Result<Option<SkolemJust>, Memory>
     requires parents { Each (λ (p : Stated). SortedTo 1000000000 theory.now.vocabulary [] p.form) parents.now }
     requires line { SortedTo 1000000000 theory.now.vocabulary [] line.now }
-    ensures { IfOk result (λ answer. MatchOption answer (IsSkolemStep theory.now (forms_of parents.now) line.now → ⊥) (ShowsSkolem theory.now (forms_of parents.now) line.now)) }
+    ensures { IfOk result (λ answer. MatchOption answer (IsSkolemStep theory.now (forms_of parents.now) line.now
+        → ⊥) (ShowsSkolem theory.now (forms_of parents.now) line.now)) }
 {
     let Some(made) = norm_within(alloc, line)? else {
         return Ok(None);

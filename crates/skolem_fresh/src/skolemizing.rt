@@ -15,8 +15,9 @@ use fof_terms::{Form, Scope, Signature};
 use std::alloc::Global;
 use tptp_base::{Boxed, List, Memory};
 
-// The formula, which stands under so many universal quantifiers, without its existential ones. The functions are read off
-// the terms from `at` on, which is moved past the formula's own, and are added. None where there are no such functions.
+// The formula, which stands under so many universal quantifiers, without its existential ones. The functions are read
+// off the terms from `at` on, which is moved past the formula's own, and are added. None where there are no such
+// functions.
 #[cycle(skolemize)]
 pub(crate) fn skolemize(
     alloc: Global,
@@ -32,7 +33,9 @@ pub(crate) fn skolemize(
     requires outer { outer ≡ length (scope_sorts scope.now) }
     requires at { at.now ≤ length leaves.now }
     ensures at { at.new ≤ length leaves.now }
-    ensures walked { IfOk result (λ made. IsWalked sig.now (scope_sorts scope.now) form.now (drop at.old leaves.now) (drop at.new leaves.now) uses.old uses.new made) }
+    ensures walked { IfOk result (λ made.
+        IsWalked sig.now (scope_sorts scope.now) form.now (drop at.old leaves.now)
+        (drop at.new leaves.now) uses.old uses.new made) }
 {
     match form {
         Form::Atom(_, _) => passed(alloc, outer, form, leaves, at),
@@ -88,7 +91,9 @@ fn skolemize_all(
     requires outer { outer ≡ length (scope_sorts scope.now) }
     requires at { at.now ≤ length leaves.now }
     ensures at { at.new ≤ length leaves.now }
-    ensures walked { IfOk result (λ made. AreWalked sig.now (scope_sorts scope.now) forms.now (drop at.old leaves.now) (drop at.new leaves.now) uses.old uses.new made) }
+    ensures walked { IfOk result (λ made.
+        AreWalked sig.now (scope_sorts scope.now) forms.now (drop at.old leaves.now)
+        (drop at.new leaves.now) uses.old uses.new made) }
 {
     let mut made = List::new(alloc);
     for form in forms {
@@ -112,7 +117,8 @@ fn passed(
     requires room { outer + binder_depth form.now < 2 ^ 32 }
     requires at { at.now ≤ length leaves.now }
     ensures at { at.new ≤ length leaves.now }
-    ensures passed { IfOk result (λ made. IsPassed (leaves_of outer form.now) (drop at.old leaves.now) (drop at.new leaves.now) made form.now) }
+    ensures passed { IfOk result (λ made.
+        IsPassed (leaves_of outer form.now) (drop at.old leaves.now) (drop at.new leaves.now) made form.now) }
 {
     let mut own = List::new(alloc);
     push_leaves(alloc, form, outer, &mut own)?;
@@ -134,7 +140,8 @@ pub(crate) fn skolemize_whole(
     uses: &mut List<Use>,
 ) -> Result<Option<Form>, Memory>
     requires { IsWithin sig.now [] norm.now }
-    ensures { IfOk result (λ made. (left : Listed Terms) × IsWalked sig.now [] norm.now leaves.now left uses.old uses.new made) }
+    ensures { IfOk result (λ made. (left : Listed Terms)
+        × IsWalked sig.now [] norm.now leaves.now left uses.old uses.new made) }
 {
     let mut at = 0;
     skolemize(

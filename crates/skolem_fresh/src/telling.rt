@@ -20,8 +20,8 @@ use kernel::{Entry, Proof};
 use std::alloc::Global;
 use tptp_base::{Boxed, List, Memory};
 
-// A proof of the line by what the functions choose, whose formulas stand in the theory from number `first` on. Adds their
-// entries.
+// A proof of the line by what the functions choose, whose formulas stand in the theory from number `first` on. Adds
+// their entries.
 pub(crate) fn tell(
     alloc: Global,
     line: &Form,
@@ -129,8 +129,10 @@ fn next_of(alloc: Global, body: &Form, chosen: &Use) -> Result<Boxed<Form>, Memo
 /// The right side of an implication whose left side the part shows. The theory's formula of that number says it for all
 /// arguments of a function, as an entry by which the function chooses adds it; it is taken at the function's variables.
 pub fn chosen_part(alloc: Global, chosen: &Use, number: u64, part: Part) -> Result<Part, Memory>
-    ensures { IfOk result (λ made. (t : Statements) (v : Listed ℕ) (h : Listed Formula) (a b c : Formula) → Sorted t.vocabulary v a → slice_get t.formulas number ≡ Some a
-        → IsInstance t.vocabulary v a (map Var chosen.now.variables) (Imp b c) → Proves t v h part b → Proves t v h made c) }
+    ensures { IfOk result (λ made. (t : Statements) (v : Listed ℕ) (h : Listed Formula) (a b c : Formula)
+        → Sorted t.vocabulary v a → slice_get t.formulas number ≡ Some a
+        → IsInstance t.vocabulary v a (map Var chosen.now.variables) (Imp b c) → Proves t v h part b
+        → Proves t v h made c) }
 {
     let mut terms = List::new(alloc);
     for variable in chosen.variables.as_slice() {

@@ -1,5 +1,5 @@
--- What functions that take the place of a formula's existential variables bring with them: the entries by which they come
--- in, and a proof that the formula implies what it is with them.
+-- What functions that take the place of a formula's existential variables bring with them: the entries by which they
+-- come in, and a proof that the formula implies what it is with them.
 use Rattle.std.specs.Prelude.{ℕ, ◌≡◌, ◌==◌, ◌≤◌, ◌++◌, ◌∷◌, false, List, [], length}
 use Rattle.std.specs.List.{All as Every, AllByRecursion as Each}
 use Rattle.fof_terms.specs.declared.form.Form.{Form, Imp}
@@ -54,9 +54,9 @@ abbrev pub SpeaksOf : List Use → Form → Skolemized → Type 0
 SpeaksOf uses a made =
     (v : Vocabulary) (scope : List ℕ) (b : Form) → IsSkolemized v scope uses a b → (k : ℕ) → occurs_in k a ≡ false → AreOthers k uses → Every (λ c. occurs_in k c ≡ false) (formulas_told v made.choices)
 
--- in every theory in which what the entries add stands in turn from number n on, and every context of at most 1,000,000,000
--- sorts, the nearest of which are those that the functions need, the proof shows that the formula implies what it is with
--- the functions
+-- in every theory in which what the entries add stands in turn from number n on, and every context of at most
+-- 1,000,000,000 sorts, the nearest of which are those that the functions need, the proof shows that the formula implies
+-- what it is with the functions
 abbrev pub ShowsFrom : List Use → Form → ℕ → Skolemized → Type 0
 ShowsFrom uses a n made =
     (t : Statements) (scope back : List ℕ) (h : List Form) (b : Form) → IsSkolemized t.vocabulary scope uses a b → length (scope ++ back) ≤ 1000000000 → Sorted t.vocabulary (scope ++ back) a → AddedFrom t n made.choices

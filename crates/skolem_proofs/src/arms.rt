@@ -11,8 +11,8 @@ use kernel::Proof;
 use std::alloc::Global;
 use tptp_base::{Boxed, List, Memory};
 
-// What the member of that number becomes, by the part, which shows that the member implies it: by the conjunction, or in a
-// case of the disjunction.
+// What the member of that number becomes, by the part, which shows that the member implies it: by the conjunction, or
+// in a case of the disjunction.
 pub(crate) fn arm(alloc: Global, conjunction: bool, number: u32, part: Part) -> Result<Part, Memory>
     ensures { IfOk result (λ made. made ≡ arm_of conjunction number part) }
 {
@@ -64,7 +64,8 @@ pub(crate) fn disjunction(
 ) -> Result<Part, Memory>
     requires few { length forms.now < 2 ^ 32 }
     requires each { length arms ≡ length forms.now }
-    ensures { IfOk result (λ made. made ≡ ImpI (Or members.now) (OrE (Or forms.now) (Hyp 0) (cases_of forms.now 0 arms))) }
+    ensures { IfOk result (λ made. made
+        ≡ ImpI (Or members.now) (OrE (Or forms.now) (Hyp 0) (cases_of forms.now 0 arms))) }
 {
     let cases = cases(alloc, forms, arms)?;
     let goal = Form::Or(copy_all(alloc, forms)?);

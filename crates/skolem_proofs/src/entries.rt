@@ -21,9 +21,9 @@ use skolem_fresh::SkolemJust;
 use std::alloc::Global;
 use tptp_base::{Boxed, List, Memory};
 
-/// Entries that are legal in turn and end with a lemma of the line, as the justification shows that it puts functions in
-/// place of a parent's existential variables: for each function, the outermost existential variable first, that it chooses
-/// what there is. The lemma cites the parent.
+/// Entries that are legal in turn and end with a lemma of the line, as the justification shows that it puts functions
+/// in place of a parent's existential variables: for each function, the outermost existential variable first, that it
+/// chooses what there is. The lemma cites the parent.
 pub fn skolem_entries(
     alloc: Global,
     theory: &Theory,

@@ -1,5 +1,5 @@
-//! Lines that put new functions in place of a parent's existential variables: the entries by which the functions come in,
-//! and the proof that leads from the parent to the line.
+//! Lines that put new functions in place of a parent's existential variables: the entries by which the functions come
+//! in, and the proof that leads from the parent to the line.
 #![tactic(auto)]
 
 mod arms;

@@ -26,9 +26,9 @@ pub struct Skolemized {
     pub proof: Part,
 }
 
-/// The normal form with the functions in place of its existential variables, from the left and from the outermost on, with
-/// the entries by which they come in, and a proof that the normal form implies it. The proof is for theories in which the
-/// formulas that the entries add are numbered from `first` on.
+/// The normal form with the functions in place of its existential variables, from the left and from the outermost on,
+/// with the entries by which they come in, and a proof that the normal form implies it. The proof is for theories in
+/// which the formulas that the entries add are numbered from `first` on.
 pub fn skolem_proof(
     alloc: Global,
     norm: &Form,
@@ -36,7 +36,8 @@ pub fn skolem_proof(
     first: u64,
 ) -> Result<Skolemized, Memory>
     requires small { norm_size_of norm.now ≤ 100000 }
-    requires fits { (v : Vocabulary) × (scope : Listed ℕ) × (result : Formula) × IsWithin v scope norm.now × IsSkolemized v scope uses.now norm.now result }
+    requires fits { (v : Vocabulary) × (scope : Listed ℕ) × (result : Formula) × IsWithin v scope norm.now
+        × IsSkolemized v scope uses.now norm.now result }
     ensures { IfOk result (IsWitnessedBy uses.now norm.now first) }
 {
     let mut choices = List::new(alloc);

@@ -29,9 +29,9 @@ struct Members {
     arms: List<Proof>,
 }
 
-// The formula with the functions in place of its existential variables, and a proof that it implies that. As many functions
-// are behind as there are entries, and those of the formula's functions are added. The formulas that all the entries add are
-// numbered from `first` on.
+// The formula with the functions in place of its existential variables, and a proof that it implies that. As many
+// functions are behind as there are entries, and those of the formula's functions are added. The formulas that all the
+// entries add are numbered from `first` on.
 #[cycle(witness)]
 pub(crate) fn witness(
     alloc: Global,
@@ -87,7 +87,8 @@ fn witness_all(
     entries: &mut List<Entry>,
 ) -> Result<Members, Memory>
     requires { (v : Vocabulary) × (scope : Listed ℕ) × MayAllGo v scope forms.now (drop (length entries.now) uses.now) }
-    ensures { IfOk result (λ made. AreGone conjunction forms.now uses.now first entries.old entries.new made.forms made.arms) }
+    ensures { IfOk result (λ made.
+        AreGone conjunction forms.now uses.now first entries.old entries.new made.forms made.arms) }
 {
     let mut made = List::new(alloc);
     let mut arms = List::new(alloc);
@@ -110,7 +111,8 @@ fn witness_some(
     first: u64,
     entries: &mut List<Entry>,
 ) -> Result<Witnessed, Memory>
-    requires { (v : Vocabulary) × (scope : Listed ℕ) × MayGo v scope (Ex sort body.now) (drop (length entries.now) uses.now) }
+    requires { (v : Vocabulary) × (scope : Listed ℕ)
+        × MayGo v scope (Ex sort body.now) (drop (length entries.now) uses.now) }
     ensures { IfOk result (λ made. IsGone (Ex sort body.now) uses.now first entries.old entries.new made) }
 {
     let at = entries.len();

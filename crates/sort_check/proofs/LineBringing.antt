@@ -31,7 +31,7 @@ use Rattle.sort_check.specs.Bringing.{IsNamed, Brings}
 use Rattle.sort_check.specs.Outcomes.{Outcome, and_then, mapped, each}
 use Rattle.sort_check.specs.Symbols.{Text, named_sort, with_name}
 use Rattle.sort_check.specs.Denotation.{Setting, State, denoted_form, closed, clause_scope, without_count, sentence, clause, formula}
-use Rattle.sort_check.specs.Texts.{Declared, sort_at, declared_sort, symbol_named, symbol_of, result_named, result_kind, differs, placed, declared_symbol, typed, typed_body, is_type, at_line, type_item, type_lines, Reading, is_conjecture, is_single, line_of, reading, body_form, line_form, line, line_item, with_line, lines_from, only_vocabulary, denoted}
+use Rattle.sort_check.specs.Texts.{Declared, sort_at, declared_sort, symbol_named, symbol_of, result_named, result_kind, differs, found_or_added, declared_symbol, typed, typed_body, is_type, at_line, type_item, type_lines, Reading, is_conjecture, is_single, line_of, reading, body_form, line_form, line, line_item, with_line, lines_from, only_vocabulary, denoted}
 use Rattle.sort_check.proofs.Stepping.{at_ok, then_ok, mapped_ok}
 use Rattle.sort_check.proofs.Bringing.{brings_nothing, brings_on, brings_sort, with_symbol_brings, forms_bring}
 use Rattle.sort_check.proofs.LineSorts.{counted_ok, reading_ok, at_line_ok, symbol_same, declaring_ok, only_ok}
@@ -108,11 +108,11 @@ sort_brings word None v w n quotable e = by (length v.sorts == 65536) e
 declared_brings : (s : Symbol) (v w : Vocabulary) (n : ℕ) → IsNamed s → declared_symbol s v ≡ Ok (n, w) → Brings v w
 declared_brings s v w n named e = by (list_any (differs s) v.symbols) e
   where
-    at : (o : Option ℕ) → placed s o v ≡ Ok (n, w) → Brings v w
+    at : (o : Option ℕ) → found_or_added s o v ≡ Ok (n, w) → Brings v w
     at (Some number) k = at_ok {E = SortRule} (λ (m : ℕ) u. Brings v u) number n v w k (brings_nothing v)
     at None k = with_symbol_brings s v w n named k
 
-    by : (b : Bool) → cond b (Err Redeclared) (placed s (found_symbol v s.name s.kind (length s.args)) v) ≡ Ok (n, w) → Brings v w
+    by : (b : Bool) → cond b (Err Redeclared) (found_or_added s (found_symbol v s.name s.kind (length s.args)) v) ≡ Ok (n, w) → Brings v w
     by true k = absurd (cc)
     by false k = at (found_symbol v s.name s.kind (length s.args)) k
 

@@ -31,7 +31,7 @@ use Rattle.sort_check.specs.declared.scope.Variable.{Variable}
 use Rattle.sort_check.specs.Outcomes.{Outcome, and_then, mapped, each}
 use Rattle.sort_check.specs.Symbols.{Text, named_sort, with_symbol, known, with_name}
 use Rattle.sort_check.specs.Denotation.{Setting, State, denoted_form, closed, variables_of, each_once, clause_scope, without_count, sentence, clause, formula}
-use Rattle.sort_check.specs.Texts.{Declared, sort_at, declared_sort, symbol_named, symbol_of, result_named, result_kind, differs, placed, declared_symbol, declaring, typed, typed_body, is_type, at_line, type_item, type_lines, Reading, is_conjecture, is_single, line_of, reading, body_form, line_form, line, line_item, with_line, lines_from, only_vocabulary, denoted, Gives}
+use Rattle.sort_check.specs.Texts.{Declared, sort_at, declared_sort, symbol_named, symbol_of, result_named, result_kind, differs, found_or_added, declared_symbol, declaring, typed, typed_body, is_type, at_line, type_item, type_lines, Reading, is_conjecture, is_single, line_of, reading, body_form, line_form, line, line_item, with_line, lines_from, only_vocabulary, denoted, Gives}
 use Rattle.sort_check.specs.Sorting.{IsSentence, AreSorted, Extends}
 use Rattle.sort_check.proofs.Stepping.{at_ok, then_ok, mapped_ok}
 use Rattle.sort_check.proofs.TermSorts.{grows_not, grows_on, sort_added, symbol_added}
@@ -202,11 +202,11 @@ symbol_grows s v w n fits e = by (length v.symbols == 16777216) e
 declared_grows : (s : Symbol) (v w : Vocabulary) (n : ℕ) → (0 < length v.sorts → IsDeclared (length v.sorts) s) → declared_symbol s v ≡ Ok (n, w) → Extends v w
 declared_grows s v w n fits e = by (list_any (differs s) v.symbols) e
   where
-    at : (o : Option ℕ) → placed s o v ≡ Ok (n, w) → Extends v w
+    at : (o : Option ℕ) → found_or_added s o v ≡ Ok (n, w) → Extends v w
     at (Some number) k = at_ok {E = SortRule} (λ (m : ℕ) u. Extends v u) number n v w k (grows_not v)
     at None k = symbol_grows s v w n fits k
 
-    by : (b : Bool) → cond b (Err Redeclared) (placed s (found_symbol v s.name s.kind (length s.args)) v) ≡ Ok (n, w) → Extends v w
+    by : (b : Bool) → cond b (Err Redeclared) (found_or_added s (found_symbol v s.name s.kind (length s.args)) v) ≡ Ok (n, w) → Extends v w
     by true k = absurd (cc)
     by false k = at (found_symbol v s.name s.kind (length s.args)) k
 

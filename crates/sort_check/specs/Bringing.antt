@@ -1,5 +1,5 @@
--- What a text brings to a signature (TPTP technical manual, types): sorts and symbols that it names. A predicate has no sort
--- as its result, so 0 stands there.
+-- What a text brings to a signature (TPTP technical manual, types): sorts and symbols that it names. A predicate has no
+-- sort as its result, so 0 stands there.
 use Rattle.std.specs.Prelude.{◌≡◌, List, ◌++◌}
 use Rattle.std.specs.List.{AllByRecursion}
 use Rattle.tptp_base.specs.Quotable.{IsQuotable, AreQuotable}

@@ -1,6 +1,7 @@
--- What terms and formulas denote (TPTP technical manual, quantification and connectives): trees in which a bound variable
--- is the number of binders between it and its own.
-use Rattle.std.specs.Prelude.{ℕ, ◌+◌, ◌==◌, ◌++◌, not, if◌then◌else◌, List, [], ◌∷◌, length, map, take, Option, Some, None, Ok, Err}
+-- What terms and formulas denote (TPTP technical manual, quantification and connectives): trees in which a bound
+-- variable is the number of binders between it and its own.
+use Rattle.std.specs.Prelude.{ℕ, ◌+◌, ◌==◌, ◌++◌, not, if◌then◌else◌, List, [], ◌∷◌, length, map, take, Option, Some}
+use Rattle.std.specs.Prelude.{None, Ok, Err}
 use Rattle.std.specs.List.{filter, flat_map}
 use Rattle.std.specs.Str.{bytes_eq}
 use Rattle.tptp_base.specs.declared.surface.STerm.{STerm}

@@ -1,5 +1,5 @@
--- What a problem gives to its derivation (SZS ontology, refutation): its axioms and its negated conjectures as they are,
--- and its conjecture negated.
+-- What a problem gives to its derivation (SZS ontology, refutation): its axioms and its negated conjectures as they
+-- are, and its conjecture negated.
 use Rattle.std.specs.Prelude.{List, [], ◌∷◌, Option, Some, None}
 use Rattle.tptp_base.specs.declared.item.Role.{Role}
 use Rattle.fof_terms.specs.declared.form.Form.{Form, Not}

@@ -1,5 +1,5 @@
--- What a text denotes is closed and well-sorted in the signature that stands behind it, which goes on from the one before
--- it (TPTP technical manual, types: what is declared stays declared).
+-- What a text denotes is closed and well-sorted in the signature that stands behind it, which goes on from the one
+-- before it (TPTP technical manual, types: what is declared stays declared).
 use Rattle.std.specs.Prelude.{◌≡◌, ◌<◌, List, [], ◌++◌, length}
 use Rattle.std.specs.List.{All, AllByRecursion}
 use Rattle.fof_terms.specs.Vocabulary.{Vocabulary, IsDeclared}
@@ -9,8 +9,8 @@ use Rattle.fof_terms.specs.declared.form.Form.{Form}
 use Rattle.sort_check.specs.declared.line.Line.{Line}
 use Rattle.sort_check.specs.declared.line.GivenEntry.{GivenEntry}
 
--- The formula is closed and well-sorted, and at most 500 quantifiers stand inside each other: 250 for the variables of a
--- clause, and 250 that are written.
+-- The formula is closed and well-sorted, and at most 500 quantifiers stand inside each other: 250 for the variables of
+-- a clause, and 250 that are written.
 abbrev pub IsSentence : Vocabulary → Form → Type 0
 IsSentence v a = SortedTo 500 v [] a
 

@@ -1,7 +1,8 @@
 -- Names as symbols and sorts (TPTP technical manual, types). A name that a type line of the same text declares has its
 -- one kind and arity; another name is known by name, kind and number of arguments, and has the sort of individuals
 -- throughout.
-use Rattle.std.specs.Prelude.{ℕ, ◌==◌, ◌++◌, Bool, if◌then◌else◌, List, [], ◌∷◌, length, Option, Some, None, Ok, Err, slice_get, replicate}
+use Rattle.std.specs.Prelude.{ℕ, ◌==◌, ◌++◌, Bool, if◌then◌else◌, List, [], ◌∷◌, length, Option, Some, None, Ok, Err}
+use Rattle.std.specs.Prelude.{slice_get, replicate}
 use Rattle.std.specs.List.{list_any}
 use Rattle.std.specs.Str.{bytes_eq}
 use Rattle.tptp_base.specs.declared.limit.LimitName.TheVariants.{Symbols}

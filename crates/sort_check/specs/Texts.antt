@@ -1,6 +1,7 @@
--- What a text denotes (TPTP technical manual, annotated formulas and types): its type lines are taken first, in order, and
--- then its other formulas, in order. The first fault is that of the text.
-use Rattle.std.specs.Prelude.{◌≡◌, ℕ, ◌+◌, ◌==◌, ◌++◌, Bool, true, false, not, ◌&&◌, ◌||◌, if◌then◌else◌, List, [], ◌∷◌, length, Option, Some, None, Result, Ok, Err, nat_eq}
+-- What a text denotes (TPTP technical manual, annotated formulas and types): its type lines are taken first, in order,
+-- and then its other formulas, in order. The first fault is that of the text.
+use Rattle.std.specs.Prelude.{◌≡◌, ℕ, ◌+◌, ◌==◌, ◌++◌, Bool, true, false, not, ◌&&◌, ◌||◌, if◌then◌else◌, List, [], ◌∷◌}
+use Rattle.std.specs.Prelude.{length, Option, Some, None, Result, Ok, Err, nat_eq}
 use Rattle.std.specs.List.{list_any}
 use Rattle.std.specs.Str.{bytes_eq}
 use Rattle.std.specs.Cmp.Lexicographic.{pointwise}
@@ -69,13 +70,13 @@ symbol_named word args result v = and_then (each (λ place. named_sort) 0 args v
 abbrev pub differs : Symbol → Symbol → Bool
 differs s t = bytes_eq t.name s.name && not (is_kind t.kind s.kind && (pointwise nat_eq t.args s.args && t.result == s.result))
 
-abbrev pub placed : Symbol → Option ℕ → Vocabulary → Outcome SortRule Vocabulary ℕ
-placed s (Some number) v = Ok (number, v)
-placed s None v = with_symbol s v
+abbrev pub found_or_added : Symbol → Option ℕ → Vocabulary → Outcome SortRule Vocabulary ℕ
+found_or_added s (Some number) v = Ok (number, v)
+found_or_added s None v = with_symbol s v
 
 -- a symbol, which may be there with the same kind, arity and type
 abbrev pub declared_symbol : Symbol → Vocabulary → Outcome SortRule Vocabulary ℕ
-declared_symbol s v = if list_any (differs s) v.symbols then Err Redeclared else placed s (found_symbol v s.name s.kind (length s.args)) v
+declared_symbol s v = if list_any (differs s) v.symbols then Err Redeclared else found_or_added s (found_symbol v s.name s.kind (length s.args)) v
 
 -- behind the names that are declared
 abbrev pub declaring : List Text → Outcome SortRule Vocabulary ℕ → Outcome SortRule Declared (Unit {0})

@@ -19,7 +19,9 @@ pub fn bound_variables(
     scope: &mut Scope,
     variables: &[BoundVar],
 ) -> Result<List<Variable>, Stop>
-    ensures value { Answers (each (λ place. spec.bound_variable) 0 variables.now (spec_code.state signature.now scope.old)) result (spec_code.state signature.now scope.new) }
+    ensures value { Answers
+        (each (λ place. spec.bound_variable) 0 variables.now (spec_code.state signature.now scope.old)) result
+        (spec_code.state signature.now scope.new) }
     ensures scope { OnOk result (scope.new ≡ record scope.old { bound = scope.new.bound }) }
     ensures count { IfOk result (λ found. scope.new.bound ≡ scope.old.bound + length found) }
 {
@@ -37,7 +39,8 @@ fn bound_variable(
     scope: &mut Scope,
     variable: &BoundVar,
 ) -> Result<Variable, Stop>
-    ensures value { Answers (spec.bound_variable variable.now (spec_code.state signature.now scope.old)) result (spec_code.state signature.now scope.new) }
+    ensures value { Answers (spec.bound_variable variable.now (spec_code.state signature.now scope.old)) result
+        (spec_code.state signature.now scope.new) }
     ensures scope { OnOk result (scope.new ≡ record scope.old { bound = scope.old.bound + 1 }) }
 {
     scope.count()?;

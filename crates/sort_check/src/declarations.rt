@@ -29,7 +29,9 @@ pub fn declare(
 ) -> Result<(), Stop>
     requires { Knows namesakes.old signature.old.symbols }
     ensures knows { OnOk result (Knows namesakes.new signature.new.symbols) }
-    ensures answers { Answers (spec.typed typing.now.name typing.now.shape (record { vocabulary = signature.old; names = names.old })) result (record { vocabulary = signature.new; names = names.new }) }
+    ensures answers { Answers
+        (spec.typed typing.now.name typing.now.shape (record { vocabulary = signature.old; names = names.old })) result
+        (record { vocabulary = signature.new; names = names.new }) }
     ensures keeps { Extends signature.old signature.new }
 {
     match &typing.shape {

@@ -16,8 +16,8 @@ use fof_terms::{Form, Signature};
 use std::alloc::Global;
 use tptp_base::{Annotated, Body, Item, List, Memory, Role};
 
-/// The lines of all formulas but the type lines, in order. The type lines are taken first, in order, and then the others;
-/// a further sort or symbol goes to the signature's end. The fault is the first one, and after it the signature
+/// The lines of all formulas but the type lines, in order. The type lines are taken first, in order, and then the
+/// others; a further sort or symbol goes to the signature's end. The fault is the first one, and after it the signature
 /// holds what it held and perhaps further sorts and symbols.
 ///
 /// The formulas are closed and well-sorted in the signature behind them. It has all that it had, also after a fault and
@@ -63,7 +63,9 @@ fn take_types(
     signature: &mut Signature,
     names: &mut Names,
 ) -> Result<(), SortFault>
-    ensures value { spec.Gives (spec.type_lines items.now (record { vocabulary = signature.old; names = names.old })) result (record { vocabulary = signature.new; names = names.new }) }
+    ensures value { spec.Gives
+        (spec.type_lines items.now (record { vocabulary = signature.old; names = names.old })) result
+        (record { vocabulary = signature.new; names = names.new }) }
     ensures keeps { Extends signature.old signature.new }
 {
     let mut namesakes = Namesakes::of(alloc, signature)?;
@@ -83,7 +85,9 @@ fn take_type(
 ) -> Result<(), SortFault>
     requires { Knows namesakes.old signature.old.symbols }
     ensures knows { OnOk result (Knows namesakes.new signature.new.symbols) }
-    ensures answers { spec.Gives (spec.type_item item.now (record { vocabulary = signature.old; names = names.old })) result (record { vocabulary = signature.new; names = names.new }) }
+    ensures answers { spec.Gives
+        (spec.type_item item.now (record { vocabulary = signature.old; names = names.old })) result
+        (record { vocabulary = signature.new; names = names.new }) }
     ensures keeps { Extends signature.old signature.new }
 {
     match item {
@@ -108,7 +112,9 @@ fn take_type_line(
 ) -> Result<(), SortFault>
     requires { Knows namesakes.old signature.old.symbols }
     ensures knows { OnOk result (Knows namesakes.new signature.new.symbols) }
-    ensures answers { spec.Gives (spec.type_line line.now (record { vocabulary = signature.old; names = names.old })) result (record { vocabulary = signature.new; names = names.new }) }
+    ensures answers { spec.Gives
+        (spec.type_line line.now (record { vocabulary = signature.old; names = names.old })) result
+        (record { vocabulary = signature.new; names = names.new }) }
     ensures keeps { Extends signature.old signature.new }
 {
     if !is_type(line.role) {
@@ -130,7 +136,9 @@ fn take_body(
 ) -> Result<(), Stop>
     requires { Knows namesakes.old signature.old.symbols }
     ensures knows { OnOk result (Knows namesakes.new signature.new.symbols) }
-    ensures answers { Answers (spec.typed_body body.now (record { vocabulary = signature.old; names = names.old })) result (record { vocabulary = signature.new; names = names.new }) }
+    ensures answers { Answers
+        (spec.typed_body body.now (record { vocabulary = signature.old; names = names.old })) result
+        (record { vocabulary = signature.new; names = names.new }) }
     ensures keeps { Extends signature.old signature.new }
 {
     match body {
@@ -148,7 +156,10 @@ fn take_lines(
     kind: TextKind,
 ) -> Result<List<Line>, SortFault>
     requires { length items.now < 2 ^ 32 }
-    ensures value { spec.Gives (spec.only_vocabulary (spec.lines_from kind names.now 0 items.now (record { vocabulary = signature.old; conjectured = false }))) result signature.new }
+    ensures value { spec.Gives
+        (spec.only_vocabulary
+        (spec.lines_from kind names.now 0 items.now
+        (record { vocabulary = signature.old; conjectured = false }))) result signature.new }
     ensures keeps { Extends signature.old signature.new }
 {
     let mut lines = List::new(alloc);
@@ -180,7 +191,10 @@ fn take_line(
     kind: TextKind,
     conjectured: &mut bool,
 ) -> Result<Option<Line>, SortFault>
-    ensures value { spec.Gives (spec.line_item kind names.now number item.now (record { vocabulary = signature.old; conjectured = conjectured.old })) result (record { vocabulary = signature.new; conjectured = conjectured.new }) }
+    ensures value { spec.Gives
+        (spec.line_item kind names.now number item.now
+        (record { vocabulary = signature.old; conjectured = conjectured.old })) result
+        (record { vocabulary = signature.new; conjectured = conjectured.new }) }
     ensures keeps { Extends signature.old signature.new }
 {
     match item {
@@ -207,7 +221,10 @@ fn line_form(
     kind: TextKind,
     conjectured: &mut bool,
 ) -> Result<Form, Stop>
-    ensures value { Answers (spec.line_form kind names.now line.now (record { vocabulary = signature.old; conjectured = conjectured.old })) result (record { vocabulary = signature.new; conjectured = conjectured.new }) }
+    ensures value { Answers
+        (spec.line_form kind names.now line.now
+        (record { vocabulary = signature.old; conjectured = conjectured.old })) result
+        (record { vocabulary = signature.new; conjectured = conjectured.new }) }
     ensures keeps { Extends signature.old signature.new }
 {
     let is_new = is_conjecture(line.role);

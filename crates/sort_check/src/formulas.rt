@@ -27,7 +27,9 @@ pub fn denote_form(
     signature: &mut Signature,
     scope: &mut Scope,
 ) -> Result<Form, Stop>
-    ensures value { Answers (spec.denoted_form (spec_code.setting declared.now scope.old) form.now scope.old.variables (spec_code.state signature.old scope.old)) result (spec_code.state signature.new scope.new) }
+    ensures value { Answers
+        (spec.denoted_form (spec_code.setting declared.now scope.old) form.now scope.old.variables
+        (spec_code.state signature.old scope.old)) result (spec_code.state signature.new scope.new) }
     ensures scope { OnOk result (scope.new ≡ record scope.old { bound = scope.new.bound }) }
     ensures keeps { Extends signature.old signature.new }
 {
@@ -94,7 +96,10 @@ fn denote_members(
     signature: &mut Signature,
     scope: &mut Scope,
 ) -> Result<List<Form>, Stop>
-    ensures value { Answers (each (λ place a. spec.denoted_form (spec_code.setting declared.now scope.old) a scope.old.variables) 0 forms.now (spec_code.state signature.old scope.old)) result (spec_code.state signature.new scope.new) }
+    ensures value { Answers
+        (each (λ place a.
+        spec.denoted_form (spec_code.setting declared.now scope.old) a scope.old.variables) 0 forms.now
+        (spec_code.state signature.old scope.old)) result (spec_code.state signature.new scope.new) }
     ensures scope { OnOk result (scope.new ≡ record scope.old { bound = scope.new.bound }) }
     ensures keeps { Extends signature.old signature.new }
 {
@@ -116,7 +121,9 @@ fn denote_bound(
     quant: Quant,
     variables: &[BoundVar],
 ) -> Result<Form, Stop>
-    ensures value { Answers (spec_code.bound (spec_code.setting declared.now scope.old) quant variables.now body.now scope.old.variables (spec_code.state signature.old scope.old)) result (spec_code.state signature.new scope.new) }
+    ensures value { Answers
+        (spec_code.bound (spec_code.setting declared.now scope.old) quant variables.now body.now scope.old.variables
+        (spec_code.state signature.old scope.old)) result (spec_code.state signature.new scope.new) }
     ensures scope { OnOk result (scope.new ≡ record scope.old { bound = scope.new.bound }) }
     ensures keeps { Extends signature.old signature.new }
 {
@@ -136,7 +143,10 @@ fn denote_atom(
     name: &[u8],
     args: &[STerm],
 ) -> Result<Form, Stop>
-    ensures value { Answers (spec.beside scope.now.bound (spec.atom (spec_code.setting declared.now scope.now) scope.now.variables name.now args.now signature.old)) result (spec_code.state signature.new scope.now) }
+    ensures value { Answers
+        (spec.beside scope.now.bound
+        (spec.atom (spec_code.setting declared.now scope.now) scope.now.variables name.now args.now
+        signature.old)) result (spec_code.state signature.new scope.now) }
     ensures keeps { Extends signature.old signature.new }
 {
     let predicate = head(
@@ -160,7 +170,10 @@ fn denote_equation(
     left: &STerm,
     right: &STerm,
 ) -> Result<Form, Stop>
-    ensures value { Answers (spec.beside scope.now.bound (spec.equation (spec_code.setting declared.now scope.now) scope.now.variables left.now right.now signature.old)) result (spec_code.state signature.new scope.now) }
+    ensures value { Answers
+        (spec.beside scope.now.bound
+        (spec.equation (spec_code.setting declared.now scope.now) scope.now.variables left.now right.now
+        signature.old)) result (spec_code.state signature.new scope.now) }
     ensures keeps { Extends signature.old signature.new }
 {
     let left = denote_term(left, alloc, declared, signature, scope)?;

@@ -10,8 +10,8 @@ use fof_terms::Form;
 use std::alloc::Global;
 use tptp_base::{List, Memory, Role};
 
-/// The formulas that a problem gives, in order: those of roles axiom, hypothesis, definition, assumption, lemma, theorem,
-/// corollary and negated_conjecture as they are, and the conjecture negated. Other roles give nothing.
+/// The formulas that a problem gives, in order: those of roles axiom, hypothesis, definition, assumption, lemma,
+/// theorem, corollary and negated_conjecture as they are, and the conjecture negated. Other roles give nothing.
 ///
 /// Where the formulas of the lines are closed and well-sorted, those that are given are so too.
 #[tactic(auto, using(crate::proofs::GivenSorts::given_sorted))]
@@ -35,7 +35,8 @@ fn entries_of(alloc: Global, lines: &[Line]) -> Result<List<GivenEntry>, Memory>
 
 // What a line gives, behind the entries that are there.
 fn add_entry(alloc: Global, line: &Line, entries: &mut List<GivenEntry>) -> Result<(), Memory>
-    ensures { OnOk result (entries.new ≡ entries.old ++ with_entry line.now (given_form line.now.role line.now.form) []) }
+    ensures { OnOk result (entries.new ≡ entries.old
+        ++ with_entry line.now (given_form line.now.role line.now.form) []) }
 {
     match given_formula(alloc, line.role, &line.form)? {
         Some(form) => {

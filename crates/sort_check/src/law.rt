@@ -13,12 +13,14 @@ ghost use Rattle.sort_check.specs.Texts.{denoted, Gives};
 /// Items denote lines or have a first fault, and never two of them.
 pub fn one_answer()
     ensures some { (items : List Item) (v : Vocabulary) (kind : TextKind) → HaveAnswer items v kind }
-    ensures one { (items : List Item) (v : Vocabulary) (kind : TextKind) (answer other : Answer) (new later : Vocabulary) →
-        Gives (denoted items v kind) answer new → Gives (denoted items v kind) other later → IsOne answer new other later }
+    ensures one { (items : List Item) (v : Vocabulary) (kind : TextKind) (answer other : Answer)
+        (new later : Vocabulary) →
+        Gives (denoted items v kind) answer new → Gives (denoted items v kind) other later
+        → IsOne answer new other later }
 {}
 
-/// What a text brings to a signature it names: where its names can be written between quotes, those of the further sorts and
-/// symbols can. A further predicate has the result 0.
+/// What a text brings to a signature it names: where its names can be written between quotes, those of the further
+/// sorts and symbols can. A further predicate has the result 0.
 pub fn named_by_the_text()
     ensures { (items : List Item) (v w : Vocabulary) (kind : TextKind) (lines : List Line) →
         AreQuotable (names_of_items items) → denoted items v kind ≡ Ok (lines, w) → Brings v w }

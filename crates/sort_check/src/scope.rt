@@ -1,5 +1,6 @@
 // The variables that stand for something at a place in a formula.
-ghost use Rattle.std.specs.Prelude.{◌≡◌, ◌+◌, ◌≤◌, ◌<◌, ◌++◌, ◌∷◌, [], length, IfOk, OnOk, OnErr, MatchOption, MatchResult};
+ghost use Rattle.std.specs.Prelude.{◌≡◌, ◌+◌, ◌≤◌, ◌<◌, ◌++◌, ◌∷◌, [], length, IfOk, OnOk, OnErr, MatchOption};
+ghost use Rattle.std.specs.Prelude.{MatchResult};
 ghost use Rattle.sort_check.specs.declared.fault.SortRule.TheVariants.{Variables};
 ghost use Rattle.sort_check.specs.declared.fault.Stop.TheVariants.{Rule};
 ghost use Rattle.sort_check.specs.Denotation.{nearest};
@@ -76,7 +77,8 @@ impl Scope {
 
     /// Counts a further bound variable, unless there are 250.
     pub fn count(&mut self) -> Result<(), Stop>
-        ensures ok { OnOk result ((self.old.bound < 250) × (self.new ≡ record self.old { bound = self.old.bound + 1 })) }
+        ensures ok { OnOk result ((self.old.bound < 250)
+            × (self.new ≡ record self.old { bound = self.old.bound + 1 })) }
         ensures err { OnErr result ((self.old.bound ≡ 250) × (result ≡ Err (Rule Variables))) }
     {
         if self.bound >= MAX_VARIABLES {

@@ -43,7 +43,8 @@ fn add_undeclared(
     kind: Kind,
     arity: usize,
 ) -> Result<SymId, Stop>
-    ensures value { Answers (spec.with_symbol (spec.undeclared name.now kind arity) signature.old) result signature.new }
+    ensures value { Answers
+        (spec.with_symbol (spec.undeclared name.now kind arity) signature.old) result signature.new }
     ensures keeps { Extends signature.old signature.new }
 {
     // A signature has sorts, as the count tells.

@@ -30,7 +30,9 @@ pub fn denote_term(
     signature: &mut Signature,
     scope: &Scope,
 ) -> Result<Sorted, Stop>
-    ensures value { Answers (spec.denoted_term (spec_code.setting declared.now scope.now) scope.now.variables term.now signature.old) result signature.new }
+    ensures value { Answers
+        (spec.denoted_term
+        (spec_code.setting declared.now scope.now) scope.now.variables term.now signature.old) result signature.new }
     ensures keeps { Extends signature.old signature.new }
 {
     match term {
@@ -77,7 +79,12 @@ pub fn denote_arguments(
     scope: &Scope,
     symbol: SymId,
 ) -> Result<List<Term>, Stop>
-    ensures value { Answers (each (λ place t. spec.argument symbol place (spec.denoted_term (spec_code.setting declared.now scope.now) scope.now.variables t)) 0 terms.now signature.old) result signature.new }
+    ensures value { Answers
+        (each (λ place t.
+        spec.argument symbol place
+        (spec.denoted_term
+        (spec_code.setting declared.now
+        scope.now) scope.now.variables t)) 0 terms.now signature.old) result signature.new }
     ensures keeps { Extends signature.old signature.new }
 {
     let mut found = List::new(alloc);
@@ -106,7 +113,10 @@ fn denote_argument(
     symbol: SymId,
     place: usize,
 ) -> Result<Term, Stop>
-    ensures value { Answers (spec.argument symbol place (spec.denoted_term (spec_code.setting declared.now scope.now) scope.now.variables term.now) signature.old) result signature.new }
+    ensures value { Answers
+        (spec.argument symbol place
+        (spec.denoted_term
+        (spec_code.setting declared.now scope.now) scope.now.variables term.now) signature.old) result signature.new }
     ensures keeps { Extends signature.old signature.new }
 {
     let found = denote_term(term, alloc, declared, signature, scope)?;

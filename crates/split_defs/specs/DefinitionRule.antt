@@ -22,7 +22,8 @@ pub record IsNew (t : Statements) (kind : Kind) (k : ℕ) : Type 0 where
   pub is_kind : symbol.kind ≡ kind
   pub fresh : IsFresh k t
 
--- the formula says what k(x) means: k does not occur in it, and all its free variables are among the distinct variables x
+-- the formula says what k(x) means: k does not occur in it, and all its free variables are among the distinct variables
+-- x
 pub record IsMeaning (k : ℕ) (xs : List ℕ) (a : Form) : Type 0 where
   pub distinct : IsDistinct nat_eq xs
   pub absent : occurs_in k a ≡ false

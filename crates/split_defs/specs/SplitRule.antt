@@ -1,5 +1,5 @@
--- The rule `split`: the line is a parent clause in which names stand for parts of it, each by a parent that says what the
--- name stands for.
+-- The rule `split`: the line is a parent clause in which names stand for parts of it, each by a parent that says what
+-- the name stands for.
 use Rattle.std.specs.Prelude.{ℕ, zero, suc, ◌≡◌, ◌<◌, ◌⊎◌, List, [], ◌∷◌, ◌++◌, length, map, Some, slice_get}
 use Rattle.fof_terms.specs.declared.term.Term.{Term}
 use Rattle.fof_terms.specs.declared.form.Form.{Form, Atom, Iff}
@@ -42,10 +42,10 @@ together (c ∷ cs) = record { sorts = c.sorts ++ (together cs).sorts; lits = ma
 abbrev pub unfolded : Clause → List Clause → Clause
 unfolded line ds = together (line ∷ ds)
 
--- The parent of that number is a clause, and one or more parents name clauses; all that do are taken, since one that is not
--- needed does no harm. One substitution for the variables of the first covers it: each of its literals becomes one of the
--- line or of what the names stand for, up to the sides of an equation, or is false by its form. The variables of the line
--- and of what the names stand for are themselves.
+-- The parent of that number is a clause, and one or more parents name clauses; all that do are taken, since one that is
+-- not needed does no harm. One substitution for the variables of the first covers it: each of its literals becomes one
+-- of the line or of what the names stand for, up to the sides of an equation, or is false by its form. The variables of
+-- the line and of what the names stand for are themselves.
 pub record SplitsAt (v : Vocabulary) (parents : List Form) (line : Form) (n : ℕ) (names : List ℕ) (e c : Clause) (ds : List Clause) (more : List ℕ) (s : ℕ → Term) : Type 0 where
   pub line_clause : clause_of line ≡ Some e
   pub form : Form

@@ -65,7 +65,8 @@ fn push_arms(
     arms: &mut List<Proof>,
 ) -> Result<(), Memory>
     requires { IsGoal sig.now (scope_sorts scope.now) goal.now }
-    ensures { OnOk result ((made : ListOf Deduction) × (arms.new ≡ arms.old ++ made) × EachRefutes sig.now (scope_sorts scope.now) denial (body goal.now) goal.now.clause.lits made) }
+    ensures { OnOk result ((made : ListOf Deduction) × (arms.new ≡ arms.old ++ made)
+        × EachRefutes sig.now (scope_sorts scope.now) denial (body goal.now) goal.now.clause.lits made) }
 {
     let lits = goal.clause.lits.as_slice();
     for lit in lits {

@@ -50,7 +50,8 @@ pub fn predicate_entries(
 
 // The meaning over the arguments of the predicate, which are these variables.
 fn over_arguments(alloc: Global, args: &[Term], meaning: &Form) -> Result<Boxed<Form>, Memory>
-    requires { (k : ℕ) × (xs : ListOf ℕ) × (args.now ≡ map Var xs) × IsMeaning k xs meaning.now × (length xs + binder_depth meaning.now < 2 ^ 32) }
+    requires { (k : ℕ) × (xs : ListOf ℕ) × (args.now ≡ map Var xs) × IsMeaning k xs meaning.now
+        × (length xs + binder_depth meaning.now < 2 ^ 32) }
     ensures { IfOk result (λ own. (xs : ListOf ℕ) → args.now ≡ map Var xs → own ≡ renamed xs 0 meaning.now) }
 {
     match names_of(alloc, args)? {

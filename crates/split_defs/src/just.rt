@@ -10,9 +10,9 @@ pub enum SplitJust {
         symbol: SymId,
         first: bool,
     },
-    /// The line has names for parts of the parent, and these other parents say what the names stand for. The substitution
-    /// has the images of the variables of the parts, those of the last definition first, then of the line's variables, all
-    /// of which stand for themselves, and then of the parent's variables.
+    /// The line has names for parts of the parent, and these other parents say what the names stand for. The
+    /// substitution has the images of the variables of the parts, those of the last definition first, then of the
+    /// line's variables, all of which stand for themselves, and then of the parent's variables.
     Split {
         parent: usize,
         definitions: List<usize>,

@@ -19,7 +19,8 @@ pub struct Named {
 
 /// All parents that say what a literal of the line stands for.
 pub fn all_named(alloc: Global, parents: &[Parent], line: &Clause) -> Result<Named, Memory>
-    ensures { IfOk result (λ named. AllName (forms_of parents.now) line.now (length parents.now) named.numbers named.clauses) }
+    ensures { IfOk result (λ named.
+        AllName (forms_of parents.now) line.now (length parents.now) named.numbers named.clauses) }
 {
     let numbers = List::new(alloc);
     let clauses = List::new(alloc);
@@ -51,7 +52,8 @@ fn with_parent(
 
 // One parent more, and what it names.
 fn with_clause(named: Named, i: usize, clause: Clause) -> Result<Named, Memory>
-    ensures { IfOk result (λ more. (more.numbers ≡ named.numbers ++ i ∷ []) × (more.clauses ≡ named.clauses ++ clause ∷ [])) }
+    ensures { IfOk result (λ more. (more.numbers ≡ named.numbers ++ i ∷ [])
+        × (more.clauses ≡ named.clauses ++ clause ∷ [])) }
 {
     let Named {
         mut numbers,

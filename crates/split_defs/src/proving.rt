@@ -1,5 +1,6 @@
 //! The entry by which a theory takes a line that has names for parts of a parent.
-ghost use Rattle.std.specs.Prelude.{◌≡◌, ◌<◌, ◌≤◌, ◌^◌, ◌∷◌, [], ℕ, true, length, List as ListOf, Some, IfOk, slice_get};
+ghost use Rattle.std.specs.Prelude.{◌≡◌, ◌<◌, ◌≤◌, ◌^◌, ◌∷◌, [], ℕ, true, length, List as ListOf, Some, IfOk};
+ghost use Rattle.std.specs.Prelude.{slice_get};
 ghost use Rattle.std.specs.List.{AllByRecursion};
 ghost use Rattle.clause_rules.specs.Settled.{IsFit};
 ghost use Rattle.fof_terms.specs.declared.form.Form.{Form as Formula, Or};
@@ -13,7 +14,8 @@ ghost use Rattle.derive_kit.specs.Derived.{AreOfTheory, IsDerivedFrom, numbers_o
 ghost use Rattle.kernel.specs.Proves.{Proves};
 ghost use Rattle.kernel.specs.declared.entry.Entry.TheVariants.{Lemma};
 ghost use Rattle.split_defs.specs.declared.just.SplitJust.TheVariants.{Split};
-ghost use Rattle.split_defs.specs.code.SplitProof.{AreGoals, AreStages, DeniedAt, enclosed_tree, nest_tree, stage_clauses, stage_tree};
+ghost use Rattle.split_defs.specs.code.SplitProof.{AreGoals, AreStages, DeniedAt, enclosed_tree, nest_tree};
+ghost use Rattle.split_defs.specs.code.SplitProof.{stage_clauses, stage_tree};
 ghost use Rattle.split_defs.specs.SplitRule.{together as clauses_together};
 ghost use Rattle.split_defs.specs.SplitSearch.{ShowsSplit, forms_of};
 
@@ -117,7 +119,9 @@ fn by_stages(
     requires there { (n : ℕ) × (slice_get parents.now n ≡ Some parent.now) }
     requires parent { IsReadyClause sig.now parent.now.form clause.now }
     requires joint { IsJoint sig.now (clauses_together (stage_clauses stages)) (scope_of clause.now.clause) subst.now }
-    requires covers { CoversBy sig.now (scope_of clause.now.clause) clause.now.clause.lits (clauses_together (stage_clauses stages)) (scope_of clause.now.clause) (images_of_parents (clauses_together (stage_clauses stages)) subst.now) }
+    requires covers { CoversBy sig.now (scope_of clause.now.clause) clause.now.clause.lits
+        (clauses_together (stage_clauses stages)) (scope_of clause.now.clause)
+        (images_of_parents (clauses_together (stage_clauses stages)) subst.now) }
     ensures { IfOk result (ShowsLine sig.now parents.now line.now) }
 {
     let whole = whole_of(alloc, sig, stages.as_slice())?;
@@ -173,7 +177,9 @@ fn contradicted(
     requires goal { IsGoal sig.now (scope_sorts scope.now) whole.now }
     requires covered { AreCovered whole.now.clause.lits premise.lits }
     requires sorted { AreSorted sig.now (scope_sorts scope.now) premise.lits }
-    ensures { IfOk result (λ core. (formulas h : ListOf Formula) → ShowsBody sig.now (scope_sorts scope.now) formulas premise.is_or premise.lits premise.part → DeniedAt h stages.now → Proves (theory_of sig.now formulas) (scope_sorts scope.now) h core (Or [])) }
+    ensures { IfOk result (λ core. (formulas h : ListOf Formula)
+        → ShowsBody sig.now (scope_sorts scope.now) formulas premise.is_or premise.lits premise.part
+        → DeniedAt h stages.now → Proves (theory_of sig.now formulas) (scope_sorts scope.now) h core (Or [])) }
 {
     let count = whole.clause.sorts.len();
     let arms = all_arms(alloc, sig, scope, stages, count as u32)?;

@@ -26,7 +26,9 @@ pub fn split_step(
 ) -> Result<Option<SplitJust>, Memory>
     requires ready { AreReady theory.now.vocabulary parents.now }
     requires line { IsReady theory.now.vocabulary line.now }
-    ensures { IfOk result (λ answer. MatchOption answer (IsSplitStep theory.now.vocabulary (forms_of parents.now) line.now → ⊥) (ShowsSplit theory.now.vocabulary (forms_of parents.now) line.now)) }
+    ensures { IfOk result (λ answer.
+        MatchOption answer (IsSplitStep theory.now.vocabulary (forms_of parents.now) line.now
+        → ⊥) (ShowsSplit theory.now.vocabulary (forms_of parents.now) line.now)) }
 {
     match as_clause(alloc, line)? {
         Some(line) => split_clause(alloc, theory.signature(), parents, line),

@@ -40,7 +40,8 @@ pub fn all_stages(
     requires named { (ds : ListOf Disjunction) × AreNamed (forms_of parents.now) line.now.clause names.now ds }
     ensures stages { IfOk result (AreStages sig.now parents.now form.now 1) }
     ensures short { IfOk result (λ stages. length stages < 2 ^ 32) }
-    ensures clauses { IfOk result (λ stages. (ds : ListOf Disjunction) → AreNamed (forms_of parents.now) line.now.clause names.now ds → stage_clauses stages ≡ line.now.clause ∷ ds) }
+    ensures clauses { IfOk result (λ stages. (ds : ListOf Disjunction)
+        → AreNamed (forms_of parents.now) line.now.clause names.now ds → stage_clauses stages ≡ line.now.clause ∷ ds) }
 {
     let mut stages = List::new(alloc);
     stages.push(line_stage(alloc, sig, parents, form, line)?)?;
@@ -52,7 +53,8 @@ pub fn all_stages(
     Ok(stages)
 }
 
-// The place of a hypothesis as its number. A place after the 2^32nd, which no proof names, is answered by want of memory.
+// The place of a hypothesis as its number. A place after the 2^32nd, which no proof names, is answered by want of
+// memory.
 fn hypothesis(place: usize) -> Result<u32, Memory>
     ensures { IfOk result (λ number. number ≡ place) }
 {
@@ -96,9 +98,11 @@ fn named_stage(
 ) -> Result<Stage, Memory>
     requires ready { AreReady sig.now parents.now }
     requires line { IsReadyClause sig.now form.now line.now }
-    requires named { (p : Given) × (d : Disjunction) × (slice_get parents.now at ≡ Some p) × Names line.now.clause p.form d }
+    requires named { (p : Given) × (d : Disjunction) × (slice_get parents.now at ≡ Some p)
+        × Names line.now.clause p.form d }
     ensures stage { IfOk result (IsStage sig.now parents.now form.now denial) }
-    ensures clause { IfOk result (λ stage. (p : Given) (d : Disjunction) → slice_get parents.now at ≡ Some p → Names line.now.clause p.form d → stage.opened.clause ≡ d) }
+    ensures clause { IfOk result (λ stage. (p : Given) (d : Disjunction) → slice_get parents.now at ≡ Some p
+        → Names line.now.clause p.form d → stage.opened.clause ≡ d) }
 {
     let parent = &parents[at];
     let Form::Iff(name, meaning) = &parent.form else {
@@ -129,8 +133,8 @@ fn known_place(line: &Opened, name: &Form) -> usize
     }
 }
 
-// Falsehood from the negation of the line, as hypothesis number `denial`, and from what the literal at that place stands
-// for by the formula of that number, as hypothesis 0.
+// Falsehood from the negation of the line, as hypothesis number `denial`, and from what the literal at that place
+// stands for by the formula of that number, as hypothesis 0.
 fn by_name(
     alloc: Global,
     line: &Opened,

@@ -1,5 +1,6 @@
 //! The entries by which a theory takes a line that defines a function.
-ghost use Rattle.std.specs.Prelude.{◌≡◌, ◌<◌, ◌≤◌, ◌+◌, ◌^◌, ℕ, List as ListOf, [], ◌∷◌, None, Some, length, map, slice_get, IfNone, IfOk, IfSome};
+ghost use Rattle.std.specs.Prelude.{◌≡◌, ◌<◌, ◌≤◌, ◌+◌, ◌^◌, ℕ, List as ListOf, [], ◌∷◌, None, Some, length, map};
+ghost use Rattle.std.specs.Prelude.{slice_get, IfNone, IfOk, IfSome};
 ghost use Rattle.fof_terms.specs.Lift.{lift_term_reach};
 ghost use Rattle.fof_terms.specs.declared.signature.Symbol.{Symbol as Sign};
 ghost use Rattle.fof_terms.specs.declared.term.Term.{Var};
@@ -56,7 +57,8 @@ pub fn function_entries(
 // The sort of the symbol's result.
 fn result_of(signature: &Signature, symbol: SymId) -> Option<SortId>
     ensures exists { IfSome result (λ sort. sort < length signature.now.sorts) }
-    ensures is { IfSome result (λ sort. (s : Sign) → slice_get signature.now.symbols symbol ≡ Some s → s.result ≡ sort) }
+    ensures is { IfSome result (λ sort. (s : Sign) → slice_get signature.now.symbols symbol ≡ Some s
+        → s.result ≡ sort) }
     ensures none { IfNone result (slice_get signature.now.symbols symbol ≡ None) }
 {
     signature.is_vocabulary();

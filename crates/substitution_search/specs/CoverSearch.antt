@@ -1,6 +1,7 @@
 -- The search for a path through a normal form all of whose literals one substitution covers: one and-or goal over the
 -- variables of all universal quantifiers that a path may go through.
-use Rattle.std.specs.Prelude.{ℕ, zero, suc, ◌+◌, List, [], ◌∷◌, ◌++◌, length, map, reverse, Option, Some, None, slice_get}
+use Rattle.std.specs.Prelude.{ℕ, zero, suc, ◌+◌, List, [], ◌∷◌, ◌++◌, length, map, reverse, Option, Some, None}
+use Rattle.std.specs.Prelude.{slice_get}
 use Rattle.fof_terms.specs.declared.term.Term.{Term, Var}
 use Rattle.fof_terms.specs.declared.form.Form.{Form, Atom, Eq, Not, And, Or, Imp, Iff, All, Ex}
 use Rattle.fof_terms.specs.declared.form.Form.TheFolds.{fold-Form}

@@ -1,7 +1,8 @@
-//! Whether a goal has a chance to be met: a cheap test before a search, which looks at the symbols of the terms alone. Where
-//! it answers no, no substitution meets the goal.
+//! Whether a goal has a chance to be met: a cheap test before a search, which looks at the symbols of the terms alone.
+//! Where it answers no, no substitution meets the goal.
 ghost use Rattle.std.specs.Prelude.{◌≡◌, false};
-ghost use Rattle.substitution_search.specs.code.Chances.{NeverEach, NeverInstance, NeverInstances, NeverMet, NeverOne, NeverUnified};
+ghost use Rattle.substitution_search.specs.code.Chances.{NeverEach, NeverInstance, NeverInstances, NeverMet, NeverOne};
+ghost use Rattle.substitution_search.specs.code.Chances.{NeverUnified};
 
 use fof_terms::Term;
 use unify_terms::{Goal, Pair};

@@ -1,5 +1,5 @@
-//! A guess at the literal of the line that each literal of a clause becomes. It promises nothing: a search tells whether
-//! the line covers the clause so.
+//! A guess at the literal of the line that each literal of a clause becomes. It promises nothing: a search tells
+//! whether the line covers the clause so.
 use clause_form::{AtomOf, Lit};
 use fof_terms::{Term, equal_term};
 use std::alloc::Global;
@@ -26,7 +26,8 @@ pub fn no_guess<'a>(alloc: Global, variables: usize, rigid: u32) -> Result<Guess
     })
 }
 
-/// The number of the first of the targets that the literal may become, as the variables stand. They become what that takes.
+/// The number of the first of the targets that the literal may become, as the variables stand. They become what that
+/// takes.
 pub fn first_target<'a>(
     guess: &mut Guess<'a>,
     lit: &'a Lit,

@@ -1,5 +1,5 @@
-//! The search for substitutions under which a line covers clauses: the ways in which literals can be covered, tests that
-//! tell early that there is no way, and the unifiers that settle the goals.
+//! The search for substitutions under which a line covers clauses: the ways in which literals can be covered, tests
+//! that tell early that there is no way, and the unifiers that settle the goals.
 #![tactic(auto)]
 
 mod chances;

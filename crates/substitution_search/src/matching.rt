@@ -78,7 +78,8 @@ fn may_sides_meet(first: &Term, second: &Term, third: &Term, fourth: &Term, is_l
 
 // Whether both pairs of terms may meet.
 fn may_both_meet(first: &Term, second: &Term, third: &Term, fourth: &Term, is_line: bool) -> bool
-    ensures { result ≡ false → (s r : ℕ → SomeTerm) → Stays is_line r → image s first.now ≡ image r second.now → image s third.now ≡ image r fourth.now → ⊥ }
+    ensures { result ≡ false → (s r : ℕ → SomeTerm) → Stays is_line r → image s first.now ≡ image r second.now
+        → image s third.now ≡ image r fourth.now → ⊥ }
 {
     if !may_meet(first, second, is_line) {
         return false;

@@ -1,5 +1,5 @@
-//! Goals with one target for each literal, as a guess has them. They are met sooner than those with all targets, and what
-//! meets them meets those.
+//! Goals with one target for each literal, as a guess has them. They are met sooner than those with all targets, and
+//! what meets them meets those.
 ghost use Rattle.std.specs.Prelude.{IfOk, IfSome};
 ghost use Rattle.substitution_search.specs.code.Narrow.{AreNarrow, IsNarrow};
 ghost use Rattle.substitution_search.specs.Ways.{cover_needs, cover_ways};

@@ -2,7 +2,8 @@
 ghost use Rattle.std.specs.Prelude.{◌≡◌, ◌++◌, ◌∷◌, [], length, map, IfOk};
 ghost use Rattle.clause_form.specs.ClauseView.{view_of};
 ghost use Rattle.clause_form.specs.Paths.{plain};
-ghost use Rattle.substitution_search.specs.CoverSearch.{near, opening, goals_from, goal_of_lit, sorts_of_all, opened_all};
+ghost use Rattle.substitution_search.specs.CoverSearch.{near, opening, goals_from, goal_of_lit, sorts_of_all};
+ghost use Rattle.substitution_search.specs.CoverSearch.{opened_all};
 
 use crate::naming::lit_named;
 use crate::ways::covered;
@@ -24,7 +25,8 @@ pub fn open(
     names: &mut List<u32>,
     sorts: &mut List<SortId>,
 ) -> Result<Goal, Memory>
-    ensures { IfOk result (λ goal. (goal ≡ (opening line.now form.now).goal (length sorts.old) (near names.old)) × (sorts.new ≡ sorts.old ++ (opening line.now form.now).sorts) × (names.new ≡ names.old)) }
+    ensures { IfOk result (λ goal. (goal ≡ (opening line.now form.now).goal (length sorts.old) (near names.old))
+        × (sorts.new ≡ sorts.old ++ (opening line.now form.now).sorts) × (names.new ≡ names.old)) }
 {
     match form {
         Form::And(members) => Ok(Goal::Any(open_all(
@@ -66,7 +68,9 @@ fn open_all(
     names: &mut List<u32>,
     sorts: &mut List<SortId>,
 ) -> Result<List<Goal>, Memory>
-    ensures { IfOk result (λ goals. (goals ≡ goals_from (map (opening line.now) forms.now) (length sorts.old) (near names.old)) × (sorts.new ≡ sorts.old ++ sorts_of_all (map (opening line.now) forms.now)) × (names.new ≡ names.old)) }
+    ensures { IfOk result (λ goals. (goals
+        ≡ goals_from (map (opening line.now) forms.now) (length sorts.old) (near names.old))
+        × (sorts.new ≡ sorts.old ++ sorts_of_all (map (opening line.now) forms.now)) × (names.new ≡ names.old)) }
 {
     let mut goals = List::new(alloc);
     for form in forms {
@@ -75,7 +79,8 @@ fn open_all(
     Ok(goals)
 }
 
-// The goal that the literal that a formula is be covered; one that is never met where it is none, or truth or falsehood.
+// The goal that the literal that a formula is be covered; one that is never met where it is none, or truth or
+// falsehood.
 fn open_leaf(alloc: Global, form: &Form, line: &[Lit], names: &[u32]) -> Result<Goal, Memory>
     ensures { IfOk result (λ goal. goal ≡ goal_of_lit line.now (near names.now) (plain (view_of form.now).lit)) }
 {

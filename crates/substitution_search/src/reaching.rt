@@ -1,4 +1,5 @@
-//! Whether some path through a normal form may reach a clause that the line covers: a cheap test, before a goal is made.
+//! Whether some path through a normal form may reach a clause that the line covers: a cheap test, before a goal is
+//! made.
 ghost use Rattle.std.specs.Prelude.{◌≡◌, false, Some, IfOk};
 ghost use Rattle.clause_form.specs.declared.clause.Lit.{Lit as Literal};
 ghost use Rattle.clause_form.specs.ClauseView.{view_of};
@@ -61,7 +62,8 @@ fn may_reach_each(forms: &[Form], alloc: Global, line: &[Lit]) -> Result<bool, M
 
 // Whether the literal that the formula is may be covered; none is where it is none, or truth or falsehood.
 fn may_reach_leaf(alloc: Global, form: &Form, line: &[Lit]) -> Result<bool, Memory>
-    ensures { IfOk result (λ answer. answer ≡ false → (lit : Literal) → plain (view_of form.now).lit ≡ Some lit → NeverCovered line.now lit) }
+    ensures { IfOk result (λ answer. answer ≡ false → (lit : Literal) → plain (view_of form.now).lit ≡ Some lit
+        → NeverCovered line.now lit) }
 {
     let found = plain_lit(alloc, form)?;
     match &found {

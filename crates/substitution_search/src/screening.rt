@@ -1,7 +1,8 @@
 //! Cheap tests of literals: where one answers no, no substitution covers the literals that are to be covered.
 ghost use Rattle.std.specs.Prelude.{◌≡◌, ◌<◌, false, length};
 ghost use Rattle.substitution_search.specs.code.Screens.{NeverAbsurd, NeverAmong, NeverBecomes, NeverStays};
-ghost use Rattle.substitution_search.specs.Screens.{NeverAll, NeverClash, NeverCovered, NeverOthers, NeverPivot, NeverTogether};
+ghost use Rattle.substitution_search.specs.Screens.{NeverAll, NeverClash, NeverCovered, NeverOthers, NeverPivot};
+ghost use Rattle.substitution_search.specs.Screens.{NeverTogether};
 
 use crate::matching::{may_be_same, may_meet};
 use clause_form::{AtomOf, Lit};

@@ -47,7 +47,8 @@ pub fn settle_covers(
 ) -> Result<Option<Subst>, Memory>
     requires few { length scope.now.sorts ≤ 2 ^ 32 }
     requires sorted { goal_sorted sig.now scope.now.sorts (goal_of_needs (cover_needs targets.now lits.now)) ≡ true }
-    ensures { IfOk result (λ found. IsSolution sig.now scope.now (goal_of_needs (cover_needs targets.now lits.now)) found) }
+    ensures { IfOk result (λ found.
+        IsSolution sig.now scope.now (goal_of_needs (cover_needs targets.now lits.now)) found) }
 {
     let guessed = settle_narrowed(alloc, sig, scope, lits, targets)?;
     if let Some(subst) = guessed {
@@ -70,7 +71,8 @@ pub fn settle_narrowed(
 ) -> Result<Option<Subst>, Memory>
     requires few { length scope.now.sorts ≤ 2 ^ 32 }
     requires sorted { goal_sorted sig.now scope.now.sorts (goal_of_needs (cover_needs targets.now lits.now)) ≡ true }
-    ensures { IfOk result (λ found. IsGuessed sig.now scope.now (goal_of_needs (cover_needs targets.now lits.now)) found) }
+    ensures { IfOk result (λ found.
+        IsGuessed sig.now scope.now (goal_of_needs (cover_needs targets.now lits.now)) found) }
 {
     match all_narrowed(alloc, scope, lits, targets)? {
         Some(goals) => settle(alloc, sig, scope, &Goal::All(goals)),
@@ -89,8 +91,10 @@ pub fn settle_beside(
     targets: &[Lit],
 ) -> Result<Option<Subst>, Memory>
     requires few { length scope.now.sorts ≤ 2 ^ 32 }
-    requires sorted { goal_sorted sig.now scope.now.sorts (goal_of_needs (((pair_of left.now right.now ∷ []) ∷ []) ∷ cover_needs targets.now lits.now)) ≡ true }
-    ensures { IfOk result (λ found. IsSolution sig.now scope.now (goal_of_needs (((pair_of left.now right.now ∷ []) ∷ []) ∷ cover_needs targets.now lits.now)) found) }
+    requires sorted { goal_sorted sig.now scope.now.sorts (goal_of_needs (((pair_of left.now right.now ∷ []) ∷ [])
+        ∷ cover_needs targets.now lits.now)) ≡ true }
+    ensures { IfOk result (λ found. IsSolution sig.now scope.now (goal_of_needs (((pair_of left.now right.now ∷ [])
+        ∷ []) ∷ cover_needs targets.now lits.now)) found) }
 {
     let guessed = narrowed_beside(alloc, sig, scope, left, right, lits, targets)?;
     if let Some(subst) = guessed {
@@ -115,8 +119,10 @@ fn narrowed_beside(
     targets: &[Lit],
 ) -> Result<Option<Subst>, Memory>
     requires few { length scope.now.sorts ≤ 2 ^ 32 }
-    requires sorted { goal_sorted sig.now scope.now.sorts (goal_of_needs (((pair_of left.now right.now ∷ []) ∷ []) ∷ cover_needs targets.now lits.now)) ≡ true }
-    ensures { IfOk result (λ found. IsGuessed sig.now scope.now (goal_of_needs (((pair_of left.now right.now ∷ []) ∷ []) ∷ cover_needs targets.now lits.now)) found) }
+    requires sorted { goal_sorted sig.now scope.now.sorts (goal_of_needs (((pair_of left.now right.now ∷ []) ∷ [])
+        ∷ cover_needs targets.now lits.now)) ≡ true }
+    ensures { IfOk result (λ found. IsGuessed sig.now scope.now (goal_of_needs (((pair_of left.now right.now ∷ []) ∷ [])
+        ∷ cover_needs targets.now lits.now)) found) }
 {
     match all_narrowed(alloc, scope, lits, targets)? {
         Some(goals) => {

@@ -2,7 +2,8 @@
 ghost use Rattle.std.specs.Prelude.{◌≡◌, ◌++◌, ◌∷◌, [], length, map, IfOk};
 ghost use Rattle.clause_form.specs.ClauseView.{view_of};
 ghost use Rattle.clause_form.specs.Paths.{plain};
-ghost use Rattle.substitution_search.specs.CoverSearch.{near, down, opening, take_leaf as leaf_taken, take_pick as pick_taken, take_each as each_taken};
+ghost use Rattle.substitution_search.specs.CoverSearch.{near, down, opening, take_leaf as leaf_taken};
+ghost use Rattle.substitution_search.specs.CoverSearch.{take_pick as pick_taken, take_each as each_taken};
 ghost use Rattle.substitution_search.specs.code.Taken.{state_of};
 ghost use Rattle.substitution_search.specs.Taken.{IsTaken};
 
@@ -74,7 +75,9 @@ fn take(
     names: &mut List<u32>,
     taking: &mut Taking,
 ) -> Result<Path, Memory>
-    ensures { IfOk result (λ path. (path ≡ ((opening [] form.now).take (near names.old) (state_of taking.old)).path) × (state_of taking.new ≡ ((opening [] form.now).take (near names.old) (state_of taking.old)).rest) × (names.new ≡ names.old)) }
+    ensures { IfOk result (λ path. (path ≡ ((opening [] form.now).take (near names.old) (state_of taking.old)).path)
+        × (state_of taking.new ≡ ((opening [] form.now).take (near names.old) (state_of taking.old)).rest)
+        × (names.new ≡ names.old)) }
 {
     match form {
         Form::And(members) => take_pick(members.as_slice(), alloc, names, taking),
@@ -106,7 +109,12 @@ fn take_pick(
     names: &mut List<u32>,
     taking: &mut Taking,
 ) -> Result<Path, Memory>
-    ensures { IfOk result (λ path. (path ≡ (pick_taken (map (opening []) members.now) (near names.old) (state_of taking.old) (state_of taking.old).choices).path) × (state_of taking.new ≡ (pick_taken (map (opening []) members.now) (near names.old) (state_of taking.old) (state_of taking.old).choices).rest) × (names.new ≡ names.old)) }
+    ensures { IfOk result (λ path. (path
+        ≡ (pick_taken (map (opening []) members.now) (near names.old) (state_of taking.old)
+        (state_of taking.old).choices).path)
+        × (state_of taking.new
+        ≡ (pick_taken (map (opening []) members.now) (near names.old) (state_of taking.old)
+        (state_of taking.old).choices).rest) × (names.new ≡ names.old)) }
 {
     match taking.choices.pop() {
         Some(choice) => {
@@ -129,7 +137,11 @@ fn take_each(
     names: &mut List<u32>,
     taking: &mut Taking,
 ) -> Result<List<Path>, Memory>
-    ensures { IfOk result (λ paths. (paths ≡ (each_taken (map (opening []) members.now) (near names.old) (state_of taking.old)).paths) × (state_of taking.new ≡ (each_taken (map (opening []) members.now) (near names.old) (state_of taking.old)).rest) × (names.new ≡ names.old)) }
+    ensures { IfOk result (λ paths. (paths
+        ≡ (each_taken (map (opening []) members.now) (near names.old) (state_of taking.old)).paths)
+        × (state_of taking.new
+        ≡ (each_taken (map (opening []) members.now) (near names.old) (state_of taking.old)).rest)
+        × (names.new ≡ names.old)) }
 {
     let mut paths = List::new(alloc);
     for member in members {
@@ -140,7 +152,10 @@ fn take_each(
 
 // A literal is reached.
 fn take_leaf(alloc: Global, form: &Form, names: &[u32], taking: &mut Taking) -> Result<Path, Memory>
-    ensures { IfOk result (λ path. (path ≡ (leaf_taken (plain (view_of form.now).lit) (near names.now) (state_of taking.old)).path) × (state_of taking.new ≡ (leaf_taken (plain (view_of form.now).lit) (near names.now) (state_of taking.old)).rest)) }
+    ensures { IfOk result (λ path. (path
+        ≡ (leaf_taken (plain (view_of form.now).lit) (near names.now) (state_of taking.old)).path)
+        × (state_of taking.new
+        ≡ (leaf_taken (plain (view_of form.now).lit) (near names.now) (state_of taking.old)).rest)) }
 {
     taking.choices.pop();
     if let Some(lit) = plain_lit(alloc, form)? {

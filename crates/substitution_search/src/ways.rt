@@ -82,7 +82,8 @@ fn equation_ways(
     third: &Term,
     fourth: &Term,
 ) -> Result<List<Goal>, Memory>
-    ensures { IfOk result (λ ways. ways ≡ map Same (atom_ways (Equation left.now right.now) (Equation third.now fourth.now))) }
+    ensures { IfOk result (λ ways. ways
+        ≡ map Same (atom_ways (Equation left.now right.now) (Equation third.now fourth.now))) }
 {
     let mut ways = List::new(alloc);
     ways.push(two_pairs(alloc, left, third, right, fourth)?)?;
@@ -98,7 +99,8 @@ fn two_pairs(
     third: &Term,
     fourth: &Term,
 ) -> Result<Goal, Memory>
-    ensures { IfOk result (λ goal. goal ≡ Same (record { left = left.now; right = right.now } ∷ record { left = third.now; right = fourth.now } ∷ [])) }
+    ensures { IfOk result (λ goal. goal
+        ≡ Same (record { left = left.now; right = right.now } ∷ record { left = third.now; right = fourth.now } ∷ [])) }
 {
     let mut pairs = List::new(alloc);
     pairs.push(pair_of(alloc, left, right)?)?;

@@ -3,7 +3,7 @@ use Rattle.std.proofs.Common.{◌≡◌, ℕ, zero, suc, ◌+◌, ◌-◌, ◌<�
 use Rattle.std.specs.List.{prefix_len}
 use Rattle.std.proofs.lemmas.List.{take_all, drop_all, length-take-le, drop-drop}
 use Rattle.std.proofs.lemmas.List.Sums.{sum_by-cons}
-use Rattle.szs_report.specs.Lines.{with_byte, lines_of, bytes_in, lines_before, lines_from}
+use Rattle.szs_report.specs.Lines.{with_byte, lines_of, bytes_in, lines_before, lines_from_first}
 
 pub fails : (b : Bool) → (b ≡ true → ⊥) → b ≡ false
 fails true never = absurd (never refl)
@@ -66,7 +66,7 @@ module _ (test : List ℕ → Bool) where
       let one : 1 + prefix_len (λ l. not (test l)) lines ≡ suc (prefix_len (λ l. not (test l)) lines) = omega arith in
       rw fails_it (ap (λ n. take n (line ∷ lines)) one)
 
-  from_other : (line : List ℕ) (lines : List (List ℕ)) → test line ≡ false → lines_from test (line ∷ lines) ≡ lines_from test lines
+  from_other : (line : List ℕ) (lines : List (List ℕ)) → test line ≡ false → lines_from_first test (line ∷ lines) ≡ lines_from_first test lines
   from_other line lines fails_it =
       let one : 1 + prefix_len (λ l. not (test l)) lines ≡ suc (prefix_len (λ l. not (test l)) lines) = omega arith in
       rw fails_it (ap (λ n. drop n (line ∷ lines)) one)
@@ -74,15 +74,15 @@ module _ (test : List ℕ → Bool) where
   before_this : (line : List ℕ) (lines : List (List ℕ)) → test line ≡ true → lines_before test (line ∷ lines) ≡ []
   before_this line lines passes = rw passes refl
 
-  from_this : (line : List ℕ) (lines : List (List ℕ)) → test line ≡ true → lines_from test (line ∷ lines) ≡ line ∷ lines
+  from_this : (line : List ℕ) (lines : List (List ℕ)) → test line ≡ true → lines_from_first test (line ∷ lines) ≡ line ∷ lines
   from_this line lines passes = rw passes refl
 
   -- the first line that is kept passes
-  pub first_passes : (lines : List (List ℕ)) (line : List ℕ) (later : List (List ℕ)) → lines_from test lines ≡ line ∷ later → test line ≡ true
+  pub first_passes : (lines : List (List ℕ)) (line : List ℕ) (later : List (List ℕ)) → lines_from_first test lines ≡ line ∷ later → test line ≡ true
   first_passes [] line later is = cc
   first_passes (other ∷ lines) line later is = by (test other) refl (first_passes lines line later)
     where
-      by : (b : Bool) → test other ≡ b → (lines_from test lines ≡ line ∷ later → test line ≡ true) → test line ≡ true
+      by : (b : Bool) → test other ≡ b → (lines_from_first test lines ≡ line ∷ later → test line ≡ true) → test line ≡ true
       by true passes more = let same : other ≡ line = cc (sym (from_this other lines passes) ∙ is) in ap test (sym same) ∙ passes
       by false fails_it more = more (sym (from_other other lines fails_it) ∙ is)
 
@@ -90,7 +90,7 @@ module _ (test : List ℕ → Bool) where
   pub record Sought (text : List ℕ) (before : ℕ) : Type 0 where
     pub within : before ≤ length text
     pub counted : bytes_in (lines_before test (lines_of text)) ≡ before + bytes_in (lines_before test (lines_of (drop before text)))
-    pub later : lines_from test (lines_of text) ≡ lines_from test (lines_of (drop before text))
+    pub later : lines_from_first test (lines_of text) ≡ lines_from_first test (lines_of (drop before text))
 
   pub sought_none : (text : List ℕ) → Sought text 0
   sought_none text = record { within = omega arith; counted = omega arith; later = refl }
@@ -102,8 +102,8 @@ module _ (test : List ℕ → Bool) where
       let own : length (take len (drop before text)) ≡ len = length-take-le len (drop before text) short in
       let here : lines_before test (lines_of (drop before text)) ≡ take len (drop before text) ∷ lines_before test (lines_of (drop (before + len) text)) =
       ap (lines_before test) cut ∙ before_other (take len (drop before text)) (lines_of (drop len (drop before text))) fails_it ∙ ap (λ (t : List ℕ). take len (drop before text) ∷ lines_before test (lines_of t)) rest in
-      let there : lines_from test (lines_of (drop before text)) ≡ lines_from test (lines_of (drop (before + len) text)) =
-      ap (lines_from test) cut ∙ from_other (take len (drop before text)) (lines_of (drop len (drop before text))) fails_it ∙ ap (λ (t : List ℕ). lines_from test (lines_of t)) rest in
+      let there : lines_from_first test (lines_of (drop before text)) ≡ lines_from_first test (lines_of (drop (before + len) text)) =
+      ap (lines_from_first test) cut ∙ from_other (take len (drop before text)) (lines_of (drop len (drop before text))) fails_it ∙ ap (λ (t : List ℕ). lines_from_first test (lines_of t)) rest in
       record {
         within = omega (arith, so_far.within, short, length-drop before text);
         counted = omega (arith, so_far.counted, ap bytes_in here, sum_by-cons length (take len (drop before text)) (lines_before test (lines_of (drop (before + len) text))), own);
@@ -113,7 +113,7 @@ module _ (test : List ℕ → Bool) where
   -- what is known where the search ends
   pub record Found (text : List ℕ) (before : ℕ) : Type 0 where
     pub value : before ≡ bytes_in (lines_before test (lines_of text))
-    pub rest : lines_of (drop before text) ≡ lines_from test (lines_of text)
+    pub rest : lines_of (drop before text) ≡ lines_from_first test (lines_of text)
     pub within : before ≤ length text
 
   pub found_here : (text : List ℕ) (before len : ℕ) → lines_of (drop before text) ≡ take len (drop before text) ∷ lines_of (drop len (drop before text)) → test (take len (drop before text)) ≡ true → Sought text before → Found text before
@@ -121,7 +121,7 @@ module _ (test : List ℕ → Bool) where
       let here : lines_before test (lines_of (drop before text)) ≡ [] = ap (lines_before test) cut ∙ before_this (take len (drop before text)) (lines_of (drop len (drop before text))) passes in
       record {
         value = omega (arith, so_far.counted, ap bytes_in here);
-        rest = cut ∙ sym (from_this (take len (drop before text)) (lines_of (drop len (drop before text))) passes) ∙ ap (lines_from test) (sym cut) ∙ sym so_far.later;
+        rest = cut ∙ sym (from_this (take len (drop before text)) (lines_of (drop len (drop before text))) passes) ∙ ap (lines_from_first test) (sym cut) ∙ sym so_far.later;
         within = so_far.within;
       }
 
@@ -130,7 +130,7 @@ module _ (test : List ℕ → Bool) where
       let none : lines_of (drop before text) ≡ [] = ap lines_of (drop_all before text all) ∙ no_lines in
       record {
         value = omega (arith, so_far.counted, ap (λ ls. bytes_in (lines_before test ls)) none);
-        rest = none ∙ ap (lines_from test) (sym none) ∙ sym so_far.later;
+        rest = none ∙ ap (lines_from_first test) (sym none) ∙ sym so_far.later;
         within = so_far.within;
       }
 

@@ -22,5 +22,5 @@ abbrev pub lines_before : (List ℕ → Bool) → List (List ℕ) → List (List
 lines_before test lines = take (prefix_len (λ line. not (test line)) lines) lines
 
 -- the lines from the first one on that passes
-abbrev pub lines_from : (List ℕ → Bool) → List (List ℕ) → List (List ℕ)
-lines_from test lines = drop (prefix_len (λ line. not (test line)) lines) lines
+abbrev pub lines_from_first : (List ℕ → Bool) → List (List ℕ) → List (List ℕ)
+lines_from_first test lines = drop (prefix_len (λ line. not (test line)) lines) lines

@@ -14,18 +14,18 @@ answer_text (Unverified reason) = codes "unverified " ++ reason
 answer_text Skipped = codes "skipped"
 
 -- a text with its line feed
-abbrev pub line : List ℕ → List ℕ
-line text = text ++ 10 ∷ []
+abbrev pub text_line : List ℕ → List ℕ
+text_line text = text ++ 10 ∷ []
 
 -- what is printed of one line: its name and its answer
 abbrev pub line_text : Name → LineAnswer → List ℕ
-line_text name answer = name_text name ++ (32 ∷ line (answer_text answer))
+line_text name answer = name_text name ++ (32 ∷ text_line (answer_text answer))
 
 -- the closing lines
 abbrev pub verdict_text : Verdict → List ℕ
 verdict_text (Failed unverified skipped lines) =
-    codes "not verified: " ++ (decimal unverified ++ (codes " unverified, " ++ (decimal skipped ++ (codes " skipped of " ++ (decimal lines ++ line (codes " lines"))))))
-verdict_text NoFalse = line (codes "not verified: no line is $false")
-verdict_text (BadClaim claim) = codes "not verified: claim " ++ (claim ++ line (codes " is not justified"))
+    codes "not verified: " ++ (decimal unverified ++ (codes " unverified, " ++ (decimal skipped ++ (codes " skipped of " ++ (decimal lines ++ text_line (codes " lines"))))))
+verdict_text NoFalse = text_line (codes "not verified: no line is $false")
+verdict_text (BadClaim claim) = codes "not verified: claim " ++ (claim ++ text_line (codes " is not justified"))
 verdict_text (Verified status problem lines) =
-    codes "% SZS status " ++ (status ++ (codes " for " ++ (problem ++ (10 ∷ (codes "verified: " ++ (decimal lines ++ line (codes " lines")))))))
+    codes "% SZS status " ++ (status ++ (codes " for " ++ (problem ++ (10 ∷ (codes "verified: " ++ (decimal lines ++ text_line (codes " lines")))))))

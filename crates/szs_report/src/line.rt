@@ -1,7 +1,7 @@
 // Lines of a prover's output.
 ghost use Rattle.std.specs.Prelude.{◌≡◌, ◌<◌, ◌≤◌, ◌∷◌, length, take, drop};
 ghost use Rattle.std.specs.List.{prefix_len};
-ghost use Rattle.szs_report.specs.Lines.{lines_of, bytes_in, lines_before, lines_from};
+ghost use Rattle.szs_report.specs.Lines.{lines_of, bytes_in, lines_before, lines_from_first};
 ghost use Rattle.szs_report.specs.Marks;
 ghost use Rattle.szs_report.specs.Marks.{is_letter};
 
@@ -34,7 +34,7 @@ impl LineKind {
 
 // Whether a line begins with `%` or `#`, and then so.
 fn is_marked(line: &[u8], mark: &[u8]) -> bool
-    ensures { result ≡ Marks.is_marked mark.now line.now }
+    ensures { result ≡ Marks.begins_with_mark mark.now line.now }
 {
     match line {
         [b'%' | b'#', rest @ ..] => rest.starts_with(mark),
@@ -93,7 +93,7 @@ pub fn line_len(text: &[u8]) -> usize
 /// How many bytes the lines have before the first one of a kind: all, where there is none.
 pub fn bytes_before(text: &[u8], kind: LineKind) -> usize
     ensures value { result ≡ bytes_in (lines_before (Marks.fits kind) (lines_of text.now)) }
-    ensures rest { lines_of (drop result text.now) ≡ lines_from (Marks.fits kind) (lines_of text.now) }
+    ensures rest { lines_of (drop result text.now) ≡ lines_from_first (Marks.fits kind) (lines_of text.now) }
     ensures within { result ≤ length text.now }
 {
     let mut before = 0;

@@ -1,5 +1,5 @@
--- The names that items have: those of symbols where they are applied, those of symbols and sorts where a type line declares
--- them, and those of files where they are included, in the order of the text.
+-- The names that items have: those of symbols where they are applied, those of symbols and sorts where a type line
+-- declares them, and those of files where they are included, in the order of the text.
 use Rattle.std.specs.Prelude.{ℕ, List, [], ◌∷◌, ◌++◌, map}
 use Rattle.std.specs.List.{flat_map}
 use Rattle.tptp_base.specs.declared.surface.STerm.{STerm}

@@ -1,5 +1,5 @@
--- The names that have a spelling between single quotes (TPTP BNF, <single_quoted>): with a backslash before a quote or a
--- backslash, any printable bytes, and at least one.
+-- The names that have a spelling between single quotes (TPTP BNF, <single_quoted>): with a backslash before a quote or
+-- a backslash, any printable bytes, and at least one.
 use Rattle.std.specs.Prelude.{ℕ, ◌<◌, ◌&&◌, nat_le, Bool, List, length}
 use Rattle.std.specs.List.{AllPass, AllByRecursion}
 

@@ -3,7 +3,8 @@ use Rattle.std.specs.Prelude.{ℕ, ◌<◌, ◌≤◌}
 use Rattle.tptp_base.specs.declared.limit.LimitName.{LimitName}
 use Rattle.tptp_base.specs.declared.limit.LimitName.TheVariants.{FileSize, TotalSize}
 use Rattle.tptp_base.specs.declared.read.ReadFault.{ReadFault}
-use Rattle.tptp_base.specs.declared.read.ReadFault.TheVariants.{Absent as ReadAbsent, Failed as ReadFailed, Memory as ReadMemory}
+use Rattle.tptp_base.specs.declared.read.ReadFault.TheVariants.{Absent as ReadAbsent, Failed as ReadFailed}
+use Rattle.tptp_base.specs.declared.read.ReadFault.TheVariants.{Memory as ReadMemory}
 use Rattle.tptp_base.specs.declared.store.StoreFault.{StoreFault}
 use Rattle.tptp_base.specs.declared.store.StoreFault.TheVariants.{Absent, Failed, Memory}
 use Rattle.tptp_base.specs.declared.read.TheConstants.{FILE_SIZE}

@@ -4,8 +4,8 @@ ghost use Rattle.std.specs.Prelude.{◌≡◌, IfOk};
 use crate::{Memory, Text};
 use std::alloc::Global;
 
-/// The name of a formula. Two names are the same where both are words, or both integers, of one text: the integers `7` and
-/// `007` differ, and so do the word `'7'` and the integer `7`.
+/// The name of a formula. Two names are the same where both are words, or both integers, of one text: the integers `7`
+/// and `007` differ, and so do the word `'7'` and the integer `7`.
 #[derive(Debug, Drop)]
 pub enum Name {
     /// A lower word, or the text of a quoted one.

@@ -13,7 +13,8 @@ use tptp_base::{Boxed, List, Memory, Text};
 
 /// The declaration of the predicate p.
 pub fn predicate(alloc: Global) -> Result<Entry, Memory>
-    ensures { IfOk result (λ entry. entry ≡ Declare (NewSymbol (record { name = codes "p"; kind = Predicate; args = []; result = 0 }))) }
+    ensures { IfOk result (λ entry. entry
+        ≡ Declare (NewSymbol (record { name = codes "p"; kind = Predicate; args = []; result = 0 }))) }
 {
     Ok(Entry::Declare(Decl::Symbol(Symbol {
         name: Text::from_slice(alloc, b"p")?,

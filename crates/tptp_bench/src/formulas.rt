@@ -1,6 +1,8 @@
 //! The formulas whose normal forms are made.
 ghost use Rattle.std.specs.Prelude.{◌≡◌, IfOk, replicate};
-ghost use Rattle.tptp_bench.specs.code.Formulas.{implications as implications_of, literals as literals_of, plain as plain_formula, said_of as said, twice_denied as twice_denied_of};
+ghost use Rattle.tptp_bench.specs.code.Formulas.{implications as implications_of, literals as literals_of};
+ghost use Rattle.tptp_bench.specs.code.Formulas.{plain as plain_formula, said_of as said};
+ghost use Rattle.tptp_bench.specs.code.Formulas.{twice_denied as twice_denied_of};
 
 use crate::parts::denied;
 use fof_terms::{Form, Term};

@@ -11,8 +11,8 @@ use tptp_base::{
 };
 use tstp_graph::graph;
 
-/// How many lines the graph of a derivation of these takes, which is made so many times, and where the first of them stands; 0 and
-/// 0 where it is not made.
+/// How many lines the graph of a derivation of these takes, which is made so many times, and where the first of them
+/// stands; 0 and 0 where it is not made.
 pub fn ordered(alloc: Global, lines: Lines, times: u32) -> Result<(usize, u32)> {
     let items = derivation(alloc, lines)?;
     let mut found = (0, 0);

@@ -19,7 +19,9 @@ pub fn tokens_of(alloc: Global, text: &Text, times: u32) -> Result<usize, LexFau
 
 // How many tokens the text has.
 fn counted(alloc: Global, text: &Text) -> Result<usize, LexFault>
-    ensures { IfOk result (λ count. (found : Tokens) × Answers 0 text.now (record { start = 0; end = length text.now }) Problem (Ok found) × (count ≡ length found.items)) }
+    ensures { IfOk result (λ count. (found : Tokens)
+        × Answers 0 text.now (record { start = 0; end = length text.now }) Problem (Ok found)
+        × (count ≡ length found.items)) }
 {
     let tokens = cut(alloc, text)?;
     Ok(tokens.items.len())
@@ -27,7 +29,8 @@ fn counted(alloc: Global, text: &Text) -> Result<usize, LexFault>
 
 /// The tokens of the text.
 pub fn cut(alloc: Global, text: &Text) -> Result<Tokens, LexFault>
-    ensures { IfOk result (λ found. Answers 0 text.now (record { start = 0; end = length text.now }) Problem (Ok found)) }
+    ensures { IfOk result (λ found.
+        Answers 0 text.now (record { start = 0; end = length text.now }) Problem (Ok found)) }
 {
     let whole = Region {
         start: 0,

@@ -18,8 +18,8 @@ use tptp_base::{Boxed, Memory};
 // How many quantifiers stand around a conjunction.
 const QUANTIFIERS: u32 = 200;
 
-/// How many nodes the normal form of the formula has, or the proof to it or back, which is made so many times; 0 where it is not
-/// made.
+/// How many nodes the normal form of the formula has, or the proof to it or back, which is made so many times; 0 where
+/// it is not made.
 pub fn made(alloc: Global, task: NormTask, times: u32) -> Result<u128> {
     let form = Boxed::new(alloc, formula(alloc, task.kind, task.size)?)?;
     let sig = signature(alloc)?;

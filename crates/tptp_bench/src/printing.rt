@@ -12,7 +12,8 @@ use tptp_base::Text;
 use tptp_grammar::parse;
 use tptp_lexer::Tokens;
 
-/// How many bytes the canonical text of what the text spells has, which is printed so many times; 0 where it is not printed.
+/// How many bytes the canonical text of what the text spells has, which is printed so many times; 0 where it is not
+/// printed.
 pub fn bytes_of(alloc: Global, text: &Text, times: u32) -> Result<usize> {
     let mut count = 0;
     for _ in 0..times {
@@ -24,7 +25,8 @@ pub fn bytes_of(alloc: Global, text: &Text, times: u32) -> Result<usize> {
 
 // How many bytes the canonical text of the items has that the tokens spell.
 fn printed(alloc: Global, tokens: &Tokens) -> Result<usize>
-    ensures { IfOk result (λ count. (items : List Item) × grammar.Answers tokens.now.items tokens.now.end (Ok items) × (count ≡ length (canonical_text items))) }
+    ensures { IfOk result (λ count. (items : List Item) × grammar.Answers tokens.now.items tokens.now.end (Ok items)
+        × (count ≡ length (canonical_text items))) }
 {
     let items = parse(alloc, tokens)?;
     let text = print(alloc, items.as_slice())?;

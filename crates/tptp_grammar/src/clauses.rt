@@ -82,7 +82,8 @@ fn disjunction(
     room: usize,
     first: Boxed<Surface>,
 ) -> Result<Surface, Stop>
-    ensures { Reads (mapped (λ fs. fm.Or (first ∷ fs)) (separated (is_mark Mark.Bar) (spec.literal room) (tail tokens.old))) result tokens.new }
+    ensures { Reads (mapped (λ fs. fm.Or (first
+        ∷ fs)) (separated (is_mark Mark.Bar) (spec.literal room) (tail tokens.old))) result tokens.new }
 {
     tokens.skip();
     let others = literal_list(alloc, tokens, room)?;

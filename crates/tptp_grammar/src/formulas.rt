@@ -274,7 +274,8 @@ fn disjunction(
     room: usize,
     first: Boxed<Surface>,
 ) -> Result<Surface, Stop>
-    ensures { Reads (mapped (λ fs. fm.Or (first ∷ fs)) (separated (is_mark Mark.Bar) (spec.unit typed room) (tail tokens.old))) result tokens.new }
+    ensures { Reads (mapped (λ fs. fm.Or (first
+        ∷ fs)) (separated (is_mark Mark.Bar) (spec.unit typed room) (tail tokens.old))) result tokens.new }
 {
     tokens.skip();
     let others = units(alloc, tokens, typed, room, Mark::Bar)?;
@@ -290,7 +291,8 @@ fn conjunction(
     room: usize,
     first: Boxed<Surface>,
 ) -> Result<Surface, Stop>
-    ensures { Reads (mapped (λ fs. fm.And (first ∷ fs)) (separated (is_mark Mark.Ampersand) (spec.unit typed room) (tail tokens.old))) result tokens.new }
+    ensures { Reads (mapped (λ fs. fm.And (first
+        ∷ fs)) (separated (is_mark Mark.Ampersand) (spec.unit typed room) (tail tokens.old))) result tokens.new }
 {
     tokens.skip();
     let others = units(alloc, tokens, typed, room, Mark::Ampersand)?;

@@ -158,7 +158,8 @@ fn arguments(alloc: Global, tokens: &mut Cursor<'_>, room: usize) -> Result<List
 // General terms up to their closing parenthesis.
 #[cycle(general)]
 fn closed_list(alloc: Global, tokens: &mut Cursor<'_>, room: usize) -> Result<List<GTerm>, Stop>
-    ensures { Reads (closed (is_mark Mark.Close) (separated (is_mark Mark.Comma) (spec.general room)) tokens.old) result tokens.new }
+    ensures { Reads (closed (is_mark Mark.Close)
+        (separated (is_mark Mark.Comma) (spec.general room)) tokens.old) result tokens.new }
 {
     let found = general_list(alloc, tokens, room)?;
     tokens.expect(Mark::Close)?;

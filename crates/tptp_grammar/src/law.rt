@@ -23,11 +23,13 @@ pub fn one_answer()
         Answers tokens end answer → Answers tokens end other → IsOne answer other }
 {}
 
-/// The names that items have can be written between quotes, if the tokens of a part of a text spell the items: they are words
-/// of the text, and so have printable bytes alone.
+/// The names that items have can be written between quotes, if the tokens of a part of a text spell the items: they are
+/// words of the text, and so have printable bytes alone.
 pub fn names_are_quotable()
-    ensures { (style : Style) (file : ℕ) (whole : Text) (at : ℕ) (text : Text) (tokens : List Placed) (end : ℕ) (rest : Text) (items : List Item) →
-        Cut style (placed file whole) at text tokens end rest → Spells items tokens → AreQuotable (names_of_items items) }
+    ensures { (style : Style) (file : ℕ) (whole : Text) (at : ℕ) (text : Text) (tokens : List Placed) (end : ℕ)
+        (rest : Text) (items : List Item) →
+        Cut style (placed file whole) at text tokens end rest → Spells items tokens
+        → AreQuotable (names_of_items items) }
 {}
 
 /// A list of tokens spells at most one list of items. So does a text, or a part of one, in either style.

@@ -66,8 +66,10 @@ fn comment(alloc: Global, text: &Text) -> Result<Turn, Refusal>
 // An annotated formula or an include.
 #[tactic(auto, using(crate::proofs::Whole::item_moves))]
 fn input(alloc: Global, tokens: &mut Cursor<'_>, place: Place) -> Result<Turn, Refusal>
-    ensures ok { IfOk result (λ s. (items.item faults.max_nesting place tokens.old ≡ Ok (s.item, tokens.new)) × (suc (s.left + length tokens.new) ≡ length tokens.old)) }
-    ensures err { IfErr result (λ r. Fails (items.item faults.max_nesting place tokens.old) r.stop tokens.new × (r.left ≡ length tokens.new)) }
+    ensures ok { IfOk result (λ s. (items.item faults.max_nesting place tokens.old ≡ Ok (s.item, tokens.new))
+        × (suc (s.left + length tokens.new) ≡ length tokens.old)) }
+    ensures err { IfErr result (λ r. Fails (items.item faults.max_nesting place tokens.old) r.stop tokens.new
+        × (r.left ≡ length tokens.new)) }
 {
     let before = tokens.left();
     match item(alloc, tokens, MAX_NESTING, place) {
@@ -89,8 +91,10 @@ fn take_turn(
     first: &Token,
     place: Place,
 ) -> Result<Turn, Refusal>
-    ensures ok { IfOk result (λ s. answers_code.Starts faults.max_nesting first.now place tokens.old s.item s.left tokens.new) }
-    ensures err { IfErr result (λ r. answers_code.StartFails faults.max_nesting first.now place tokens.old r.stop r.left tokens.new) }
+    ensures ok { IfOk result (λ s.
+        answers_code.Starts faults.max_nesting first.now place tokens.old s.item s.left tokens.new) }
+    ensures err { IfErr result (λ r.
+        answers_code.StartFails faults.max_nesting first.now place tokens.old r.stop r.left tokens.new) }
 {
     match first {
         Token::Comment(text) => comment(alloc, text),
@@ -207,11 +211,14 @@ pub fn parse(alloc: Global, tokens: &Tokens) -> Result<List<Item>, GrammarFault>
     // What is read is spelled so, nested no deeper than the limit. Each fault is the first one.
     ensures answers { answers.Answers tokens.now.items tokens.now.end result }
     // What is spelled within the limit is read, unless memory runs out.
-    ensures only { (items : List Item) → SpellsWithin faults.max_nesting items tokens.now.items → answers.IsRead items result }
+    ensures only { (items : List Item) → SpellsWithin faults.max_nesting items tokens.now.items
+        → answers.IsRead items result }
     // What is spelled with tokens that are nested deeper is refused for that, unless memory runs out.
-    ensures deep { (items : List Item) (us over : NestedTokens) → IsFile items tokens.now.items us → FirstOver faults.max_nesting us over → answers.IsRefusedAsDeep result }
+    ensures deep { (items : List Item) (us over : NestedTokens) → IsFile items tokens.now.items us
+        → FirstOver faults.max_nesting us over → answers.IsRefusedAsDeep result }
     // The tokens spell at most one list of items.
-    ensures one { (first second : List Item) → Spells first tokens.now.items → Spells second tokens.now.items → first ≡ second }
+    ensures one { (first second : List Item) → Spells first tokens.now.items → Spells second tokens.now.items
+        → first ≡ second }
 {
     let all = tokens.items.as_slice();
     match read_items(alloc, all) {

@@ -80,7 +80,8 @@ fn factors(alloc: Global, tokens: &mut Cursor<'_>) -> Result<List<SortName>, Sto
 
 // The same up to the closing parenthesis.
 fn closed_factors(alloc: Global, tokens: &mut Cursor<'_>) -> Result<List<SortName>, Stop>
-    ensures { Reads (closed (is_mark Mark.Close) (separated (is_mark Mark.Star) spec.argument_sort) tokens.old) result tokens.new }
+    ensures { Reads (closed (is_mark Mark.Close)
+        (separated (is_mark Mark.Star) spec.argument_sort) tokens.old) result tokens.new }
 {
     let found = factors(alloc, tokens)?;
     tokens.expect(Mark::Close)?;

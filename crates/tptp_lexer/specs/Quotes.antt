@@ -28,7 +28,8 @@ pub data IsWritten (quote : ℕ) : Text → Text → Type 0 where
   plain : {char : ℕ} {chars written : Text} → IsTrue (is_plain quote char) → IsWritten quote chars written → IsWritten quote (char ∷ chars) (char ∷ written)
   escaped : {char : ℕ} {chars written : Text} → IsTrue (is_escaped quote char) → IsWritten quote chars written → IsWritten quote (char ∷ chars) (backslash ∷ char ∷ written)
 
--- The text is a quote and written characters, without a closing quote. Its last byte may be a `\` with nothing behind it.
+-- The text is a quote and written characters, without a closing quote. Its last byte may be a `\` with nothing behind
+-- it.
 pub record IsOpenQuote (quote : ℕ) (text : Text) : Type 0 where
   pub chars : Text
   pub written : Text

@@ -4,7 +4,8 @@ use Rattle.std.specs.List.{list_all}
 use Rattle.tptp_lexer.specs.declared.style.Style.{Style}
 use Rattle.tptp_lexer.specs.declared.token.Mark.{Mark as Sign}
 use Rattle.tptp_lexer.specs.declared.token.Token.{Token}
-use Rattle.tptp_lexer.specs.declared.token.Token.TheVariants.{Lower, Quoted, Upper, Dollar, System, Number, Distinct, Comment, Mark}
+use Rattle.tptp_lexer.specs.declared.token.Token.TheVariants.{Lower, Quoted, Upper, Dollar, System, Number, Distinct}
+use Rattle.tptp_lexer.specs.declared.token.Token.TheVariants.{Comment, Mark}
 use Rattle.tptp_lexer.specs.Bytes.{Text, is_lower_alpha, is_upper_alpha, is_alpha_numeric, is_in_line}
 use Rattle.tptp_lexer.specs.Comments.{begins_comment, HasNoEnd}
 use Rattle.tptp_lexer.specs.Marks.{mark_text}

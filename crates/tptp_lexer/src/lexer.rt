@@ -59,8 +59,8 @@ pub fn tokens(
     Ok(Tokens { items, end: place })
 }
 
-// An empty list. Where memory allows, it has room for a token in every second byte, so that the list of a usual text does not
-// grow. The room that is not used is never touched.
+// An empty list. Where memory allows, it has room for a token in every second byte, so that the list of a usual text
+// does not grow. The room that is not used is never touched.
 fn room_for(alloc: Global, bytes: u64) -> List<(Token, Place)>
     ensures { result ≡ [] }
 {
@@ -70,8 +70,8 @@ fn room_for(alloc: Global, bytes: u64) -> List<(Token, Place)>
     }
 }
 
-// Passes over the blanks at a place, or takes the token there, and gives the place behind. No line feed stands between the
-// place and `line_end`.
+// Passes over the blanks at a place, or takes the token there, and gives the place behind. No line feed stands between
+// the place and `line_end`.
 fn step(
     alloc: Global,
     text: &[u8],

@@ -2,10 +2,10 @@
 use Rattle.std.proofs.Common.{◌≡◌, ℕ, List}
 use Rattle.tptp_base.specs.declared.name.Name.{Name}
 use Rattle.fof_terms.specs.Vocabulary.{Vocabulary}
-use Rattle.derivation_text.specs.Derivations.{IsFirstFault}
+use Rattle.derivation_text.specs.Derivations.{IsDerivationFault}
 use Rattle.derivation_text.specs.declared.fault.DerivationFault.{DerivationFault}
 use Rattle.tptp_run.specs.Derived.{IsDerivationRefusal, SaysDerivationFault}
 use Rattle.tptp_run.specs.Ending.{Ending}
 
-pub said_first : (file text : List ℕ) (given : List Name) (v : Vocabulary) (fault : DerivationFault) (ending : Ending) → IsFirstFault text given v fault → SaysDerivationFault file fault ending → IsDerivationRefusal file text given v ending
+pub said_first : (file text : List ℕ) (given : List Name) (v : Vocabulary) (fault : DerivationFault) (ending : Ending) → IsDerivationFault text given v fault → SaysDerivationFault file fault ending → IsDerivationRefusal file text given v ending
 said_first file text given v fault ending first says = (fault, first, says)

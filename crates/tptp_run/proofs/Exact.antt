@@ -32,7 +32,7 @@ use Rattle.tptp_run.specs.Denoted.{first_vocabulary, AfterDenoted}
 use Rattle.tptp_run.specs.Ending.{Ending, AfterFile}
 use Rattle.tptp_run.specs.Ends.{EndsTask, Ends}
 use Rattle.tptp_run.specs.Outcome.{IsRefutation}
-use Rattle.tptp_run.specs.Refuted.{Fits, HasRefutation, IsExact, IsRefused, GivesTheSame}
+use Rattle.tptp_run.specs.Refuted.{IsInBudget, HasRefutation, IsExact, IsRefused, GivesTheSame}
 use Rattle.tptp_run.specs.Words.{Task, Check, Request, IsForm}
 use Rattle.tptp_run.specs.declared.run.TheConstants.{TOTAL_SIZE}
 use Rattle.tptp_run.proofs.Headline.{no_refusal, no_include, no_sort}
@@ -84,7 +84,7 @@ module _ (files : Files) (root : Option (List ℕ)) (problem log : List ℕ) (en
       found : ending.status ≡ 0 → (found : Option (List ℕ)) → file_at files log ≡ found → HasRefutation files log t read
       found zero None is = no_refusal ending 2 _ zero (after.missing is)
       found zero (Some text) is =
-          let fits : Fits read (length text) = λ limit over. no_refusal ending 6 _ zero (after.limit limit text is over) in
+          let fits : IsInBudget read (length text) = λ limit over. no_refusal ending 6 _ zero (after.limit limit text is over) in
           let said = said_refuted t text ending zero (after.read text is fits) in
           record { text = text; there = is; fits = fits; entries = said.0; is = said.1; refutes = said.2 }
 
@@ -122,24 +122,24 @@ known : (old text : List ℕ) → Some text ≡ Some old → text ≡ old
 known old text same = cc
 
 module _ (after : Files) (root : Option (List ℕ)) (problem log text : List ℕ) (t : Statements) (entries : List Entry) (ending : Ending) (there : file_at after log ≡ Some text) (is : IsLogOf MAX_NESTING text entries) (refutes : Refutes t entries) where
-  theory_checks : (whole : Problem) (lines : List Line) (v : Vocabulary) → denoted whole.items first_vocabulary kind.Problem ≡ Ok (lines, v) → t ≡ given_theory lines v → Fits whole.read (length text)
+  theory_checks : (whole : Problem) (lines : List Line) (v : Vocabulary) → denoted whole.items first_vocabulary kind.Problem ≡ Ok (lines, v) → t ≡ given_theory lines v → IsInBudget whole.read (length text)
       → AfterDenoted whole (λ lines v. AfterFile after log (TOTAL_SIZE - whole.read) (SaysLog (given_theory lines v))) ending → ending ≡ refuted (length entries)
   theory_checks whole lines v denotes theory fits (inl (fault, faulty, says)) = no_lines fault lines v (sym faulty ∙ denotes)
   theory_checks whole lines v denotes theory fits (inr (others, w, again, file)) =
       let same : t ≡ given_theory others w = theory ∙ ap (theory_or t) (sym denotes ∙ again) in
       text_refuted (given_theory others w) text entries ending is (subst (λ (s : Statements). Refutes s entries) same refutes) (file.read text there fits)
 
-  problem_checks : (files : Files) (read : ℕ) → GivesTheSame files after root problem → IsGiven (Some files) root problem t read → Fits read (length text) → EndsCheck after root problem log ending → ending ≡ refuted (length entries)
+  problem_checks : (files : Files) (read : ℕ) → GivesTheSame files after root problem → IsGiven (Some files) root problem t read → IsInBudget read (length text) → EndsCheck after root problem log ending → ending ≡ refuted (length entries)
   problem_checks files read same (whole, resolves, theory, bytes) fits (inl (fault, faulty, says)) = no_answer fault whole (one after root problem (Err fault) (Ok whole) faulty (same whole resolves))
   problem_checks files read same (whole, resolves, (lines, v, denotes, is_theory), bytes) fits (inr (other, again, rest)) =
       let Rest : Problem → Type 0 = λ p. AfterDenoted p (λ lines v. AfterFile after log (TOTAL_SIZE - p.read) (SaysLog (given_theory lines v))) ending in
-      theory_checks whole lines v denotes is_theory (subst (λ (n : ℕ). Fits n (length text)) bytes fits) (subst Rest (one_problem whole other (one after root problem (Ok other) (Ok whole) again (same whole resolves))) rest)
+      theory_checks whole lines v denotes is_theory (subst (λ (n : ℕ). IsInBudget n (length text)) bytes fits) (subst Rest (one_problem whole other (one after root problem (Ok other) (Ok whole) again (same whole resolves))) rest)
 
 module _ (files after : Files) (root : Option (List ℕ)) (problem log text : List ℕ) (run : IsRefutation files root problem (Some []) (Some text)) where
   logged_is : NestWithin MAX_NESTING run.entries → IsLogOf MAX_NESTING text run.entries
   logged_is within = record { logged = run.logged; is = sym (known (log_text run.entries) text run.taken); within = within }
 
-  pub logged_checks : NestWithin MAX_NESTING run.entries → GivesTheSame files after root problem → file_at after log ≡ Some text → Fits run.read (length text) → (ending : Ending) → EndsCheck after root problem log ending → ending ≡ refuted (length run.entries)
+  pub logged_checks : NestWithin MAX_NESTING run.entries → GivesTheSame files after root problem → file_at after log ≡ Some text → IsInBudget run.read (length text) → (ending : Ending) → EndsCheck after root problem log ending → ending ≡ refuted (length run.entries)
   logged_checks within same there fits ending ends = problem_checks after root problem log text run.theory run.entries ending there (logged_is within) run.refutes files run.read same run.is fits ends
 
 -- ---- a run on words
@@ -161,13 +161,13 @@ check_of files words request problem log ending (inr (other, found, ends)) form 
 pub run_exact : (files : Files) (words : List (List ℕ)) (request : Request) (problem log : List ℕ) (ending : Ending) → Ends files words ending → IsForm words request → request.task ≡ Check problem log → IsRefused files request.root problem ending ⊎ IsExact files request.root problem log ending
 run_exact files words request problem log ending ends form is = check_exact files request.root problem log ending (check_of files words request problem log ending ends form is)
 
-pub run_checks : (files after : Files) (words : List (List ℕ)) (request : Request) (problem log text : List ℕ) (run : IsRefutation files request.root problem (Some []) (Some text)) → NestWithin MAX_NESTING run.entries → GivesTheSame files after request.root problem → file_at after log ≡ Some text → Fits run.read (length text)
+pub run_checks : (files after : Files) (words : List (List ℕ)) (request : Request) (problem log text : List ℕ) (run : IsRefutation files request.root problem (Some []) (Some text)) → NestWithin MAX_NESTING run.entries → GivesTheSame files after request.root problem → file_at after log ≡ Some text → IsInBudget run.read (length text)
     → (ending : Ending) → Ends after words ending → IsForm words request → request.task ≡ Check problem log → ending ≡ refuted (length run.entries)
 run_checks files after words request problem log text run within same there fits ending ends form is =
     logged_checks files after request.root problem log text run within same there fits ending (check_of after words request problem log ending ends form is)
 
 -- the log in the same store, under a name that the walk does not try
-pub run_checks_beside : (files : Files) (words : List (List ℕ)) (request : Request) (problem log text : List ℕ) (run : IsRefutation files request.root problem (Some []) (Some text)) → NestWithin MAX_NESTING run.entries → (Tries files request.root problem log → ⊥) → Fits run.read (length text)
+pub run_checks_beside : (files : Files) (words : List (List ℕ)) (request : Request) (problem log text : List ℕ) (run : IsRefutation files request.root problem (Some []) (Some text)) → NestWithin MAX_NESTING run.entries → (Tries files request.root problem log → ⊥) → IsInBudget run.read (length text)
     → (ending : Ending) → Ends ((log, text) ∷ files) words ending → IsForm words request → request.task ≡ Check problem log → ending ≡ refuted (length run.entries)
 run_checks_beside files words request problem log text run within untried fits =
     run_checks files ((log, text) ∷ files) words request problem log text run within (λ whole resolves. further_file files request.root problem log text (Ok whole) untried resolves) (first_file log text files) fits

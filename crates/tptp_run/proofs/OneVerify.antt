@@ -15,7 +15,7 @@ use Rattle.tstp_graph.specs.declared.fault.GraphFault.TheVariants as graph
 use Rattle.derivation_text.specs.declared.derivation.Derivation.{Derivation}
 use Rattle.derivation_text.specs.declared.fault.DerivationFault.{DerivationFault}
 use Rattle.derivation_text.specs.declared.fault.DerivationFault.TheVariants as derived
-use Rattle.derivation_text.specs.Derivations.{IsDerivation, IsFirstFault}
+use Rattle.derivation_text.specs.Derivations.{IsDerivation, IsDerivationFault}
 use Rattle.derivation_text.specs.Wants.{IsWant}
 use Rattle.derivation_text.proofs.OneDerivation.{one_derivation, one_first_fault, derivation_wants}
 use Rattle.derivation_check.specs.Cases.{Asked}
@@ -87,7 +87,7 @@ module _ (problem file : List ℕ) (lines : List Line) (v : Vocabulary) (text : 
   abbrev names : List Name
   names = given_names lines
 
-  one_refusal : (fault other : DerivationFault) → IsFirstFault text names v fault → IsFirstFault text names v other → SaysDerivationFault file fault a → SaysDerivationFault file other b → SaySame a b
+  one_refusal : (fault other : DerivationFault) → IsDerivationFault text names v fault → IsDerivationFault text names v other → SaysDerivationFault file fault a → SaysDerivationFault file other b → SaySame a b
   one_refusal fault other first also says said = elim (one_first_fault text names v fault other first also) [
     | inl wants ↦ want_unsaid file fault a wants says
     | inr (inl wants) ↦ want_unsaid file other b wants said

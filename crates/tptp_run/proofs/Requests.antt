@@ -4,7 +4,7 @@ use Rattle.std.specs.Prelude.{decimal}
 use Rattle.std.specs.Str.Parse.{ParsesUnsigned}
 use Rattle.std.proofs.lemmas.Fmt.{parse-decimal, decimal_injective}
 use Rattle.tptp_run.specs.code.Options.{BeginOtherwise, NameRoot, NameNoRoot, NameLimit, NameNoLimit, NameNoTask}
-use Rattle.tptp_run.specs.Words.{Task, Verify, Format, Parse, Check, Request, IsName, IsLimit, HasNames, IsForm, HaveNoForm, root_words, limit_words, limit_of, task_words}
+use Rattle.tptp_run.specs.Words.{Task, Verify, Format, Parse, Check, Request, IsFileName, IsLimit, HasNames, IsForm, HaveNoForm, root_words, limit_words, limit_of, task_words}
 
 abbrev Words : Type 0
 Words = List (List ℕ)
@@ -73,7 +73,7 @@ behind_limit (Some limit) words others rest (Some other) named e otherwise =
 
 -- ---- words that ask for nothing
 
-root_begins : (root : Option (List ℕ)) (words others : Words) → NameNoRoot words → root_words root ++ others ≡ words → BeginOtherwise (codes "--root") others → IfSome root IsName → ⊥
+root_begins : (root : Option (List ℕ)) (words others : Words) → NameNoRoot words → root_words root ++ others ≡ words → BeginOtherwise (codes "--root") others → IfSome root IsFileName → ⊥
 root_begins None words others none e otherwise name = none.begun (λ rest is. otherwise rest (e ∙ is))
 root_begins (Some root) words others none e otherwise name = none.no_name root others (sym e) name
 
@@ -161,7 +161,7 @@ one_task words first second form other =
 
 -- ---- what the code meets in turn
 
-pub root_named : (words rest last : Words) (folder : List ℕ) → words ≡ codes "--root" ∷ rest → rest ≡ folder ∷ last → IsName folder → NameRoot words (Some folder) last
+pub root_named : (words rest last : Words) (folder : List ℕ) → words ≡ codes "--root" ∷ rest → rest ≡ folder ∷ last → IsFileName folder → NameRoot words (Some folder) last
 root_named words rest last folder begins goes_on name = record { words_are = sym (begins ∙ ap (λ (ws : Words). codes "--root" ∷ ws) goes_on); name = name; otherwise = λ none. none_some _ none }
 
 pub no_root : (words : Words) → BeginOtherwise (codes "--root") words → NameRoot words None words
@@ -173,10 +173,10 @@ root_missing words rest begins ends = record {
   no_name = λ folder more e name. omega (arith, ap length (sym begins ∙ e), ap length ends);
 }
 
-pub root_no_name : (words rest last : Words) (first : List ℕ) → words ≡ codes "--root" ∷ rest → rest ≡ first ∷ last → (IsName first → ⊥) → NameNoRoot words
+pub root_no_name : (words rest last : Words) (first : List ℕ) → words ≡ codes "--root" ∷ rest → rest ≡ first ∷ last → (IsFileName first → ⊥) → NameNoRoot words
 root_no_name words rest last first begins goes_on no_name = record {
   begun = λ otherwise. otherwise rest begins;
-  no_name = λ folder more e name. no_name (subst IsName (ap second (sym e ∙ begins ∙ ap (λ (ws : Words). codes "--root" ∷ ws) goes_on)) name);
+  no_name = λ folder more e name. no_name (subst IsFileName (ap second (sym e ∙ begins ∙ ap (λ (ws : Words). codes "--root" ∷ ws) goes_on)) name);
 }
 
 pub limit_named : (words rest last : Words) (word : List ℕ) (limit : ℕ) → words ≡ codes "--limit" ∷ rest → rest ≡ word ∷ last → word ≡ decimal limit → IsLimit limit → NameLimit words (Some limit) last

@@ -15,7 +15,7 @@ use Rattle.tptp_run.specs.Denoted.{first_vocabulary}
 use Rattle.tptp_run.specs.Ending.{Ending, AfterFile}
 use Rattle.tptp_run.specs.Ends.{EndsTask, Ends}
 use Rattle.tptp_run.specs.GoodRuns.{AreGood, IsGoodText}
-use Rattle.tptp_run.specs.Refuted.{Fits}
+use Rattle.tptp_run.specs.Refuted.{IsInBudget}
 use Rattle.tptp_run.specs.Sources.{given_names, conjecture_marks, has_conjecture}
 use Rattle.tptp_run.specs.Verifying.{EndsVerify, SaysDerivation, asked_by}
 use Rattle.tptp_run.specs.Words.{Task, Verify, Request, IsForm}
@@ -40,7 +40,7 @@ module _ (files : Files) (root : Option (List ℕ)) (problem file : List ℕ) (e
       by : (found : Option (List ℕ)) → file_at files file ≡ found → AreGood files root problem file
       by None is = no_refusal ending 2 _ zero (after.missing is)
       by (Some text) is =
-          let fits : Fits whole.read (length text) = λ limit over. no_refusal ending 6 _ zero (after.limit limit text is over) in
+          let fits : IsInBudget whole.read (length text) = λ limit over. no_refusal ending 6 _ zero (after.limit limit text is over) in
           record { whole = whole; resolves = resolves; lines = lines; v = v; denotes = denotes; text = text; there = is; fits = fits; good = said_good lines v text (after.read text is fits) }
 
 verify_of : (files : Files) (words : List (List ℕ)) (request : Request) (problem derivation : List ℕ) (named : Option (List ℕ)) (ending : Ending) → Ends files words ending → IsForm words request → request.task ≡ Verify problem derivation named → EndsVerify files request.root problem derivation ending

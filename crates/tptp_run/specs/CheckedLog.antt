@@ -1,5 +1,5 @@
--- How the command `check` ends: the first fault of the problem is said, or that of the log's file or its text, or what the
--- kernel makes of its entries, which starts from what the problem gives.
+-- How the command `check` ends: the first fault of the problem is said, or that of the log's file or its text, or what
+-- the kernel makes of its entries, which starts from what the problem gives.
 use Rattle.std.specs.Prelude.{◌≡◌, ◌⊎◌, ℕ, ◌+◌, ◌-◌, List, ◌++◌, length, map, codes, decimal, Ok, Err}
 use Rattle.std.specs.declared.option.Option.{Option}
 use Rattle.tptp_base.specs.Store.{Files}
@@ -21,7 +21,7 @@ use Rattle.sort_check.specs.declared.line.GivenEntry.{GivenEntry}
 use Rattle.sort_check.specs.Given.{given_entries}
 use Rattle.tptp_run.specs.Denoted.{first_vocabulary, AfterResolved, AfterDenoted}
 use Rattle.tptp_run.specs.Ending.{Ending, says, AfterFile}
-use Rattle.szs_report.specs.Report.{line}
+use Rattle.szs_report.specs.Report.{text_line}
 use Rattle.tptp_run.specs.declared.run.TheConstants.{TOTAL_SIZE}
 use Rattle.proof_log.specs.Answers as reader
 use Rattle.sort_check.specs.declared.line.TextKind.TheVariants as kind
@@ -39,16 +39,16 @@ abbrev pub IsGiven : Option Files → Option (List ℕ) → List ℕ → Stateme
 IsGiven told root file theory read = (whole : Problem) × Resolves told root file (Ok whole) × IsTheoryOf whole theory × (read ≡ whole.read)
 
 abbrev pub log_fault : ℕ → Ending
-log_fault offset = says 1 (line (codes "log fault at offset " ++ decimal offset))
+log_fault offset = says 1 (text_line (codes "log fault at offset " ++ decimal offset))
 
 abbrev pub illegal_entry : ℕ → Ending
-illegal_entry number = says 1 (line (codes "entry " ++ (decimal number ++ codes " is illegal")))
+illegal_entry number = says 1 (text_line (codes "entry " ++ (decimal number ++ codes " is illegal")))
 
 abbrev pub not_refuted : Ending
-not_refuted = says 1 (line (codes "not refuted"))
+not_refuted = says 1 (text_line (codes "not refuted"))
 
 abbrev pub refuted : ℕ → Ending
-refuted count = says 0 (line (codes "refuted: " ++ (decimal count ++ codes " entries")))
+refuted count = says 0 (text_line (codes "refuted: " ++ (decimal count ++ codes " entries")))
 
 -- what is said of entries that do not refute the theory: the first that is not legal is counted from 1
 abbrev pub SaysCheckFault : CheckFault → Ending → Type 0

@@ -6,7 +6,7 @@ use Rattle.tptp_base.specs.Store.{Files, file_at}
 use Rattle.kernel.specs.Statements.{Statements}
 use Rattle.tptp_run.specs.CheckedLog.{IsGiven}
 use Rattle.tptp_run.specs.GoodRuns.{AreGood}
-use Rattle.tptp_run.specs.Refuted.{Fits, HasRefutation}
+use Rattle.tptp_run.specs.Refuted.{IsInBudget, HasRefutation}
 use Rattle.tptp_run.specs.Spelled.{SpellsItems}
 use Rattle.tptp_run.specs.Words.{Task, Verify, Format, Parse, Check}
 
@@ -14,7 +14,7 @@ use Rattle.tptp_run.specs.Words.{Task, Verify, Format, Parse, Check}
 pub record IsWellSpelled (files : Files) (file : List ℕ) : Type 0 where
   pub text : List ℕ
   pub there : file_at files file ≡ Some text
-  pub fits : Fits 0 (length text)
+  pub fits : IsInBudget 0 (length text)
   pub items : List Item
   pub spells : SpellsItems text items
 

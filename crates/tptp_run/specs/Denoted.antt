@@ -18,7 +18,7 @@ use Rattle.sort_check.specs.declared.line.Line.{Line}
 use Rattle.sort_check.specs.Outcomes.{Outcome}
 use Rattle.sort_check.specs.Texts.{denoted}
 use Rattle.tptp_run.specs.Ending.{Ending, says, no_such_file, limit_text, over_limit}
-use Rattle.szs_report.specs.Report.{line}
+use Rattle.szs_report.specs.Report.{text_line}
 use Rattle.tptp_run.specs.Spelled.{said_at, SaysLexFault, SaysGrammarFault}
 use Rattle.include_resolve.specs.declared.fault.IncludeFault.TheVariants as included
 use Rattle.sort_check.specs.declared.fault.SortFault.TheVariants as sorted
@@ -33,10 +33,10 @@ SaysTextFault name (Lex fault) ending = SaysLexFault name fault ending
 SaysTextFault name (Grammar fault) ending = SaysGrammarFault name fault ending
 
 abbrev pub include_cycle : List ℕ → Ending
-include_cycle name = says 3 (line (name ++ codes ": include cycle"))
+include_cycle name = says 3 (text_line (name ++ codes ": include cycle"))
 
 abbrev pub no_formula : List ℕ → Name → Ending
-no_formula file name = says 3 (line (file ++ (codes ": no formula " ++ (name_text name ++ codes " to select"))))
+no_formula file name = says 3 (text_line (file ++ (codes ": no formula " ++ (name_text name ++ codes " to select"))))
 
 -- what is said of the first fault on the walk through the files
 abbrev pub SaysIncludeFault : IncludeFault → Ending → Type 0
@@ -97,14 +97,14 @@ abbrev pub AfterDenoted : Problem → (List Line → Vocabulary → Ending → T
 AfterDenoted problem Rest ending = ((fault : SortFault) × (denoted problem.items first_vocabulary kind.Problem ≡ Err fault) × SaysSortFault problem.files fault ending)
     ⊎ ((lines : List Line) × (v : Vocabulary) × (denoted problem.items first_vocabulary kind.Problem ≡ Ok (lines, v)) × Rest lines v ending)
 
--- What the file gives with all that it includes goes on to the rest, or the first fault on the walk through the files is
--- said.
+-- What the file gives with all that it includes goes on to the rest, or the first fault on the walk through the files
+-- is said.
 abbrev pub AfterResolved : Files → Option (List ℕ) → List ℕ → (Problem → Ending → Type 0) → Ending → Type 0
 AfterResolved files root file Rest ending = ((fault : IncludeFault) × Resolves (Some files) root file (Err fault) × SaysIncludeFault fault ending)
     ⊎ ((problem : Problem) × Resolves (Some files) root file (Ok problem) × Rest problem ending)
 
--- The first fault of the problem in the file is said: that of the walk through the files, or else that against the rules of
--- sorts.
+-- The first fault of the problem in the file is said: that of the walk through the files, or else that against the
+-- rules of sorts.
 abbrev pub IsProblemRefusal : Option Files → Option (List ℕ) → List ℕ → Ending → Type 0
 IsProblemRefusal told root file ending = ((fault : IncludeFault) × Resolves told root file (Err fault) × SaysIncludeFault fault ending)
     ⊎ ((problem : Problem) × Resolves told root file (Ok problem) × ((fault : SortFault) × (denoted problem.items first_vocabulary kind.Problem ≡ Err fault) × SaysSortFault problem.files fault ending))

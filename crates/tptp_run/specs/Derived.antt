@@ -6,7 +6,7 @@ use Rattle.canon_print.specs.Words.{name_text}
 use Rattle.fof_terms.specs.Vocabulary.{Vocabulary}
 use Rattle.sort_check.specs.declared.fault.SortFault.{SortFault}
 use Rattle.tstp_graph.specs.declared.fault.GraphFault.{GraphFault}
-use Rattle.derivation_text.specs.Derivations.{IsDerivation, IsFirstFault}
+use Rattle.derivation_text.specs.Derivations.{IsDerivation, IsDerivationFault}
 use Rattle.derivation_text.specs.declared.derivation.Derivation.{Derivation}
 use Rattle.derivation_text.specs.declared.fault.DerivationFault.{DerivationFault}
 use Rattle.tptp_run.specs.Denoted.{against_rule, in_line}
@@ -43,10 +43,10 @@ SaysDerivationFault file (derived.Graph fault) ending = SaysGraphFault file faul
 SaysDerivationFault file (derived.Sort fault) ending = SaysLineFault file fault ending
 SaysDerivationFault file derived.Memory ending = ⊥
 
--- The first fault of the text is said: that of its tokens, that of its items, that of its graph, or that against the rules
--- of sorts.
+-- The first fault of the text is said: that of its tokens, that of its items, that of its graph, or that against the
+-- rules of sorts.
 abbrev pub IsDerivationRefusal : List ℕ → List ℕ → List Name → Vocabulary → Ending → Type 0
-IsDerivationRefusal file text given v ending = (fault : DerivationFault) × IsFirstFault text given v fault × SaysDerivationFault file fault ending
+IsDerivationRefusal file text given v ending = (fault : DerivationFault) × IsDerivationFault text given v fault × SaysDerivationFault file fault ending
 
 -- The derivation that a text is goes on to the rest, or its first fault is said.
 abbrev pub AfterDerivation : List ℕ → List ℕ → List Name → Vocabulary → (Derivation → Vocabulary → Ending → Type 0) → Ending → Type 0

@@ -3,8 +3,9 @@ use Rattle.std.specs.Prelude.{◌≡◌, ℕ, List, [], ◌++◌, length, codes,
 use Rattle.tptp_base.specs.Store.{Files, file_at}
 use Rattle.tptp_base.specs.Read.{IsOver}
 use Rattle.tptp_base.specs.declared.limit.LimitName.{LimitName}
-use Rattle.tptp_base.specs.declared.limit.LimitName.TheVariants.{FileSize, TotalSize, IncludeDepth, Nesting, Variables, Lines, Symbols, Sorts}
-use Rattle.szs_report.specs.Report.{line}
+use Rattle.tptp_base.specs.declared.limit.LimitName.TheVariants.{FileSize, TotalSize, IncludeDepth, Nesting, Variables}
+use Rattle.tptp_base.specs.declared.limit.LimitName.TheVariants.{Lines, Symbols, Sorts}
+use Rattle.szs_report.specs.Report.{text_line}
 
 pub record Ending : Type 0 where
   pub status : ℕ
@@ -16,7 +17,7 @@ abbrev pub says : ℕ → List ℕ → Ending
 says status out = record { status = status; out = out; log = [] }
 
 abbrev pub no_such_file : List ℕ → Ending
-no_such_file name = says 3 (line (name ++ codes ": no such file"))
+no_such_file name = says 3 (text_line (name ++ codes ": no such file"))
 
 -- the name of a limit, as it is printed
 abbrev pub limit_text : LimitName → List ℕ
@@ -30,7 +31,7 @@ limit_text Symbols = codes "symbols"
 limit_text Sorts = codes "sorts"
 
 abbrev pub over_limit : List ℕ → LimitName → Ending
-over_limit name limit = says 7 (line (name ++ (codes ": limit " ++ limit_text limit)))
+over_limit name limit = says 7 (text_line (name ++ (codes ": limit " ++ limit_text limit)))
 
 -- The bytes of a file go on to the rest, unless the file is missing or over a limit.
 pub record AfterFile (files : Files) (name : List ℕ) (budget : ℕ) (Rest : List ℕ → Ending → Type 0) (ending : Ending) : Type 0 where

@@ -1,5 +1,5 @@
--- When a problem and a derivation are good, by their texts alone: the problem resolves and denotes, the derivation is spelled,
--- has a graph and denotes, each line follows by a rule, some line is falsehood, and the claim is justified.
+-- When a problem and a derivation are good, by their texts alone: the problem resolves and denotes, the derivation is
+-- spelled, has a graph and denotes, each line follows by a rule, some line is falsehood, and the claim is justified.
 use Rattle.std.specs.Prelude.{◌≡◌, ℕ, List, length, Some, Ok}
 use Rattle.std.specs.declared.option.Option.{Option}
 use Rattle.tptp_base.specs.Store.{Files, file_at}
@@ -14,7 +14,7 @@ use Rattle.derivation_text.specs.Derivations.{IsDerivation}
 use Rattle.derivation_text.specs.declared.derivation.Derivation.{Derivation}
 use Rattle.tptp_run.specs.CheckedLog.{given_theory}
 use Rattle.tptp_run.specs.Denoted.{first_vocabulary}
-use Rattle.tptp_run.specs.Refuted.{Fits}
+use Rattle.tptp_run.specs.Refuted.{IsInBudget}
 use Rattle.tptp_run.specs.Sources.{given_names, conjecture_marks, has_conjecture}
 use Rattle.tptp_run.specs.Verifying.{asked_by}
 
@@ -34,5 +34,5 @@ pub record AreGood (files : Files) (root : Option (List ℕ)) (problem file : Li
   pub denotes : denoted whole.items first_vocabulary kind.Problem ≡ Ok (lines, v)
   pub text : List ℕ
   pub there : file_at files file ≡ Some text
-  pub fits : Fits whole.read (length text)
+  pub fits : IsInBudget whole.read (length text)
   pub good : IsGoodText problem lines v text

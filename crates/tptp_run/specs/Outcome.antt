@@ -68,8 +68,9 @@ pub record IsOutcome (files : Files) (words : List (List ℕ)) (status : ℕ) (o
   pub store_failed : status ≡ 4 → (out_new ≡ out_old) × (log_new ≡ log_old)
   pub cut_short : (status ≡ 5) ⊎ (status ≡ 6) → TakesSomeOfOut files words out_old out_new × TakesSomeOfRunLog files words log_old log_new
 
--- The headline: the log that was taken is a list of legal entries that leads from what the problem in the file gives, with
--- all that it includes, to falsehood. Each of them stands in logs, so the list is the only one that the log is the text of.
+-- The headline: the log that was taken is a list of legal entries that leads from what the problem in the file gives,
+-- with all that it includes, to falsehood. Each of them stands in logs, so the list is the only one that the log is the
+-- text of.
 pub record IsRefutation (files : Files) (root : Option (List ℕ)) (problem : List ℕ) (log_old log_new : Option (List ℕ)) : Type 0 where
   pub theory : Statements
   pub read : ℕ

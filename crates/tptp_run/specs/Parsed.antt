@@ -1,5 +1,5 @@
--- How the command `parse` ends: the first fault of the problem is said, with all that it includes, or how many formulas it
--- has.
+-- How the command `parse` ends: the first fault of the problem is said, with all that it includes, or how many formulas
+-- it has.
 use Rattle.std.specs.Prelude.{◌≡◌, ℕ, Bool, true, false, List, ◌++◌, codes, decimal, count_by}
 use Rattle.std.specs.declared.option.Option.{Option}
 use Rattle.tptp_base.specs.declared.item.Item.{Item}
@@ -7,7 +7,7 @@ use Rattle.tptp_base.specs.declared.item.Item.TheVariants.{Formula}
 use Rattle.tptp_base.specs.Store.{Files}
 use Rattle.tptp_run.specs.Denoted.{AfterResolved, AfterDenoted}
 use Rattle.tptp_run.specs.Ending.{Ending, says}
-use Rattle.szs_report.specs.Report.{line}
+use Rattle.szs_report.specs.Report.{text_line}
 
 abbrev pub is_formula : Item → Bool
 is_formula (Formula formula) = true
@@ -19,7 +19,7 @@ formula_count items = count_by is_formula items
 
 -- what is said of a problem without faults
 abbrev pub counted : ℕ → Ending
-counted count = says 0 (line (codes "ok " ++ (decimal count ++ codes " formulas")))
+counted count = says 0 (text_line (codes "ok " ++ (decimal count ++ codes " formulas")))
 
 abbrev pub EndsParse : Files → Option (List ℕ) → List ℕ → Ending → Type 0
 EndsParse files root file = AfterResolved files root file (λ problem. AfterDenoted problem (λ lines v ending. ending ≡ counted (formula_count problem.items)))

@@ -17,14 +17,14 @@ use Rattle.tptp_run.specs.Ending.{Ending}
 use Rattle.tptp_run.specs.declared.run.TheConstants.{TOTAL_SIZE}
 
 -- no limit forbids to read so many bytes, where so many were read before
-abbrev pub Fits : ℕ → ℕ → Type 0
-Fits read size = (limit : LimitName) → IsOver limit (TOTAL_SIZE - read) size → ⊥
+abbrev pub IsInBudget : ℕ → ℕ → Type 0
+IsInBudget read size = (limit : LimitName) → IsOver limit (TOTAL_SIZE - read) size → ⊥
 
 -- The file has the text of entries that refute the theory, within the limits of size and of nesting.
 pub record HasRefutation (files : Files) (file : List ℕ) (theory : Statements) (read : ℕ) : Type 0 where
   pub text : List ℕ
   pub there : file_at files file ≡ Some text
-  pub fits : Fits read (length text)
+  pub fits : IsInBudget read (length text)
   pub entries : List Entry
   pub is : IsLogOf MAX_NESTING text entries
   pub refutes : Refutes theory entries

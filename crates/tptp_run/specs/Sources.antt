@@ -1,5 +1,5 @@
--- What a problem gives to a derivation from it (SZS ontology, refutation): the theory of its given formulas, their names,
--- which of them come of a conjecture, and whether there is one.
+-- What a problem gives to a derivation from it (SZS ontology, refutation): the theory of its given formulas, their
+-- names, which of them come of a conjecture, and whether there is one.
 use Rattle.std.specs.Prelude.{Bool, true, false, List, map}
 use Rattle.std.specs.List.{list_any}
 use Rattle.tptp_base.specs.declared.item.Role.{Role}

@@ -8,7 +8,7 @@ use Rattle.tptp_lexer.specs.declared.style.Style.TheVariants.{Problem}
 use Rattle.tptp_lexer.specs.declared.token.Tokens.{Tokens}
 use Rattle.tptp_grammar.specs.declared.fault.GrammarFault.{GrammarFault}
 use Rattle.tptp_run.specs.Ending.{Ending, says, over_limit}
-use Rattle.szs_report.specs.Report.{line}
+use Rattle.szs_report.specs.Report.{text_line}
 use Rattle.tptp_lexer.specs.declared.fault.LexFault.TheVariants as lexed
 use Rattle.tptp_lexer.specs.Answer as lexer
 use Rattle.tptp_grammar.specs.declared.fault.GrammarFault.TheVariants as parsed
@@ -20,7 +20,7 @@ place_text place = codes ":" ++ (decimal place.line ++ (codes ":" ++ (decimal pl
 
 -- what is said of a place: the file's name, the place and the rest
 abbrev pub said_at : List ℕ → Place → List ℕ → List ℕ
-said_at name place what = line (name ++ (place_text place ++ what))
+said_at name place what = text_line (name ++ (place_text place ++ what))
 
 -- what is said where a text has no tokens
 abbrev pub SaysLexFault : List ℕ → LexFault → Ending → Type 0

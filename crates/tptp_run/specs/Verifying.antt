@@ -1,5 +1,5 @@
--- How the command `verify` ends: the first fault of the problem is said, or that of the derivation's file or its text, or its
--- lines are run, and the report on them is made.
+-- How the command `verify` ends: the first fault of the problem is said, or that of the derivation's file or its text,
+-- or its lines are run, and the report on them is made.
 use Rattle.std.specs.Prelude.{◌≡◌, ℕ, ◌-◌, Bool, true, false, List}
 use Rattle.std.specs.declared.option.Option.{Option}
 use Rattle.tptp_base.specs.declared.name.Name.{Name}

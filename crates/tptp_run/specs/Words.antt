@@ -1,5 +1,6 @@
 -- The forms of the command line.
-use Rattle.std.specs.Prelude.{◌≡◌, ℕ, ◌<◌, ◌≤◌, List, [], ◌∷◌, ◌++◌, length, map, codes, decimal, None, Some, IfSome, String, string_bytes}
+use Rattle.std.specs.Prelude.{◌≡◌, ℕ, ◌<◌, ◌≤◌, List, [], ◌∷◌, ◌++◌, length, map, codes, decimal, None, Some, IfSome}
+use Rattle.std.specs.Prelude.{String, string_bytes}
 use Rattle.std.specs.declared.option.Option.{Option}
 use Rattle.std.specs.declared.alloc.Global.{Global}
 use Rattle.std.specs.Option.{option_copied}
@@ -11,8 +12,8 @@ use Rattle.tptp_run.specs.declared.words.Job.TheVariants as job
 abbrev pub texts : List (String Global) → List (List ℕ)
 texts words = map string_bytes words
 
--- What the program can be asked to do: to verify a derivation against a problem, with a log where one is named, to format a
--- file, to parse a problem, and to check a log against a problem.
+-- What the program can be asked to do: to verify a derivation against a problem, with a log where one is named, to
+-- format a file, to parse a problem, and to check a log against a problem.
 pub data Task : Type 0 where
   Verify : List ℕ → List ℕ → Option (List ℕ) → Task
   Format : List ℕ → Task
@@ -28,19 +29,19 @@ task_words (Parse file) = codes "parse" ∷ file ∷ []
 task_words (Check problem log) = codes "check" ∷ problem ∷ log ∷ []
 
 -- a name has at least one byte
-abbrev pub IsName : List ℕ → Type 0
-IsName name = 0 < length name
+abbrev pub IsFileName : List ℕ → Type 0
+IsFileName name = 0 < length name
 
 -- its names are names
 abbrev pub HasNames : Task → Type 0
-HasNames (Verify problem derivation None) = IsName problem × IsName derivation
-HasNames (Verify problem derivation (Some log)) = IsName problem × IsName derivation × IsName log
-HasNames (Format file) = IsName file
-HasNames (Parse file) = IsName file
-HasNames (Check problem log) = IsName problem × IsName log
+HasNames (Verify problem derivation None) = IsFileName problem × IsFileName derivation
+HasNames (Verify problem derivation (Some log)) = IsFileName problem × IsFileName derivation × IsFileName log
+HasNames (Format file) = IsFileName file
+HasNames (Parse file) = IsFileName file
+HasNames (Check problem log) = IsFileName problem × IsFileName log
 
--- What is asked of the program: the folder in which included files are looked for too, the greatest number of clauses in
--- the list of a search, and the task.
+-- What is asked of the program: the folder in which included files are looked for too, the greatest number of clauses
+-- in the list of a search, and the task.
 pub record Request : Type 0 where
   pub root : Option (List ℕ)
   pub limit : ℕ
@@ -67,7 +68,7 @@ IsLimit limit = (1 ≤ limit) × (limit ≤ 100000)
 pub record IsForm (words : List (List ℕ)) (request : Request) : Type 0 where
   pub named_limit : Option ℕ
   pub words_are : root_words request.root ++ (limit_words named_limit ++ task_words request.task) ≡ words
-  pub root : IfSome request.root IsName
+  pub root : IfSome request.root IsFileName
   pub limit : IfSome named_limit IsLimit
   pub limit_is : request.limit ≡ limit_of named_limit
   pub names : HasNames request.task

@@ -28,9 +28,13 @@ pub fn check<S: Store>(
     problem: &str,
     log: &str,
 ) -> Result<Answer, Halt>
-    ensures ends { IfAnswer result (λ answer. IfSome (S.files store.old) (λ files. EndsCheck files (option_copied root.entry) problem.now log.now (ending_of answer))) }
+    ensures ends { IfAnswer result (λ answer.
+        IfSome (S.files store.old) (λ files.
+        EndsCheck files (option_copied root.entry) problem.now log.now (ending_of answer))) }
     ensures status { IfAnswer result (λ answer. IsAnswer answer.status) }
-    ensures absence { IfAnswer result (λ answer. answer.status ≡ 3 → Rose (S.absents store.old) (S.absents store.new) ⊎ SaysProblemFault (S.files store.old) (option_copied root.entry) problem.now (ending_of answer)) }
+    ensures absence { IfAnswer result (λ answer. answer.status ≡ 3
+        → Rose (S.absents store.old) (S.absents store.new)
+        ⊎ SaysProblemFault (S.files store.old) (option_copied root.entry) problem.now (ending_of answer)) }
     ensures cause { IfStopped result (λ stop. HasCause stop (Rose (S.faults store.old) (S.faults store.new)) ⊥) }
 {
     let mut given = read_given(alloc, store, root, problem)?;
@@ -46,7 +50,9 @@ fn check_log<S: Store>(
     log: &str,
 ) -> Result<Answer, Halt>
     requires { given.old.read ≤ TOTAL_SIZE }
-    ensures ends { IfAnswer result (λ answer. IfSome (S.files store.old) (λ files. AfterFile files log.now (TOTAL_SIZE - given.old.read) (SaysLog given.old.theory) (ending_of answer))) }
+    ensures ends { IfAnswer result (λ answer.
+        IfSome (S.files store.old) (λ files.
+        AfterFile files log.now (TOTAL_SIZE - given.old.read) (SaysLog given.old.theory) (ending_of answer))) }
     ensures status { IfAnswer result (λ answer. IsAnswer answer.status) }
     ensures absence { IfAnswer result (λ answer. answer.status ≡ 3 → Rose (S.absents store.old) (S.absents store.new)) }
     ensures cause { IfStopped result (λ stop. HasCause stop (Rose (S.faults store.old) (S.faults store.new)) ⊥) }

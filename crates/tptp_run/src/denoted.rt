@@ -30,10 +30,13 @@ pub struct Meaning {
 #[tactic(auto, using(crate::proofs::Parses::said_denotes))]
 pub fn read_meaning(alloc: Global, problem: &Problem) -> Result<Meaning, Halt>
     requires few { length problem.now.items < 2 ^ 32 }
-    ensures denoted { IfOk result (λ meaning. denoted problem.now.items first_vocabulary kind.Problem ≡ Ok (meaning.lines, meaning.signature)) }
+    ensures denoted { IfOk result (λ meaning. denoted problem.now.items first_vocabulary kind.Problem
+        ≡ Ok (meaning.lines, meaning.signature)) }
     ensures declared { IfOk result (λ meaning. AreDeclared meaning.signature) }
     ensures sorted { IfOk result (λ meaning. AreSorted meaning.signature meaning.lines) }
-    ensures refused { IfRefused result (λ answer. (fault : sort_fault) × (denoted problem.now.items first_vocabulary kind.Problem ≡ Err fault) × SaysSortFault problem.now.files fault (ending_of answer)) }
+    ensures refused { IfRefused result (λ answer. (fault : sort_fault)
+        × (denoted problem.now.items first_vocabulary kind.Problem ≡ Err fault)
+        × SaysSortFault problem.now.files fault (ending_of answer)) }
     ensures status { IfRefused result (λ answer. (answer.status ≡ 3) ⊎ (answer.status ≡ 7)) }
     ensures cause { IfStopped result (λ stop. HasCause stop ⊥ ⊥) }
 {
@@ -85,7 +88,8 @@ pub fn say_of_line(
 
 // Appends the name of a line and the rule that it is against.
 fn put_reason(alloc: Global, text: &mut Vec<u8>, rule: SortRule, name: &Name) -> Result<(), Memory>
-    ensures { OnOk result (text.new.items ≡ text.old.items ++ (codes "in " ++ (name_text name.now ++ (codes ": " ++ spec.rule_text rule)))) }
+    ensures { OnOk result (text.new.items ≡ text.old.items
+        ++ (codes "in " ++ (name_text name.now ++ (codes ": " ++ spec.rule_text rule)))) }
 {
     let name = print_name(alloc, name)?;
     let (limit, reason) = rule_text(rule);

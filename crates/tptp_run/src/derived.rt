@@ -35,7 +35,8 @@ pub fn read_derived(
     requires few_bytes { length text.now ≤ file_size }
     requires few_given { length given.now < 2 ^ 32 }
     ensures is { IfOk result (λ d. IsDerivation text.now given.now signature.old d signature.new) }
-    ensures refused { IfRefused result (λ answer. IsDerivationRefusal file.now text.now given.now signature.old (ending_of answer)) }
+    ensures refused { IfRefused result (λ answer.
+        IsDerivationRefusal file.now text.now given.now signature.old (ending_of answer)) }
     ensures status { IfRefused result (λ answer. (answer.status ≡ 3) ⊎ (answer.status ≡ 7)) }
     ensures cause { IfStopped result (λ stop. HasCause stop ⊥ ⊥) }
     ensures extends { OnOk result (Extends signature.old signature.new) }
@@ -113,7 +114,8 @@ fn say_unknown(
     name: &Name,
     parent: &Name,
 ) -> Result<Answer, Stop>
-    ensures said { IfOk result (λ answer. ending_of answer ≡ spec.says_in file.now place name.now (codes "unknown parent " ++ name_text parent.now)) }
+    ensures said { IfOk result (λ answer. ending_of answer
+        ≡ spec.says_in file.now place name.now (codes "unknown parent " ++ name_text parent.now)) }
     ensures cause { IfErr result (λ stop. HasCause stop ⊥ ⊥) }
 {
     let parent = print_name(alloc, parent)?;

@@ -18,9 +18,12 @@ use tptp_base::Store;
 
 /// Gives the canonical text of what a file spells. Includes are not followed.
 pub fn format<S: Store>(alloc: Global, store: &mut S, file: &str) -> Result<Answer, Halt>
-    ensures ends { IfAnswer result (λ answer. IfSome (S.files store.old) (λ files. EndsFormat files file.now (ending_of answer))) }
+    ensures ends { IfAnswer result (λ answer.
+        IfSome (S.files store.old) (λ files. EndsFormat files file.now (ending_of answer))) }
     ensures status { IfAnswer result (λ answer. IsAnswer answer.status) }
-    ensures absence { IfAnswer result (λ answer. answer.status ≡ 3 → Rose (S.absents store.old) (S.absents store.new) ⊎ SaysFileFault (S.files store.old) file.now (ending_of answer)) }
+    ensures absence { IfAnswer result (λ answer. answer.status ≡ 3
+        → Rose (S.absents store.old) (S.absents store.new)
+        ⊎ SaysFileFault (S.files store.old) file.now (ending_of answer)) }
     ensures cause { IfStopped result (λ stop. HasCause stop (Rose (S.faults store.old) (S.faults store.new)) ⊥) }
 {
     let text = read_text(alloc, store, file, TOTAL_SIZE)?;
@@ -31,7 +34,8 @@ pub fn format<S: Store>(alloc: Global, store: &mut S, file: &str) -> Result<Answ
 #[tactic(auto, using(crate::proofs::Formats::refusal_said, crate::proofs::Formats::refusal_is))]
 fn format_text(alloc: Global, file: &str, text: &[u8]) -> Result<Answer, Halt>
     ensures said { IfAnswer result (λ answer. SaysText file.now text.now (ending_of answer)) }
-    ensures refused { IfAnswer result (λ answer. answer.status ≡ 3 → IsTextRefusal file.now text.now (ending_of answer)) }
+    ensures refused { IfAnswer result (λ answer. answer.status ≡ 3
+        → IsTextRefusal file.now text.now (ending_of answer)) }
     ensures status { IfAnswer result (λ answer. IsAnswer answer.status) }
     ensures cause { IfStopped result (λ stop. HasCause stop ⊥ ⊥) }
 {

@@ -38,11 +38,14 @@ pub fn read_given<S: Store>(
     root: Option<&str>,
     file: &str,
 ) -> Result<Given, Halt>
-    ensures is { IfOk result (λ given. IsGiven (S.files store.old) (option_copied root.entry) file.now given.theory given.read) }
+    ensures is { IfOk result (λ given.
+        IsGiven (S.files store.old) (option_copied root.entry) file.now given.theory given.read) }
     ensures in_budget { IfOk result (λ given. given.read ≤ TOTAL_SIZE) }
-    ensures refused { IfRefused result (λ answer. IsProblemRefusal (S.files store.old) (option_copied root.entry) file.now (ending_of answer)) }
+    ensures refused { IfRefused result (λ answer.
+        IsProblemRefusal (S.files store.old) (option_copied root.entry) file.now (ending_of answer)) }
     ensures status { IfRefused result (λ answer. (answer.status ≡ 3) ⊎ (answer.status ≡ 7)) }
-    ensures absence { IfRefused result (λ answer. Rose (S.absents store.old) (S.absents store.new) ⊎ SaysProblemFault (S.files store.old) (option_copied root.entry) file.now (ending_of answer)) }
+    ensures absence { IfRefused result (λ answer. Rose (S.absents store.old) (S.absents store.new)
+        ⊎ SaysProblemFault (S.files store.old) (option_copied root.entry) file.now (ending_of answer)) }
     ensures cause { IfStopped result (λ stop. HasCause stop (Rose (S.faults store.old) (S.faults store.new)) ⊥) }
     ensures same_files { S.files store.new ≡ S.files store.old }
     ensures more_absents { S.absents store.old ≤ S.absents store.new }
@@ -61,7 +64,9 @@ pub fn read_given<S: Store>(
 pub fn read_theory(alloc: Global, problem: &Problem) -> Result<Theory, Halt>
     requires few { length problem.now.items < 2 ^ 32 }
     ensures is { IfOk result (λ theory. IsTheoryOf problem.now theory) }
-    ensures refused { IfRefused result (λ answer. (fault : sort_fault) × (denoted problem.now.items first_vocabulary kind.Problem ≡ Err fault) × SaysSortFault problem.now.files fault (ending_of answer)) }
+    ensures refused { IfRefused result (λ answer. (fault : sort_fault)
+        × (denoted problem.now.items first_vocabulary kind.Problem ≡ Err fault)
+        × SaysSortFault problem.now.files fault (ending_of answer)) }
     ensures status { IfRefused result (λ answer. (answer.status ≡ 3) ⊎ (answer.status ≡ 7)) }
     ensures cause { IfStopped result (λ stop. HasCause stop ⊥ ⊥) }
 {

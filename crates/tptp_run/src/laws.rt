@@ -15,7 +15,7 @@ ghost use Rattle.tptp_run.specs.Formatted.{EndsFormat};
 ghost use Rattle.tptp_run.specs.GoodRuns.{AreGood};
 ghost use Rattle.tptp_run.specs.Outcome.{IsRefutation};
 ghost use Rattle.tptp_run.specs.Parsed.{EndsParse};
-ghost use Rattle.tptp_run.specs.Refuted.{Fits, GivesTheSame, IsExact, IsRefused};
+ghost use Rattle.tptp_run.specs.Refuted.{IsInBudget, GivesTheSame, IsExact, IsRefused};
 ghost use Rattle.tptp_run.specs.Verifying.{EndsVerify};
 ghost use Rattle.tptp_run.specs.Words.{Check, Verify, Request, IsForm};
 
@@ -27,35 +27,43 @@ pub fn a_check_is_exact()
         → IsRefused files request.root problem ending ⊎ IsExact files request.root problem log ending }
 {}
 
-/// The log of a success, put into a store in which the same problem resolves alike, is found to refute the problem, if it is
-/// within the limits: that of nesting, and that of the bytes that are read. So is the log in the same store, under a name that
-/// the walk through the problem's files does not try.
+/// The log of a success, put into a store in which the same problem resolves alike, is found to refute the problem, if
+/// it is within the limits: that of nesting, and that of the bytes that are read. So is the log in the same store,
+/// under a name that the walk through the problem's files does not try.
 pub fn a_verified_log_checks()
     ensures alike { (files after : StoreFiles) (words : List (List ℕ)) (request : Request) (problem log text : List ℕ)
-        → (run : IsRefutation files request.root problem (Some List.[]) (Some text)) → NestWithin MAX_NESTING run.entries
-        → GivesTheSame files after request.root problem → file_at after log ≡ Some text → Fits run.read (length text)
+        → (run : IsRefutation files request.root problem (Some List.[]) (Some text))
+        → NestWithin MAX_NESTING run.entries
+        → GivesTheSame files after request.root problem → file_at after log ≡ Some text
+        → IsInBudget run.read (length text)
         → (ending : Ending) → Ends after words ending → IsForm words request → request.task ≡ Check problem log
         → ending ≡ refuted (length run.entries) }
     ensures beside { (files : StoreFiles) (words : List (List ℕ)) (request : Request) (problem log text : List ℕ)
-        → (run : IsRefutation files request.root problem (Some List.[]) (Some text)) → NestWithin MAX_NESTING run.entries
-        → (Tries files request.root problem log → ⊥) → Fits run.read (length text)
-        → (ending : Ending) → Ends ((log, text) ∷ files) words ending → IsForm words request → request.task ≡ Check problem log
+        → (run : IsRefutation files request.root problem (Some List.[]) (Some text))
+        → NestWithin MAX_NESTING run.entries
+        → (Tries files request.root problem log → ⊥) → IsInBudget run.read (length text)
+        → (ending : Ending) → Ends ((log, text) ∷ files) words ending → IsForm words request
+        → request.task ≡ Check problem log
         → ending ≡ refuted (length run.entries) }
 {}
 
 /// Where a derivation that claims that the axioms contradict each other is verified, the log refutes what the problem
 /// gives without its conjecture: no entry cites a given formula of role conjecture or negated_conjecture.
 pub fn contradictory_axioms_need_no_conjecture()
-    ensures { (files : StoreFiles) (words : List (List ℕ)) (request : Request) (problem derivation text : List ℕ) (named : Option (List ℕ)) (ending : Ending)
-        → Ends files words ending → IsForm words request → request.task ≡ Verify problem derivation named → ending.status ≡ 0
+    ensures { (files : StoreFiles) (words : List (List ℕ)) (request : Request) (problem derivation text : List ℕ)
+        (named : Option (List ℕ)) (ending : Ending)
+        → Ends files words ending → IsForm words request → request.task ≡ Verify problem derivation named
+        → ending.status ≡ 0
         → file_at files derivation ≡ Some text → claimed text ≡ Some (codes "ContradictoryAxioms")
         → RefutesAxioms files request.root problem ending.log }
 {}
 
 /// The problem in a file gives one theory, and its files have one number of bytes.
 pub fn what_is_given_is_one()
-    ensures { (files : StoreFiles) (root : Option (List ℕ)) (problem : List ℕ) (theory other : Statements) (read count : ℕ) →
-        IsGiven (Some files) root problem theory read → IsGiven (Some files) root problem other count → (theory ≡ other) × (read ≡ count) }
+    ensures { (files : StoreFiles) (root : Option (List ℕ)) (problem : List ℕ) (theory other : Statements)
+        (read count : ℕ) →
+        IsGiven (Some files) root problem theory read → IsGiven (Some files) root problem other count
+        → (theory ≡ other) × (read ≡ count) }
 {}
 
 /// The command `parse` ends in one way.
@@ -73,17 +81,21 @@ pub fn format_has_one_ending()
 /// The command `verify` ends in one way: with one status and one text on out. The entries of its log may differ.
 pub fn verify_has_one_ending()
     ensures { (files : StoreFiles) (root : Option (List ℕ)) (problem derivation : List ℕ) (ending other : Ending) →
-        EndsVerify files root problem derivation ending → EndsVerify files root problem derivation other → (ending.status ≡ other.status) × (ending.out ≡ other.out) }
+        EndsVerify files root problem derivation ending → EndsVerify files root problem derivation other
+        → (ending.status ≡ other.status) × (ending.out ≡ other.out) }
 {}
 
 /// What is verified is good. So of all problems and derivations, status 0 comes exactly to the good ones.
 pub fn a_verified_run_is_good()
-    ensures { (files : StoreFiles) (words : List (List ℕ)) (request : Request) (problem derivation : List ℕ) (named : Option (List ℕ)) (ending : Ending)
-        → Ends files words ending → IsForm words request → request.task ≡ Verify problem derivation named → ending.status ≡ 0
+    ensures { (files : StoreFiles) (words : List (List ℕ)) (request : Request) (problem derivation : List ℕ)
+        (named : Option (List ℕ)) (ending : Ending)
+        → Ends files words ending → IsForm words request → request.task ≡ Verify problem derivation named
+        → ending.status ≡ 0
         → AreGood files request.root problem derivation }
 {}
 
 /// Words ask for one request at most.
 pub fn words_ask_for_one_request()
-    ensures { (words : List (List ℕ)) (request other : Request) → IsForm words request → IsForm words other → request ≡ other }
+    ensures { (words : List (List ℕ)) (request other : Request) → IsForm words request → IsForm words other
+        → request ≡ other }
 {}

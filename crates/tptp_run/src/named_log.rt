@@ -9,7 +9,8 @@ use crate::words::{Job, read_words};
 /// The name of the log, if the words ask for one.
 #[tactic(auto, using(crate::proofs::Requests::one_task))]
 pub fn log_name(words: &[String]) -> Option<&str>
-    ensures asked { (request : Request) → IsForm (texts words.now) request → option_copied result ≡ spec.log_of request.task }
+    ensures asked { (request : Request) → IsForm (texts words.now) request
+        → option_copied result ≡ spec.log_of request.task }
     ensures nothing { HaveNoForm (texts words.now) → result ≡ None }
 {
     match read_words(words) {

@@ -23,9 +23,12 @@ pub fn parse<S: Store>(
     root: Option<&str>,
     file: &str,
 ) -> Result<Answer, Halt>
-    ensures ends { IfAnswer result (λ answer. IfSome (S.files store.old) (λ files. EndsParse files (option_copied root.entry) file.now (ending_of answer))) }
+    ensures ends { IfAnswer result (λ answer.
+        IfSome (S.files store.old) (λ files. EndsParse files (option_copied root.entry) file.now (ending_of answer))) }
     ensures status { IfAnswer result (λ answer. IsAnswer answer.status) }
-    ensures absence { IfAnswer result (λ answer. answer.status ≡ 3 → Rose (S.absents store.old) (S.absents store.new) ⊎ SaysProblemFault (S.files store.old) (option_copied root.entry) file.now (ending_of answer)) }
+    ensures absence { IfAnswer result (λ answer. answer.status ≡ 3
+        → Rose (S.absents store.old) (S.absents store.new)
+        ⊎ SaysProblemFault (S.files store.old) (option_copied root.entry) file.now (ending_of answer)) }
     ensures cause { IfStopped result (λ stop. HasCause stop (Rose (S.faults store.old) (S.faults store.new)) ⊥) }
 {
     let problem = read_files(alloc, store, root, file)?;

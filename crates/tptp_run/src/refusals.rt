@@ -21,9 +21,11 @@ pub fn read_text<S: Store>(
     ensures whole { IfOk result (λ text. HasFile (S.files store.old) name.now (λ file. file ≡ text)) }
     ensures in_budget { IfOk result (λ text. length text ≤ budget) }
     ensures in_limit { IfOk result (λ text. length text ≤ FILE_SIZE) }
-    ensures refused { IfRefused result (λ answer. IfSome (S.files store.old) (λ files. IsReadRefusal files name.now budget (ending_of answer))) }
+    ensures refused { IfRefused result (λ answer.
+        IfSome (S.files store.old) (λ files. IsReadRefusal files name.now budget (ending_of answer))) }
     ensures status { IfRefused result (λ answer. (answer.status ≡ 3) ⊎ (answer.status ≡ 7)) }
-    ensures missing { IfRefused result (λ answer. answer.status ≡ 3 → Rose (S.absents store.old) (S.absents store.new)) }
+    ensures missing { IfRefused result (λ answer. answer.status ≡ 3
+        → Rose (S.absents store.old) (S.absents store.new)) }
     ensures cause { IfStopped result (λ stop. HasCause stop (Rose (S.faults store.old) (S.faults store.new)) ⊥) }
     ensures same_files { S.files store.new ≡ S.files store.old }
     ensures more_absents { S.absents store.old ≤ S.absents store.new }

@@ -27,11 +27,15 @@ pub fn read_files<S: Store>(
     root: Option<&str>,
     file: &str,
 ) -> Result<Problem, Halt>
-    ensures resolved { IfOk result (λ problem. Resolves (S.files store.old) (option_copied root.entry) file.now (Ok problem)) }
+    ensures resolved { IfOk result (λ problem.
+        Resolves (S.files store.old) (option_copied root.entry) file.now (Ok problem)) }
     ensures few { IfOk result (λ problem. length problem.items < 2 ^ 32) }
-    ensures refused { IfRefused result (λ answer. (fault : include_fault) × Resolves (S.files store.old) (option_copied root.entry) file.now (Err fault) × SaysIncludeFault fault (ending_of answer)) }
+    ensures refused { IfRefused result (λ answer. (fault : include_fault)
+        × Resolves (S.files store.old) (option_copied root.entry) file.now (Err fault)
+        × SaysIncludeFault fault (ending_of answer)) }
     ensures status { IfRefused result (λ answer. (answer.status ≡ 3) ⊎ (answer.status ≡ 7)) }
-    ensures absence { IfRefused result (λ answer. Rose (S.absents store.old) (S.absents store.new) ⊎ SaysWalkFault (S.files store.old) (option_copied root.entry) file.now (ending_of answer)) }
+    ensures absence { IfRefused result (λ answer. Rose (S.absents store.old) (S.absents store.new)
+        ⊎ SaysWalkFault (S.files store.old) (option_copied root.entry) file.now (ending_of answer)) }
     ensures in_budget { IfOk result (λ problem. problem.read ≤ TOTAL_SIZE) }
     ensures cause { IfStopped result (λ stop. HasCause stop (Rose (S.faults store.old) (S.faults store.new)) ⊥) }
     ensures same_files { S.files store.new ≡ S.files store.old }

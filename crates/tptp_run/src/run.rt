@@ -28,10 +28,10 @@ pub const TOTAL_SIZE: u64 = 268_435_456;
 pub const USAGE: &str =
     "usage: tptp [--root D] [--limit N] COMMAND\n  parse FILE\n  format FILE\n  verify PROBLEM DERIVATION [LOG]\n  check PROBLEM LOG\n  make N\n";
 
-/// Runs the command that the words ask for, and answers its status: 0 where it succeeded, 1 where the derivation is
-/// not verified, 2 where the words ask for nothing, 3 where a file is missing or a text is faulty, 4 where the
-/// store failed, 5 where a sink failed, 6 where memory is wanting, 7 where a limit is passed. All that it reads comes from the
-/// store, and all that it writes goes to the two sinks.
+/// Runs the command that the words ask for, and answers its status: 0 where it succeeded, 1 where the derivation is not
+/// verified, 2 where the words ask for nothing, 3 where a file is missing or a text is faulty, 4 where the store
+/// failed, 5 where a sink failed, 6 where memory is wanting, 7 where a limit is passed. All that it reads comes from
+/// the store, and all that it writes goes to the two sinks.
 pub fn run_tptp<S: Store, O: Sink, L: Sink>(
     alloc: Global,
     words: &[String],
@@ -44,28 +44,35 @@ pub fn run_tptp<S: Store, O: Sink, L: Sink>(
         (O.taken out.old) (O.taken out.new) (L.taken log.old) (L.taken log.new)) }
 
     // The log of a success is a list of legal entries that leads from what the problem gives to falsehood.
-    ensures sound { result ≡ 0 → IfSome (S.files store.old) (λ files. (request : Request) → IsForm (texts words.now) request
+    ensures sound { result ≡ 0
+        → IfSome (S.files store.old) (λ files. (request : Request) → IsForm (texts words.now) request
         → (problem derivation : List ℕ) (named : Option (List ℕ)) → request.task ≡ Verify problem derivation named
         → IsRefutation files request.root problem (L.taken log.old) (L.taken log.new)) }
 
     // An answer to a good derivation is that it is verified.
-    ensures good { IsAnswer result → IfSome (S.files store.old) (λ files. (request : Request) → IsForm (texts words.now) request
+    ensures good { IsAnswer result
+        → IfSome (S.files store.old) (λ files. (request : Request) → IsForm (texts words.now) request
         → (problem derivation : List ℕ) (named : Option (List ℕ)) → request.task ≡ Verify problem derivation named
         → AreGood files request.root problem derivation → result ≡ 0) }
 
     // An answer to a task that meets no fault in the files is that it succeeded.
-    ensures complete { IsAnswer result → IfSome (S.files store.old) (λ files. (request : Request) → IsForm (texts words.now) request
+    ensures complete { IsAnswer result
+        → IfSome (S.files store.old) (λ files. (request : Request) → IsForm (texts words.now) request
         → MeetsNoFault files request.root request.task → result ≡ 0) }
 
     // A file is said to be missing only where the store answered that it is.
-    ensures missing { result ≡ 3 → IfSome (S.files store.old) (λ files. (request : Request) → IsForm (texts words.now) request
+    ensures missing { result ≡ 3
+        → IfSome (S.files store.old) (λ files. (request : Request) → IsForm (texts words.now) request
         → SaysMissing files request.root request.task → Rose (S.absents store.old) (S.absents store.new)) }
 
     // Over any store: an answer, or a fault of the outside in this call, or want of memory.
     ensures status { IsAnswer result ⊎ ((4 ≤ result) × (result ≤ 6)) }
-    ensures absence { result ≡ 3 → Rose (S.absents store.old) (S.absents store.new) ⊎ TakesOtherFault (S.files store.old) (texts words.now) (O.taken out.old) (O.taken out.new) }
+    ensures absence { result ≡ 3
+        → Rose (S.absents store.old) (S.absents store.new)
+        ⊎ TakesOtherFault (S.files store.old) (texts words.now) (O.taken out.old) (O.taken out.new) }
     ensures store_fault { result ≡ 4 → Rose (S.faults store.old) (S.faults store.new) }
-    ensures sink_fault { result ≡ 5 → Rose (O.faults out.old) (O.faults out.new) ⊎ Rose (L.faults log.old) (L.faults log.new) }
+    ensures sink_fault { result ≡ 5
+        → Rose (O.faults out.old) (O.faults out.new) ⊎ Rose (L.faults log.old) (L.faults log.new) }
 {
     match answer_words(alloc, words, store, log) {
         Ok(answer) => match put_all(out, answer.text.as_slice()) {
@@ -89,11 +96,14 @@ fn answer_words<S: Store, L: Sink>(
     ensures ends { IfOk result (λ answer. IfSome (S.files store.old) (λ files.
         IsAnswerWithLog (Ends files (texts words.now)) answer (L.taken log.old) (L.taken log.new))) }
     ensures status { IfOk result (λ answer. IsAnswer answer.status) }
-    ensures absence { IfOk result (λ answer. answer.status ≡ 3 → Rose (S.absents store.old) (S.absents store.new) ⊎ SaysOtherFault (S.files store.old) (texts words.now) (ending_of answer)) }
+    ensures absence { IfOk result (λ answer. answer.status ≡ 3
+        → Rose (S.absents store.old) (S.absents store.new)
+        ⊎ SaysOtherFault (S.files store.old) (texts words.now) (ending_of answer)) }
     ensures cause { IfErr result (λ stop. HasCause stop
         ((L.taken log.new ≡ L.taken log.old) × Rose (S.faults store.old) (S.faults store.new))
         (Rose (L.faults log.old) (L.faults log.new))) }
-    ensures log { IfSome (S.files store.old) (λ files. TakesSomeOfRunLog files (texts words.now) (L.taken log.old) (L.taken log.new)) }
+    ensures log { IfSome (S.files store.old) (λ files.
+        TakesSomeOfRunLog files (texts words.now) (L.taken log.old) (L.taken log.new)) }
 {
     match run_words(alloc, words, store, log) {
         Ok(answer) => Ok(answer),
@@ -113,11 +123,14 @@ fn run_words<S: Store, L: Sink>(
     ensures ends { IfAnswer result (λ answer. IfSome (S.files store.old) (λ files.
         IsAnswerWithLog (Ends files (texts words.now)) answer (L.taken log.old) (L.taken log.new))) }
     ensures status { IfAnswer result (λ answer. IsAnswer answer.status) }
-    ensures absence { IfAnswer result (λ answer. answer.status ≡ 3 → Rose (S.absents store.old) (S.absents store.new) ⊎ SaysOtherFault (S.files store.old) (texts words.now) (ending_of answer)) }
+    ensures absence { IfAnswer result (λ answer. answer.status ≡ 3
+        → Rose (S.absents store.old) (S.absents store.new)
+        ⊎ SaysOtherFault (S.files store.old) (texts words.now) (ending_of answer)) }
     ensures cause { IfStopped result (λ stop. HasCause stop
         ((L.taken log.new ≡ L.taken log.old) × Rose (S.faults store.old) (S.faults store.new))
         (Rose (L.faults log.old) (L.faults log.new))) }
-    ensures log { IfSome (S.files store.old) (λ files. TakesSomeOfRunLog files (texts words.now) (L.taken log.old) (L.taken log.new)) }
+    ensures log { IfSome (S.files store.old) (λ files.
+        TakesSomeOfRunLog files (texts words.now) (L.taken log.old) (L.taken log.new)) }
 {
     let Some(command) = read_words(words) else {
         return usage(alloc);

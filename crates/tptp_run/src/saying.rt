@@ -2,7 +2,7 @@
 ghost use Rattle.std.specs.Prelude.{◌≡◌, ◌++◌, IfOk, string_bytes};
 ghost use Rattle.tptp_run.specs.code.Answer.{ending_of};
 ghost use Rattle.tptp_run.specs.Ending as spec;
-ghost use Rattle.szs_report.specs.Report.{line};
+ghost use Rattle.szs_report.specs.Report.{text_line as line};
 ghost use Rattle.tptp_run.specs.Spelled.{said_at, place_text as text_of};
 
 use crate::stop::{Answer, ended};

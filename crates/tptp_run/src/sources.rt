@@ -58,9 +58,11 @@ pub fn read_source<S: Store>(
     ensures sentences { IfOk result (λ source. All (IsSentence source.signature) source.theory.formulas) }
     ensures declared { IfOk result (λ source. AreDeclared source.signature) }
     ensures in_budget { IfOk result (λ source. source.read ≤ TOTAL_SIZE) }
-    ensures refused { IfRefused result (λ answer. IsProblemRefusal (S.files store.old) (option_copied root.entry) file.now (ending_of answer)) }
+    ensures refused { IfRefused result (λ answer.
+        IsProblemRefusal (S.files store.old) (option_copied root.entry) file.now (ending_of answer)) }
     ensures status { IfRefused result (λ answer. (answer.status ≡ 3) ⊎ (answer.status ≡ 7)) }
-    ensures absence { IfRefused result (λ answer. Rose (S.absents store.old) (S.absents store.new) ⊎ SaysProblemFault (S.files store.old) (option_copied root.entry) file.now (ending_of answer)) }
+    ensures absence { IfRefused result (λ answer. Rose (S.absents store.old) (S.absents store.new)
+        ⊎ SaysProblemFault (S.files store.old) (option_copied root.entry) file.now (ending_of answer)) }
     ensures cause { IfStopped result (λ stop. HasCause stop (Rose (S.faults store.old) (S.faults store.new)) ⊥) }
     ensures same_files { S.files store.new ≡ S.files store.old }
     ensures more_absents { S.absents store.old ≤ S.absents store.new }
@@ -80,7 +82,9 @@ fn source_of(alloc: Global, problem: &Problem) -> Result<Source, Halt>
     ensures sentences { IfOk result (λ source. All (IsSentence source.signature) source.theory.formulas) }
     ensures declared { IfOk result (λ source. AreDeclared source.signature) }
     ensures same_read { IfOk result (λ source. source.read ≡ problem.now.read) }
-    ensures refused { IfRefused result (λ answer. (fault : sort_fault) × (denoted problem.now.items first_vocabulary kind.Problem ≡ Err fault) × SaysSortFault problem.now.files fault (ending_of answer)) }
+    ensures refused { IfRefused result (λ answer. (fault : sort_fault)
+        × (denoted problem.now.items first_vocabulary kind.Problem ≡ Err fault)
+        × SaysSortFault problem.now.files fault (ending_of answer)) }
     ensures status { IfRefused result (λ answer. (answer.status ≡ 3) ⊎ (answer.status ≡ 7)) }
     ensures cause { IfStopped result (λ stop. HasCause stop ⊥ ⊥) }
 {

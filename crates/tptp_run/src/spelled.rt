@@ -29,7 +29,8 @@ pub fn read_items(alloc: Global, name: &str, text: &[u8]) -> Result<List<Item>, 
 // The tokens of the text.
 fn read_tokens(alloc: Global, name: &str, text: &[u8]) -> Result<Tokens, Halt>
     ensures lexed { IfOk result (λ tokens. IsLexed text.now (Ok tokens)) }
-    ensures refused { IfRefused result (λ answer. (fault : lex_fault) × IsLexed text.now (Err fault) × SaysLexFault name.now fault (ending_of answer)) }
+    ensures refused { IfRefused result (λ answer. (fault : lex_fault) × IsLexed text.now (Err fault)
+        × SaysLexFault name.now fault (ending_of answer)) }
     ensures status { IfRefused result (λ answer. (answer.status ≡ 3) ⊎ (answer.status ≡ 7)) }
     ensures cause { IfStopped result (λ stop. HasCause stop ⊥ ⊥) }
 {

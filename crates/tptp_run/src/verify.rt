@@ -33,13 +33,21 @@ pub fn verify<S: Store, L: Sink>(
     problem: &str,
     derivation: &str,
 ) -> Result<Answer, Halt>
-    ensures ends { IfAnswer result (λ answer. IfSome (S.files store.old) (λ files. IsAnswerWithLog (EndsVerify files (option_copied root.entry) problem.now derivation.now) answer (L.taken log.old) (L.taken log.new))) }
-    ensures absence { IfAnswer result (λ answer. answer.status ≡ 3 → Rose (S.absents store.old) (S.absents store.new) ⊎ (SaysProblemFault (S.files store.old) (option_copied root.entry) problem.now (ending_of answer) ⊎ SaysDerivedFault (S.files store.old) (option_copied root.entry) problem.now derivation.now (ending_of answer))) }
+    ensures ends { IfAnswer result (λ answer.
+        IfSome (S.files store.old) (λ files.
+        IsAnswerWithLog (EndsVerify files (option_copied root.entry) problem.now derivation.now) answer
+        (L.taken log.old) (L.taken log.new))) }
+    ensures absence { IfAnswer result (λ answer. answer.status ≡ 3
+        → Rose (S.absents store.old) (S.absents store.new)
+        ⊎ (SaysProblemFault (S.files store.old) (option_copied root.entry) problem.now (ending_of answer)
+        ⊎ SaysDerivedFault (S.files store.old) (option_copied root.entry) problem.now derivation.now
+        (ending_of answer))) }
     ensures status { IfAnswer result (λ answer. IsAnswer answer.status) }
     ensures cause { IfStopped result (λ stop. HasCause stop
         ((L.taken log.new ≡ L.taken log.old) × Rose (S.faults store.old) (S.faults store.new))
         (Rose (L.faults log.old) (L.faults log.new))) }
-    ensures log { IfSome (S.files store.old) (λ files. TakesSomeOfProblemLog files (option_copied root.entry) problem.now (L.taken log.old) (L.taken log.new)) }
+    ensures log { IfSome (S.files store.old) (λ files.
+        TakesSomeOfProblemLog files (option_copied root.entry) problem.now (L.taken log.old) (L.taken log.new)) }
 {
     match read_source(alloc, store, root, problem) {
         Ok(source) => {
@@ -65,10 +73,14 @@ fn verify_file<S: Store, L: Sink>(
     requires sentences { All (IsSentence source.old.signature) source.old.theory.formulas }
     requires declared { AreDeclared source.old.signature }
     ensures ends { IfAnswer result (λ answer. IfSome (S.files store.old) (λ files. IsAnswerWithLog
-        (AfterFile files file.now (TOTAL_SIZE - source.old.read) (SaysDerivation problem.now file.now source.old.theory source.old.names source.old.marks source.old.has_conjecture))
+        (AfterFile files file.now (TOTAL_SIZE - source.old.read)
+        (SaysDerivation problem.now file.now source.old.theory source.old.names source.old.marks
+        source.old.has_conjecture))
         answer (L.taken log.old) (L.taken log.new))) }
     ensures status { IfAnswer result (λ answer. IsAnswer answer.status) }
-    ensures absence { IfAnswer result (λ answer. answer.status ≡ 3 → Rose (S.absents store.old) (S.absents store.new) ⊎ SaysLinesFault (S.files store.old) file.now source.old.names source.old.signature (ending_of answer)) }
+    ensures absence { IfAnswer result (λ answer. answer.status ≡ 3
+        → Rose (S.absents store.old) (S.absents store.new)
+        ⊎ SaysLinesFault (S.files store.old) file.now source.old.names source.old.signature (ending_of answer)) }
     ensures cause { IfStopped result (λ stop. HasCause stop
         ((L.taken log.new ≡ L.taken log.old) × Rose (S.faults store.old) (S.faults store.new))
         (Rose (L.faults log.old) (L.faults log.new))) }
@@ -96,10 +108,12 @@ fn verify_text<L: Sink>(
     requires sentences { All (IsSentence source.old.signature) source.old.theory.formulas }
     requires declared { AreDeclared source.old.signature }
     ensures ends { IfAnswer result (λ answer. IsAnswerWithLog
-        (SaysDerivation problem.now file.now source.old.theory source.old.names source.old.marks source.old.has_conjecture text.now)
+        (SaysDerivation problem.now file.now source.old.theory source.old.names source.old.marks
+        source.old.has_conjecture text.now)
         answer (L.taken log.old) (L.taken log.new)) }
     ensures status { IfAnswer result (λ answer. IsAnswer answer.status) }
-    ensures refused { IfAnswer result (λ answer. answer.status ≡ 3 → IsDerivationRefusal file.now text.now source.old.names source.old.signature (ending_of answer)) }
+    ensures refused { IfAnswer result (λ answer. answer.status ≡ 3
+        → IsDerivationRefusal file.now text.now source.old.names source.old.signature (ending_of answer)) }
     ensures cause { IfStopped result (λ stop. HasCause stop ⊥ (Rose (L.faults log.old) (L.faults log.new))) }
     ensures log { TakesSomeOfLog source.old.theory (L.taken log.old) (L.taken log.new) }
 {
@@ -137,7 +151,8 @@ fn answer_on<L: Sink>(
     requires given { All (IsSentence source.old.theory.vocabulary) source.old.theory.formulas }
     requires lines { All (IsSentence source.old.signature) derivation.now.forms }
     ensures ends { IfOk result (λ answer. IsAnswerWithLog
-        (EndsChecked (asked_by problem.now text.now source.old.marks source.old.has_conjecture) source.old.theory derivation.now source.old.signature)
+        (EndsChecked (asked_by problem.now text.now source.old.marks source.old.has_conjecture) source.old.theory
+        derivation.now source.old.signature)
         answer (L.taken log.old) (L.taken log.new)) }
     ensures status { IfOk result (λ answer. answer.status ≤ 1) }
     ensures log { TakesSomeOfLog source.old.theory (L.taken log.old) (L.taken log.new) }

@@ -2,7 +2,8 @@
 ghost use Rattle.std.specs.Prelude.{◌≡◌, ℕ, List, ◌∷◌, ◌↔◌, IsTrue, IfSome, IfNone, codes, decimal, string_bytes};
 ghost use Rattle.std.specs.Option.{option_copied};
 ghost use Rattle.tptp_run.specs.code.Options.{BeginOtherwise, NameRoot, NameNoRoot, NameLimit, NameNoLimit, NameNoTask};
-ghost use Rattle.tptp_run.specs.Words.{texts, task_of, request_of, task_words, Task, HasNames, IsForm, IsLimit, IsName, HaveNoForm};
+ghost use Rattle.tptp_run.specs.Words.{texts, task_of, request_of, task_words, Task, HasNames, IsForm, IsLimit};
+ghost use Rattle.tptp_run.specs.Words.{IsFileName, HaveNoForm};
 
 use itoa::Buffer;
 
@@ -33,8 +34,8 @@ pub struct Command<'a> {
     pub job: Job<'a>,
 }
 
-/// What the words behind the program's name ask for. There is nothing exactly where the words have no form of a command. It
-/// takes no memory.
+/// What the words behind the program's name ask for. There is nothing exactly where the words have no form of a
+/// command. It takes no memory.
 #[tactic(auto, using(crate::proofs::Requests::asked, crate::proofs::Requests::no_root_no_form, crate::proofs::Requests::no_limit_no_form, crate::proofs::Requests::no_task_no_form))]
 pub fn read_words(words: &[String]) -> Option<Command<'_>>
     ensures some { IfSome result (λ command. IsForm (texts words.now) (request_of command)) }
@@ -136,8 +137,10 @@ fn read_job(words: &[String]) -> Option<Job<'_>>
 
 // The names of a problem and a derivation, and maybe of a log.
 fn read_verify(names: &[String]) -> Option<Job<'_>>
-    ensures some { IfSome result (λ job. (task_words (task_of job) ≡ codes "verify" ∷ texts names.now) × HasNames (task_of job)) }
-    ensures none { IfNone result ((task : Task) → task_words task ≡ codes "verify" ∷ texts names.now → HasNames task → ⊥) }
+    ensures some { IfSome result (λ job. (task_words (task_of job) ≡ codes "verify" ∷ texts names.now)
+        × HasNames (task_of job)) }
+    ensures none { IfNone result ((task : Task) → task_words task ≡ codes "verify" ∷ texts names.now → HasNames task
+        → ⊥) }
 {
     match names {
         [problem, derivation] => Some(Job::Verify(
@@ -156,8 +159,10 @@ fn read_verify(names: &[String]) -> Option<Job<'_>>
 
 // The name of a file.
 fn read_format(names: &[String]) -> Option<Job<'_>>
-    ensures some { IfSome result (λ job. (task_words (task_of job) ≡ codes "format" ∷ texts names.now) × HasNames (task_of job)) }
-    ensures none { IfNone result ((task : Task) → task_words task ≡ codes "format" ∷ texts names.now → HasNames task → ⊥) }
+    ensures some { IfSome result (λ job. (task_words (task_of job) ≡ codes "format" ∷ texts names.now)
+        × HasNames (task_of job)) }
+    ensures none { IfNone result ((task : Task) → task_words task ≡ codes "format" ∷ texts names.now → HasNames task
+        → ⊥) }
 {
     match names {
         [file] => Some(Job::Format(read_name(file)?)),
@@ -167,8 +172,10 @@ fn read_format(names: &[String]) -> Option<Job<'_>>
 
 // The name of the file of a problem.
 fn read_parse(names: &[String]) -> Option<Job<'_>>
-    ensures some { IfSome result (λ job. (task_words (task_of job) ≡ codes "parse" ∷ texts names.now) × HasNames (task_of job)) }
-    ensures none { IfNone result ((task : Task) → task_words task ≡ codes "parse" ∷ texts names.now → HasNames task → ⊥) }
+    ensures some { IfSome result (λ job. (task_words (task_of job) ≡ codes "parse" ∷ texts names.now)
+        × HasNames (task_of job)) }
+    ensures none { IfNone result ((task : Task) → task_words task ≡ codes "parse" ∷ texts names.now → HasNames task
+        → ⊥) }
 {
     match names {
         [file] => Some(Job::Parse(read_name(file)?)),
@@ -178,8 +185,10 @@ fn read_parse(names: &[String]) -> Option<Job<'_>>
 
 // The names of a problem and a log.
 fn read_check(names: &[String]) -> Option<Job<'_>>
-    ensures some { IfSome result (λ job. (task_words (task_of job) ≡ codes "check" ∷ texts names.now) × HasNames (task_of job)) }
-    ensures none { IfNone result ((task : Task) → task_words task ≡ codes "check" ∷ texts names.now → HasNames task → ⊥) }
+    ensures some { IfSome result (λ job. (task_words (task_of job) ≡ codes "check" ∷ texts names.now)
+        × HasNames (task_of job)) }
+    ensures none { IfNone result ((task : Task) → task_words task ≡ codes "check" ∷ texts names.now → HasNames task
+        → ⊥) }
 {
     match names {
         [problem, log] => Some(Job::Check(read_name(problem)?, read_name(log)?)),
@@ -189,8 +198,8 @@ fn read_check(names: &[String]) -> Option<Job<'_>>
 
 // The word as a name.
 fn read_name(word: &String) -> Option<&str>
-    ensures some { IfSome result (λ name. (string_bytes word.now ≡ name.now) × IsName name.now) }
-    ensures none { IfNone result (IsName (string_bytes word.now) → ⊥) }
+    ensures some { IfSome result (λ name. (string_bytes word.now ≡ name.now) × IsFileName name.now) }
+    ensures none { IfNone result (IsFileName (string_bytes word.now) → ⊥) }
 {
     if word.is_empty() {
         None

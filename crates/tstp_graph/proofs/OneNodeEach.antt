@@ -6,7 +6,7 @@ use Rattle.tptp_base.specs.declared.item.Item.{Item}
 use Rattle.tptp_base.specs.declared.item.Item.TheVariants as item
 use Rattle.tstp_graph.specs.declared.shape.Node.{Node}
 use Rattle.tstp_graph.specs.declared.fault.GraphFault.{GraphFault}
-use Rattle.tstp_graph.specs.Lines.{is_typing, with_name, names_in}
+use Rattle.tstp_graph.specs.Lines.{is_typing, with_formula_name, names_in}
 use Rattle.tstp_graph.specs.Meaning.{Means}
 use Rattle.tstp_graph.specs.Nodes.{line_answer, before, nodes_from}
 
@@ -26,6 +26,6 @@ one_node_each means earlier at (item.Formula line ∷ items) nodes e =
     by : (b : Bool) → ((more : List Node) → nodes_from means earlier (at + 1) items ≡ Ok more → length more ≡ length (names_in false items))
         → ((more : List Node) → nodes_from means (earlier ++ line.name ∷ []) (at + 1) items ≡ Ok more → length more ≡ length (names_in false items))
         → cond b (nodes_from means earlier (at + 1) items) (before (line_answer means earlier at line) (nodes_from means (earlier ++ line.name ∷ []) (at + 1) items)) ≡ Ok nodes
-        → length nodes ≡ length (with_name (cond (beq b false) (Some line) None) (names_in false items))
+        → length nodes ≡ length (with_formula_name (cond (beq b false) (Some line) None) (names_in false items))
     by true skip take e = skip nodes e
     by false skip take e = one_more (line_answer means earlier at line) (nodes_from means (earlier ++ line.name ∷ []) (at + 1) items) nodes (length (names_in false items)) take e

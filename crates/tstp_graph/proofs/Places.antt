@@ -12,7 +12,7 @@ use Rattle.tstp_graph.specs.code.Meaning.{means_in}
 use Rattle.tstp_graph.specs.Meaning.{means_of}
 use Rattle.tstp_graph.specs.Tables.{same_name, places_from}
 use Rattle.tstp_graph.specs.code.Tables.{found, found_text, Adds, Holds, IsAdded, IsEmpty}
-use Rattle.tstp_graph.specs.Lines.{formula_of, with_name, names_in}
+use Rattle.tstp_graph.specs.Lines.{formula_of, with_formula_name, names_in}
 
 -- the places of a name among these and one more
 places_last : (number : ℕ) (names : List Name) (last name : Name) → places_from number (names ++ last ∷ []) name ≡ cond (same_name last name) (places_from number names name ++ (number + length names) ∷ []) (places_from number names name)
@@ -69,21 +69,21 @@ pub added_with : (old mid new : NameTable) (name : Name) (place : ℕ) → new.w
 added_with old mid new name place words integers is adds count =
     added old new name place is (λ other. same_found mid new words integers other ∙ adds other) count
 
-with_append : (formula : Option Annotated) (front back : List Name) → with_name formula (front ++ back) ≡ with_name formula front ++ back
+with_append : (formula : Option Annotated) (front back : List Name) → with_formula_name formula (front ++ back) ≡ with_formula_name formula front ++ back
 with_append None front back = refl
 with_append (Some formula) front back = refl
 
-names_last : (is_type : Bool) (items : List Item) (last : Item) → names_in is_type (items ++ last ∷ []) ≡ names_in is_type items ++ with_name (formula_of is_type last) []
+names_last : (is_type : Bool) (items : List Item) (last : Item) → names_in is_type (items ++ last ∷ []) ≡ names_in is_type items ++ with_formula_name (formula_of is_type last) []
 names_last is_type [] last = refl
 names_last is_type (item ∷ items) last =
-    ap (with_name (formula_of is_type item)) (names_last is_type items last) ∙ with_append (formula_of is_type item) (names_in is_type items) (with_name (formula_of is_type last) [])
+    ap (with_formula_name (formula_of is_type item)) (names_last is_type items last) ∙ with_append (formula_of is_type item) (names_in is_type items) (with_formula_name (formula_of is_type last) [])
 
 -- the names of one item more
-pub names_more : (is_type : Bool) (items : List Item) (i : ℕ) (item : Item) → i < length items → item ≡ get_or items i item → names_in is_type (take i items) ++ with_name (formula_of is_type item) [] ≡ names_in is_type (take (i + 1) items)
+pub names_more : (is_type : Bool) (items : List Item) (i : ℕ) (item : Item) → i < length items → item ≡ get_or items i item → names_in is_type (take i items) ++ with_formula_name (formula_of is_type item) [] ≡ names_in is_type (take (i + 1) items)
 names_more is_type items i item lt is =
     sym (names_last is_type (take i items) item) ∙ ap (λ (x : Item). names_in is_type (take i items ++ x ∷ [])) is ∙ ap (names_in is_type) (sym (take_more items i item lt))
 
-pub holds_more : (table : NameTable) (is_type : Bool) (items : List Item) (i : ℕ) (item : Item) → i < length items → item ≡ get_or items i item → Holds table (names_in is_type (take i items) ++ with_name (formula_of is_type item) []) → Holds table (names_in is_type (take (i + 1) items))
+pub holds_more : (table : NameTable) (is_type : Bool) (items : List Item) (i : ℕ) (item : Item) → i < length items → item ≡ get_or items i item → Holds table (names_in is_type (take i items) ++ with_formula_name (formula_of is_type item) []) → Holds table (names_in is_type (take (i + 1) items))
 holds_more table is_type items i item lt is holds = subst (Holds table) (names_more is_type items i item lt is) holds
 
 pub holds_given : (table : NameTable) (names : List Name) (i : ℕ) (name : Name) → i < length names → name ≡ get_or names i name → Holds table (take i names ++ name ∷ []) → Holds table (take (i + 1) names)

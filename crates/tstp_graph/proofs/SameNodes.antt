@@ -16,7 +16,7 @@ use Rattle.tstp_graph.specs.declared.cite.Cite.{Cite}
 use Rattle.tstp_graph.specs.declared.cite.Reading.{Reading}
 use Rattle.tstp_graph.specs.declared.fault.GraphFault.{GraphFault}
 use Rattle.tstp_graph.specs.declared.fault.GraphFault.TheVariants.{DuplicateLine, BadSource}
-use Rattle.tstp_graph.specs.Lines.{is_typing, with_name, names_in}
+use Rattle.tstp_graph.specs.Lines.{is_typing, with_formula_name, names_in}
 use Rattle.tstp_graph.specs.Meaning.{Means, means_of, meaning, is_known, cite_name, with_ref, with_refs, parents, first_unknown}
 use Rattle.tstp_graph.specs.Nodes.{node_of, known_line, read_line, line_answer, before, nodes_from, nodes_of}
 use Rattle.tstp_graph.specs.Sources.{Source, source_of}
@@ -156,7 +156,7 @@ module _ (means : Means) (names : List Name) (lines : (name : Name) → means.li
       go (Ok node) is = is node ∙ behind_one nodes node (rest (earlier ++ line.name ∷ []))
       go (Err fault) is = refl
 
-      by : (b : Bool) → names ≡ earlier ++ with_name (cond (beq b false) (Some line) None) (names_in false items)
+      by : (b : Bool) → names ≡ earlier ++ with_formula_name (cond (beq b false) (Some line) None) (names_in false items)
           → (names ≡ earlier ++ names_in false items → code.nodes_from means (at + 1) items nodes ≡ behind nodes (rest earlier))
           → ((node : Node) → names ≡ (earlier ++ line.name ∷ []) ++ names_in false items → length (nodes ++ node ∷ []) ≡ length (earlier ++ line.name ∷ []) → code.nodes_from means (at + 1) items (nodes ++ node ∷ []) ≡ behind (nodes ++ node ∷ []) (rest (earlier ++ line.name ∷ [])))
           → go_on (cond b (Ok None) (code.line_answer means at (length nodes) line)) (code.nodes_from means (at + 1) items) nodes ≡ behind nodes (cond b (rest earlier) (before (line_answer means earlier at line) (rest (earlier ++ line.name ∷ []))))

@@ -24,14 +24,14 @@ formula_of is_type (Comment text) = None
 formula_of is_type (Include include) = None
 
 -- the name of the formula, before the names of others
-abbrev pub with_name : Option Annotated → List Name → List Name
-with_name None names = names
-with_name (Some formula) names = formula.name ∷ names
+abbrev pub with_formula_name : Option Annotated → List Name → List Name
+with_formula_name None names = names
+with_formula_name (Some formula) names = formula.name ∷ names
 
 -- the names of the formulas that have role type, or of those that haven't
 abbrev pub names_in : Bool → List Item → List Name
 names_in is_type [] = []
-names_in is_type (item ∷ items) = with_name (formula_of is_type item) (names_in is_type items)
+names_in is_type (item ∷ items) = with_formula_name (formula_of is_type item) (names_in is_type items)
 
 -- there are more formulas than a derivation can have
 abbrev pub IsOverLimit : List Item → Type 0

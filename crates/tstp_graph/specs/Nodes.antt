@@ -1,5 +1,6 @@
 -- The nodes of a derivation: one for each line, in the order of the text, unless an item is faulty.
-use Rattle.std.specs.Prelude.{ℕ, ◌+◌, Bool, false, not, List, [], ◌∷◌, ◌++◌, Option, None, Some, Result, Ok, Err, if◌then◌else◌}
+use Rattle.std.specs.Prelude.{ℕ, ◌+◌, Bool, false, not, List, [], ◌∷◌, ◌++◌, Option, None, Some, Result, Ok, Err}
+use Rattle.std.specs.Prelude.{if◌then◌else◌}
 use Rattle.std.specs.List.{list_any}
 use Rattle.tptp_base.specs.declared.name.Name.{Name}
 use Rattle.tptp_base.specs.declared.item.Annotated.{Annotated}

@@ -1,5 +1,6 @@
 -- The order in which a derivation can be checked: it takes repeatedly the first line whose parents are all taken.
-use Rattle.std.specs.Prelude.{ℕ, ◌≡◌, ⊤, ◌+◌, ◌==◌, ◌&&◌, Bool, true, not, List, [], ◌∷◌, ◌++◌, Option, None, Some, if◌then◌else◌}
+use Rattle.std.specs.Prelude.{ℕ, ◌≡◌, ⊤, ◌+◌, ◌==◌, ◌&&◌, Bool, true, not, List, [], ◌∷◌, ◌++◌, Option, None, Some}
+use Rattle.std.specs.Prelude.{if◌then◌else◌}
 use Rattle.std.specs.List.{list_any, list_all}
 use Rattle.tstp_graph.specs.declared.shape.Ref.{Ref}
 use Rattle.tstp_graph.specs.declared.shape.Ref.TheVariants.{Line, Given}

@@ -5,7 +5,8 @@ use Rattle.std.specs.Prelude.{Bool, true, false, not, List, [], ◌∷◌, ◌++
 use Rattle.std.specs.Option.{option_map, option_map_or}
 use Rattle.tptp_base.specs.declared.name.Name.{Name}
 use Rattle.tptp_base.specs.declared.name.Name.TheVariants.{Integer}
-use Rattle.tptp_base.specs.declared.item.GTerm.{GTerm, Word, Number, Func', List', Pair', Row_of-GTerm, end_of-GTerm, more_of-GTerm}
+use Rattle.tptp_base.specs.declared.item.GTerm.{GTerm, Word, Number, Func', List', Pair', Row_of-GTerm, end_of-GTerm}
+use Rattle.tptp_base.specs.declared.item.GTerm.{more_of-GTerm}
 use Rattle.tstp_graph.specs.declared.word.RecordKind.{RecordKind}
 use Rattle.tstp_graph.specs.declared.word.RecordKind.TheVariants.{Inference, Introduced, File, Theory, Other}
 use Rattle.tstp_graph.specs.declared.cite.Cite.{Cite}

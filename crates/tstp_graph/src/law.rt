@@ -9,8 +9,11 @@ ghost use Rattle.tstp_graph.specs.declared.shape.Graph.{Graph as Shape};
 
 /// Items have one graph or one first fault, and never both, where want of memory is no fault of theirs.
 pub fn one_graph_or_fault()
-    ensures one { (items : List Formulas) (given : List GivenName) (graph other : Shape) → IsGraph items given graph → IsGraph items given other → graph ≡ other }
+    ensures one { (items : List Formulas) (given : List GivenName) (graph other : Shape) → IsGraph items given graph
+        → IsGraph items given other → graph ≡ other }
     ensures first { (items : List Formulas) (given : List GivenName) (fault other : Fault)
-        → IsFault items given fault → IsFault items given other → (fault ≡ wanting) ⊎ ((other ≡ wanting) ⊎ (fault ≡ other)) }
-    ensures never_both { (items : List Formulas) (given : List GivenName) (graph : Shape) (fault : Fault) → IsGraph items given graph → IsFault items given fault → fault ≡ wanting }
+        → IsFault items given fault → IsFault items given other
+        → (fault ≡ wanting) ⊎ ((other ≡ wanting) ⊎ (fault ≡ other)) }
+    ensures never_both { (items : List Formulas) (given : List GivenName) (graph : Shape) (fault : Fault)
+        → IsGraph items given graph → IsFault items given fault → fault ≡ wanting }
 {}

@@ -1,7 +1,8 @@
 // How sources are read.
 ghost use Rattle.std.specs.Prelude.{◌≡◌, ◌&&◌, map, IfOk};
 ghost use Rattle.std.specs.List.{flat_map, list_all};
-ghost use Rattle.tstp_graph.specs.code.Sources.{nothing, named, word_reading, number_reading, list_reading, pair_reading, reading, source_of};
+ghost use Rattle.tstp_graph.specs.code.Sources.{nothing, named, word_reading, number_reading, list_reading};
+ghost use Rattle.tstp_graph.specs.code.Sources.{pair_reading, reading, source_of};
 
 use crate::cite::{Cite, Reading};
 use crate::record::{one, read_record};

@@ -40,7 +40,8 @@ fn add_item(
     nodes: &mut List<Node>,
 ) -> Result<(), GraphFault>
     requires { length nodes.old < 2 ^ 32 }
-    ensures ok { OnOk result (IsStep (item_answer (means_in scope.now) at (length nodes.old) item.now) nodes.old nodes.new) }
+    ensures ok { OnOk result
+        (IsStep (item_answer (means_in scope.now) at (length nodes.old) item.now) nodes.old nodes.new) }
     ensures err { IfErr result (λ fault. (fault ≡ GraphFault.Memory)
         ⊎ (item_answer (means_in scope.now) at (length nodes.old) item.now ≡ Err fault)) }
     ensures len { OnOk result (length nodes.new ≤ length nodes.old + 1) }

@@ -1,11 +1,13 @@
 // The nodes that are not taken: those that are ready, and those that wait for a line.
-ghost use Rattle.std.specs.Prelude.{◌≡◌, ◌+◌, ◌<◌, ◌^◌, ℕ, [], true, false, length, take, IfOk, OnOk, IfSome, IfNone, IsTrue, MatchOption};
+ghost use Rattle.std.specs.Prelude.{◌≡◌, ◌+◌, ◌<◌, ◌^◌, ℕ, [], true, false, length, take, IfOk, OnOk, IfSome, IfNone};
+ghost use Rattle.std.specs.Prelude.{IsTrue, MatchOption};
 ghost use Rattle.std.specs.List.{list_all, All};
 ghost use Rattle.std.specs.Ordering.{nat_cmp};
 ghost use Rattle.std.specs.BTreeSet.{contains, IsEmpty, IsLowerBound, Updates};
 ghost use Rattle.tstp_graph.specs.Order.{is_done};
 ghost use Rattle.tstp_graph.specs.code.Flags.{flag_at, is_line};
-ghost use Rattle.tstp_graph.specs.code.Queue.{waiters_of, has_number, no_number, IsMissing, IsLoose, IsQueue, Settles, AddsWaiter};
+ghost use Rattle.tstp_graph.specs.code.Queue.{waiters_of, has_number, no_number, IsMissing, IsLoose, IsQueue, Settles};
+ghost use Rattle.tstp_graph.specs.code.Queue.{AddsWaiter};
 
 use crate::order::is_flagged;
 use crate::shape::{Node, Ref};
@@ -78,7 +80,8 @@ impl Queue {
         requires within { line < length self.old.waiting.items }
         requires taken { flag_at taken.now line ≡ true }
         requires loose { All (IsLoose nodes.now (flag_at taken.now)) (waiters_of self.old.waiting.items line) }
-        requires queue { IsQueue nodes.now (flag_at taken.now) (has_number (waiters_of self.old.waiting.items line)) self.old.ready self.old.waiting.items }
+        requires queue { IsQueue nodes.now (flag_at taken.now)
+            (has_number (waiters_of self.old.waiting.items line)) self.old.ready self.old.waiting.items }
         ensures { OnOk result (IsQueue nodes.now (flag_at taken.now) no_number self.new.ready self.new.waiting.items) }
     {
         let freed = mem::replace(&mut self.waiting[line as usize], List::new(alloc));
@@ -93,7 +96,8 @@ impl Queue {
         waiters: &[Waiter],
     ) -> Result<(), Memory>
         requires loose { All (IsLoose nodes.now (flag_at taken.now)) waiters.now }
-        requires queue { IsQueue nodes.now (flag_at taken.now) (has_number waiters.now) self.old.ready self.old.waiting.items }
+        requires queue { IsQueue nodes.now (flag_at taken.now)
+            (has_number waiters.now) self.old.ready self.old.waiting.items }
         ensures { OnOk result (IsQueue nodes.now (flag_at taken.now) no_number self.new.ready self.new.waiting.items) }
     {
         for waiter in waiters {
@@ -105,7 +109,9 @@ impl Queue {
     // Puts a node that is not taken where it belongs.
     fn settle(&mut self, nodes: &[Node], taken: &[bool], waiter: Waiter) -> Result<(), Memory>
         requires { IsLoose nodes.now (flag_at taken.now) waiter }
-        ensures { OnOk result (Settles nodes.now (flag_at taken.now) waiter.number self.old.ready self.old.waiting.items self.new.ready self.new.waiting.items) }
+        ensures { OnOk result
+            (Settles nodes.now
+            (flag_at taken.now) waiter.number self.old.ready self.old.waiting.items self.new.ready self.new.waiting.items) }
     {
         let parents = nodes[waiter.number as usize].parents.as_slice();
         match first_missing(parents, taken, waiter.place) {
@@ -154,7 +160,8 @@ fn no_waiters(alloc: Global, count: usize) -> Result<Vec<List<Waiter>>, Memory>
 // The first parent from a place on that is not taken.
 fn first_missing(parents: &[Ref], taken: &[bool], from: usize) -> Option<Missing>
     requires { list_all (is_done (flag_at taken.now)) (take from parents.now) ≡ true }
-    ensures { MatchOption result (list_all (is_done (flag_at taken.now)) parents.now ≡ true) (IsMissing parents.now (flag_at taken.now)) }
+    ensures { MatchOption result (list_all (is_done (flag_at taken.now)) parents.now
+        ≡ true) (IsMissing parents.now (flag_at taken.now)) }
 {
     for place in from..parents.len() {
         if let Some(line) = untaken(parents[place], taken) {
@@ -166,7 +173,8 @@ fn first_missing(parents: &[Ref], taken: &[bool], from: usize) -> Option<Missing
 
 // The line of a parent that is not taken.
 fn untaken(parent: Ref, taken: &[bool]) -> Option<u32>
-    ensures { MatchOption result (is_done (flag_at taken.now) parent ≡ true) (λ line. (is_line line parent ≡ true) × (flag_at taken.now line ≡ false)) }
+    ensures { MatchOption result (is_done (flag_at taken.now) parent ≡ true) (λ line. (is_line line parent ≡ true)
+        × (flag_at taken.now line ≡ false)) }
 {
     match parent {
         Ref::Line(number) => {

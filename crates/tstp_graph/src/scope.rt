@@ -1,7 +1,7 @@
 // What names mean in a derivation.
 ghost use Rattle.std.specs.Prelude.{◌≡◌, ◌+◌, ◌<◌, ◌≤◌, ◌^◌, [], length, IfOk, OnOk};
 ghost use Rattle.tstp_graph.specs.code.Tables.{Holds, IsAdded};
-ghost use Rattle.tstp_graph.specs.Lines.{names_in, formula_of, with_name};
+ghost use Rattle.tstp_graph.specs.Lines.{names_in, formula_of, with_formula_name};
 ghost use Rattle.tstp_graph.specs.code.Meaning.{means_in};
 ghost use Rattle.tstp_graph.specs.Meaning.{means_of};
 
@@ -50,7 +50,7 @@ fn formula_names(alloc: Global, items: &[Item], is_type: bool) -> Result<NameTab
 fn add_item(alloc: Global, table: &mut NameTable, item: &Item, is_type: bool) -> Result<(), Memory>
     requires { table.old.count + 1 < 2 ^ 32 }
     ensures count { OnOk result (table.new.count ≤ table.old.count + 1) }
-    ensures holds { OnOk result (IsAdded table.old (with_name (formula_of is_type item.now) []) table.new) }
+    ensures holds { OnOk result (IsAdded table.old (with_formula_name (formula_of is_type item.now) []) table.new) }
 {
     match formula_of(item, is_type) {
         Some(formula) => table.add(alloc, &formula.name),

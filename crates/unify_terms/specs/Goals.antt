@@ -13,7 +13,8 @@ use Rattle.unify_terms.specs.Substitution.{IsSubstitution}
 use Rattle.unify_terms.specs.Unifiers.{Unifies}
 use Rattle.unify_terms.specs.declared.goal.Goal.TheOpen as goal
 
--- from the choices to come: the pairs that are asked to be equal, and the choices that are left; None where the choices don't fit
+-- from the choices to come: the pairs that are asked to be equal, and the choices that are left; None where the choices
+-- don't fit
 abbrev pub Ways : Type 0
 Ways = List ℕ → Option (List Pair × List ℕ)
 
@@ -52,17 +53,20 @@ asked_step (goal.All gs) = each_of gs
 asked_step (goal.Any gs) = one_of gs
 asked_step (goal.Same ps) = λ choices. Some (ps, choices)
 
--- what a goal asks on a walk from the left: all members of an All, the member of an Any that the next choice names, the pairs of a Same
+-- what a goal asks on a walk from the left: all members of an All, the member of an Any that the next choice names, the
+-- pairs of a Same
 unfoldable pub asked : Goal → Ways
 asked = fold-Goal Ways asked_step
 
--- under these choices, one for each Any met on the walk and no more, the substitution makes the pairs equal that the goal asks
+-- under these choices, one for each Any met on the walk and no more, the substitution makes the pairs equal that the
+-- goal asks
 pub record MeetsGoal (images : List Term) (goal : Goal) (choices : List ℕ) : Type 0 where
   pub pairs : List Pair
   pub all : asked goal choices ≡ Some (pairs, [])
   pub unifies : Unifies images pairs
 
--- a substitution and choices that meet the goal, or none where no substitution into any list of sorts meets it under any choices
+-- a substitution and choices that meet the goal, or none where no substitution into any list of sorts meets it under
+-- any choices
 abbrev pub SolvesGoal : Vocabulary → Scope → Goal → Option Solution → Type 0
 SolvesGoal v scope goal None = (target : List ℕ) (other : List Term) → IsSubstitution v scope.sorts scope.rigid target other → (choices : List ℕ) → MeetsGoal other goal choices → ⊥
 SolvesGoal v scope goal (Some solution) = IsSubstitution v scope.sorts scope.rigid scope.sorts solution.subst × MeetsGoal solution.subst goal solution.choices

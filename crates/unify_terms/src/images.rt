@@ -67,7 +67,9 @@ fn all_images(
     requires fits { Fits nodes.now classes.now }
     requires few { FewVariables nodes.now }
     requires within { Below (length nodes.now) order.now }
-    ensures { IfOk result (λ images. (length images.items ≡ length nodes.now) × ((i : ℕ) → i < length nodes.now → get_or images.items i (Var 0) ≡ image_in nodes.now classes.now (reverse order.now) i)) }
+    ensures { IfOk result (λ images. (length images.items ≡ length nodes.now)
+        × ((i : ℕ) → i < length nodes.now
+        → get_or images.items i (Var 0) ≡ image_in nodes.now classes.now (reverse order.now) i)) }
 {
     let mut images = placeholders(alloc, nodes.len())?;
     for class in order {
@@ -77,7 +79,8 @@ fn all_images(
 }
 
 fn placeholders(alloc: Global, count: usize) -> Result<Vec<Term>, Memory>
-    ensures { IfOk result (λ images. (length images.items ≡ count) × ((i : ℕ) → get_or images.items i (Var 0) ≡ Var 0)) }
+    ensures { IfOk result (λ images. (length images.items ≡ count)
+        × ((i : ℕ) → get_or images.items i (Var 0) ≡ Var 0)) }
 {
     let mut images = Vec::new(alloc);
     for i in 0..count {
@@ -177,8 +180,8 @@ fn has_first(classes: &[usize], needed: &[bool], count: usize) -> bool
     true
 }
 
-// Images among which are those of the classes of the first nodes. Only those are made that they consist of, if marks tell
-// them.
+// Images among which are those of the classes of the first nodes. Only those are made that they consist of, if marks
+// tell them.
 fn images_for(
     alloc: Global,
     nodes: &[Node<'_>],
@@ -191,7 +194,9 @@ fn images_for(
     requires within { Below (length nodes.now) order.now }
     requires count { count ≤ length nodes.now }
     ensures size { IfOk result (λ images. length images.items ≡ length nodes.now) }
-    ensures first { IfOk result (λ images. (k : ℕ) → k < count → get_or images.items (class_of classes.now k) (Var 0) ≡ image_in nodes.now classes.now (reverse order.now) (class_of classes.now k)) }
+    ensures first { IfOk result (λ images. (k : ℕ) → k < count
+        → get_or images.items (class_of classes.now k) (Var 0)
+        ≡ image_in nodes.now classes.now (reverse order.now) (class_of classes.now k)) }
 {
     let needed = marked(alloc, nodes, classes, order, count)?;
     if has_first(classes, &needed, count) && is_closed(nodes, classes, &needed) {
@@ -212,7 +217,9 @@ pub fn first_images(
     requires few { FewVariables nodes.now }
     requires within { Below (length nodes.now) order.now }
     requires count { count ≤ length nodes.now }
-    ensures { IfOk result (λ images. (length images ≡ count) × ((k : ℕ) → k < count → get_or images k (Var k) ≡ image_in nodes.now classes.now (reverse order.now) (class_of classes.now k))) }
+    ensures { IfOk result (λ images. (length images ≡ count)
+        × ((k : ℕ) → k < count
+        → get_or images k (Var k) ≡ image_in nodes.now classes.now (reverse order.now) (class_of classes.now k))) }
 {
     let all = images_for(alloc, nodes, classes, order, count)?;
     let mut images = List::new(alloc);

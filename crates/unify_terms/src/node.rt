@@ -1,5 +1,6 @@
 ghost use Rattle.std.specs.Prelude.{◌≡◌, ◌<◌, ◌↔◌, IsTrue, slice_get, Some, IfOk, OnOk, length};
-ghost use Rattle.unify_terms.specs.code.Graph.{numbers_at, head_sort, one_head, IsAdded, AreAdded, AddsPairs, AreVariables, IsGraphOf};
+ghost use Rattle.unify_terms.specs.code.Graph.{numbers_at, head_sort, one_head, IsAdded, AreAdded, AddsPairs};
+ghost use Rattle.unify_terms.specs.code.Graph.{AreVariables, IsGraphOf};
 ghost use Rattle.unify_terms.specs.code.Chosen.{chosen_pairs};
 ghost use Rattle.unify_terms.specs.declared.node.Node.TheVariants.{Open};
 
@@ -162,7 +163,8 @@ pub struct Graph<'a> {
 
 /// The graph of the pairs that were chosen.
 pub fn graph_of<'a>(chosen: &Chosen<'a>, alloc: Global, scope: &Scope) -> Result<Graph<'a>, Memory>
-    ensures { IfOk result (λ graph. IsGraphOf scope.now.sorts scope.now.rigid (chosen_pairs chosen.now) graph.nodes graph.pairs) }
+    ensures { IfOk result (λ graph.
+        IsGraphOf scope.now.sorts scope.now.rigid (chosen_pairs chosen.now) graph.nodes graph.pairs) }
 {
     let mut nodes = variables(alloc, scope)?;
     let mut pairs = List::new(alloc);

@@ -69,7 +69,8 @@ fn search(
     requires few { length scope.now.sorts ≤ 2 ^ 32 }
     requires sorted { AreSorted signature.now scope.now.sorts (chosen_pairs chosen.now) }
     requires pending { pending_sorted signature.now scope.now.sorts pending.now ≡ true }
-    ensures { IfOk result (λ answer. Searched signature.now scope.now (chosen_pairs chosen.now) (asked_pending pending.now) answer) }
+    ensures { IfOk result (λ answer.
+        Searched signature.now scope.now (chosen_pairs chosen.now) (asked_pending pending.now) answer) }
 {
     match pending {
         Pending::Done => ended(alloc, signature, scope, chosen),
@@ -98,7 +99,8 @@ fn ended(
 ) -> Result<Option<Solution>, Memory>
     requires few { length scope.now.sorts ≤ 2 ^ 32 }
     requires sorted { AreSorted signature.now scope.now.sorts (chosen_pairs chosen.now) }
-    ensures { IfOk result (λ answer. Searched signature.now scope.now (chosen_pairs chosen.now) (asked_pending Done) answer) }
+    ensures { IfOk result (λ answer.
+        Searched signature.now scope.now (chosen_pairs chosen.now) (asked_pending Done) answer) }
 {
     match unify_chosen(alloc, signature, scope, chosen)? {
         Some(subst) => Ok(Some(Solution {
@@ -125,7 +127,9 @@ fn meet(
     requires sorted { AreSorted signature.now scope.now.sorts (chosen_pairs chosen.now) }
     requires goal { goal_sorted signature.now scope.now.sorts goal.now ≡ true }
     requires rest { pending_sorted signature.now scope.now.sorts rest.now ≡ true }
-    ensures { IfOk result (λ answer. Searched signature.now scope.now (chosen_pairs chosen.now) (before (asked goal.now) (asked_pending rest.now)) answer) }
+    ensures { IfOk result (λ answer.
+        Searched signature.now scope.now (chosen_pairs chosen.now)
+        (before (asked goal.now) (asked_pending rest.now)) answer) }
 {
     match goal {
         Goal::All(goals) => {
@@ -153,7 +157,8 @@ fn fails_early(
     chosen: &Chosen<'_>,
 ) -> Result<bool, Memory>
     requires sorted { AreSorted signature.now scope.now.sorts (chosen_pairs chosen.now) }
-    ensures { IfOk result (λ answer. IsTrue answer → Unified signature.now scope.now.sorts scope.now.rigid (chosen_pairs chosen.now) None) }
+    ensures { IfOk result (λ answer. IsTrue answer
+        → Unified signature.now scope.now.sorts scope.now.rigid (chosen_pairs chosen.now) None) }
 {
     if !is_choice {
         return Ok(false);
@@ -175,7 +180,9 @@ fn first_of(
     requires sorted { AreSorted signature.now scope.now.sorts (chosen_pairs chosen.now) }
     requires goals { list_all (goal_sorted signature.now scope.now.sorts) goals.now ≡ true }
     requires rest { pending_sorted signature.now scope.now.sorts rest.now ≡ true }
-    ensures { IfOk result (λ answer. Searched signature.now scope.now (chosen_pairs chosen.now) (one_before (map asked goals.now) (asked_pending rest.now)) answer) }
+    ensures { IfOk result (λ answer.
+        Searched signature.now scope.now (chosen_pairs chosen.now)
+        (one_before (map asked goals.now) (asked_pending rest.now)) answer) }
 {
     let is_choice = goals.len() > 1;
     for at in 0..goals.len() {

@@ -44,7 +44,8 @@ pub fn unify_chosen(
 ) -> Result<Option<Subst>, Memory>
     requires few { length scope.now.sorts ≤ 2 ^ 32 }
     requires sorted { AreSorted signature.now scope.now.sorts (chosen_pairs chosen.now) }
-    ensures { IfOk result (λ answer. Unified signature.now scope.now.sorts scope.now.rigid (chosen_pairs chosen.now) answer) }
+    ensures { IfOk result (λ answer.
+        Unified signature.now scope.now.sorts scope.now.rigid (chosen_pairs chosen.now) answer) }
 {
     let Graph { nodes, pairs } = graph_of(chosen, alloc, scope)?;
     let nodes = nodes.as_slice();
@@ -66,7 +67,8 @@ pub fn is_hopeless(
     chosen: &Chosen<'_>,
 ) -> Result<bool, Memory>
     requires sorted { AreSorted signature.now scope.now.sorts (chosen_pairs chosen.now) }
-    ensures { IfOk result (λ answer. IsTrue answer → Unified signature.now scope.now.sorts scope.now.rigid (chosen_pairs chosen.now) None) }
+    ensures { IfOk result (λ answer. IsTrue answer
+        → Unified signature.now scope.now.sorts scope.now.rigid (chosen_pairs chosen.now) None) }
 {
     let Graph { nodes, pairs } = graph_of(chosen, alloc, scope)?;
     match arranged(alloc, nodes.as_slice(), signature, scope, pairs)? {

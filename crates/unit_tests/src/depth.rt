@@ -1,5 +1,5 @@
-// How deep proofs may nest in a run. The kit's own compiler gives more stack to each level than LLVM, so these runs are no
-// rows, which both compile.
+// How deep proofs may nest in a run. The kit's own compiler gives more stack to each level than LLVM, so these runs are
+// no rows, which both compile.
 use std::alloc::{AllocError, Global};
 use std::test::Fail;
 use tptp_base::{List, SteadySink, SteadyStore, Text};

@@ -13,7 +13,7 @@ use Rattle.tstp_graph.specs.declared.shape.Ref.{Ref}
 use Rattle.tstp_graph.specs.declared.shape.Ref.TheVariants as ref
 use Rattle.tstp_graph.specs.Order.{TakesInTurn}
 use Rattle.verifier.specs.Claim.{answer_cites_marked, cites_marked, some_marked_ref}
-use Rattle.verifier.specs.Good.{form_of, forms_of, without_numbers, so_far, cited_by_leaf, FollowsAs, Follows, FollowInTurn, IsGood}
+use Rattle.verifier.specs.Good.{cited_form, cited_forms, without_numbers, so_far, cited_by_leaf, FollowsAs, Follows, FollowInTurn, IsGood}
 use Rattle.verifier.specs.Lines.{Derivation, Line, IsLineAt, parent_of, parents_of, candidates_of}
 use Rattle.verifier.specs.Report.{AreAccepted, HasFalse}
 use Rattle.verifier.specs.Run.{Progress, AnswersKind, AreAnswered, IsAnswered, IsRun, begun}
@@ -32,11 +32,11 @@ use Rattle.verifier.proofs.Symbols.{SameSymbols, other_way}
 abbrev forms_in : List Parent → List Form
 forms_in parents = map (λ (p : Parent). p.form) parents
 
-parent_form : (d : Derivation) (numbers : List (Option ℕ)) (r : Ref) (q : Parent) → parent_of d.given d.forms numbers r ≡ Some q → form_of d.given d.forms r ≡ Some q.form
+parent_form : (d : Derivation) (numbers : List (Option ℕ)) (r : Ref) (q : Parent) → parent_of d.given d.forms numbers r ≡ Some q → cited_form d.given d.forms r ≡ Some q.form
 parent_form d numbers (ref.Given place) q is = (with_number_is place (slice_get d.given place) q is).0
 parent_form d numbers (ref.Line place) q is = (accepted_is (slice_get numbers place) (slice_get d.forms place) q is).1
 
-parents_forms : (d : Derivation) (numbers : List (Option ℕ)) (rs : List Ref) (qs : List Parent) → parents_of d.given d.forms numbers rs ≡ Some qs → forms_of d.given d.forms rs ≡ Some (forms_in qs)
+parents_forms : (d : Derivation) (numbers : List (Option ℕ)) (rs : List Ref) (qs : List Parent) → parents_of d.given d.forms numbers rs ≡ Some qs → cited_forms d.given d.forms rs ≡ Some (forms_in qs)
 parents_forms d numbers [] qs is = let none : qs ≡ [] = cc in ap (λ (ps : List Parent). Some (forms_in ps)) (sym none)
 parents_forms d numbers (r ∷ rs) qs is =
     let parts = both_is (parent_of d.given d.forms numbers r) (parents_of d.given d.forms numbers rs) qs is in

@@ -29,7 +29,7 @@ use Rattle.verifier.specs.Citing.{Spares, SparesAll, DoesNotCite, DoNotCite}
 use Rattle.verifier.specs.Claim.{is_marked, some_marked, answer_cites_marked, cites_marked}
 use Rattle.verifier.specs.Closing.{Closes, IsFalseLine}
 use Rattle.verifier.specs.Lines.{Derivation, Line, parents_of}
-use Rattle.verifier.specs.Run.{Progress, Answers, AreAnswered, IsAnswered, IsRun, begun}
+use Rattle.verifier.specs.Run.{Progress, AnswersLine, AreAnswered, IsAnswered, IsRun, begun}
 use Rattle.verifier.specs.Symbols.{IsAbsent}
 use Rattle.verifier.specs.declared.answer.LineAnswer.{LineAnswer}
 use Rattle.verifier.specs.declared.answer.LineAnswer.TheVariants.{Accepted, Unverified, Skipped}
@@ -128,7 +128,7 @@ pub derived_spare : (t : Statements) (cites : List ℕ) (entries : List Entry) (
 derived_spare t cites entries line n derived within apart = admitted_spare (replaced t n) n entries _ (set_here t.formulas n unsorted within) (derived.adds (replaced t n) (keeps_cited t n cites apart)).legal
 
 -- so do those of an accepted line
-pub line_spares : (t : Statements) (given : List Form) (line : Line) (parents : List Parent) (rule : Rule) (cites : List ℕ) (entries : List Entry) (n : ℕ) → Answers t given line parents (step.Accepted rule cites entries) → n < length t.formulas → All (λ cited. cited ≡ n → ⊥) cites → DoNotCite n entries
+pub line_spares : (t : Statements) (given : List Form) (line : Line) (parents : List Parent) (rule : Rule) (cites : List ℕ) (entries : List Entry) (n : ℕ) → AnswersLine t given line parents (step.Accepted rule cites entries) → n < length t.formulas → All (λ cited. cited ≡ n → ⊥) cites → DoNotCite n entries
 line_spares t given line parents rule cites entries n answers = derived_spare t cites entries line.form n (kind_derived line.node.leaf t given line.node.cited parents line.form rule cites entries answers)
 
 pub both_spare : (n : ℕ) (first second : List Entry) → DoNotCite n first → DoNotCite n second → DoNotCite n (first ++ second)

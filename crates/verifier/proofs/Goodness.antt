@@ -18,7 +18,7 @@ use Rattle.tstp_graph.specs.declared.shape.Ref.{Ref}
 use Rattle.tstp_graph.specs.declared.shape.Ref.TheVariants as ref
 use Rattle.tstp_graph.specs.declared.shape.Node.{Node}
 use Rattle.tstp_graph.specs.Order.{is_taken, is_done, TakesInTurn, first_left}
-use Rattle.verifier.specs.Good.{form_of, forms_of, without_numbers, so_far, FollowsAs, Follows, FollowInTurn, IsGood}
+use Rattle.verifier.specs.Good.{cited_form, cited_forms, without_numbers, so_far, FollowsAs, Follows, FollowInTurn, IsGood}
 use Rattle.verifier.specs.Lines.{Derivation, Line, IsLineAt, numbered, parent_of, parents_of, candidates_of}
 use Rattle.verifier.specs.Report.{AreAccepted}
 use Rattle.verifier.specs.Run.{Progress, AnswersKind, AnswersPlace, AreAnswered, IsAnswered, IsRun, begun}
@@ -81,15 +81,15 @@ pub record IsSound (v : Vocabulary) (d : Derivation) (taken : List ℕ) (earlier
   pub numbers : (k : ℕ) → is_taken taken k ≡ true → (n : ℕ) × (slice_get p.numbers k ≡ Some (Some n))
 
 -- a parent that is given or taken
-found_parent : (v : Vocabulary) (d : Derivation) (taken : List ℕ) (earlier : List Form) (p : Progress) (r : Ref) (form : Form) → IsSound v d taken earlier p → is_done (is_taken taken) r ≡ true → form_of d.given d.forms r ≡ Some form → (n : ℕ) × (parent_of d.given d.forms p.numbers r ≡ Some (numbered n form))
+found_parent : (v : Vocabulary) (d : Derivation) (taken : List ℕ) (earlier : List Form) (p : Progress) (r : Ref) (form : Form) → IsSound v d taken earlier p → is_done (is_taken taken) r ≡ true → cited_form d.given d.forms r ≡ Some form → (n : ℕ) × (parent_of d.given d.forms p.numbers r ≡ Some (numbered n form))
 found_parent v d taken earlier p (ref.Given place) form sound done is = (place, rw is refl)
 found_parent v d taken earlier p (ref.Line place) form sound done is = let number = sound.numbers place done in (number.0, rw (number.1, is) refl)
 
 -- the parents of a line that has its turn
-pub found_parents : (v : Vocabulary) (d : Derivation) (taken : List ℕ) (earlier : List Form) (p : Progress) (rs : List Ref) (forms : List Form) → IsSound v d taken earlier p → list_all (is_done (is_taken taken)) rs ≡ true → forms_of d.given d.forms rs ≡ Some forms → (parents : List Parent) × (parents_of d.given d.forms p.numbers rs ≡ Some parents) × HaveForms parents forms
+pub found_parents : (v : Vocabulary) (d : Derivation) (taken : List ℕ) (earlier : List Form) (p : Progress) (rs : List Ref) (forms : List Form) → IsSound v d taken earlier p → list_all (is_done (is_taken taken)) rs ≡ true → cited_forms d.given d.forms rs ≡ Some forms → (parents : List Parent) × (parents_of d.given d.forms p.numbers rs ≡ Some parents) × HaveForms parents forms
 found_parents v d taken earlier p [] forms sound done is = ([], refl, cc)
 found_parents v d taken earlier p (r ∷ rs) forms sound done is =
-    let parts = both_is (form_of d.given d.forms r) (forms_of d.given d.forms rs) forms is in
+    let parts = both_is (cited_form d.given d.forms r) (cited_forms d.given d.forms rs) forms is in
     let dones = both_true (is_done (is_taken taken) r) (list_all (is_done (is_taken taken)) rs) done in
     let first = found_parent v d taken earlier p r parts.0 sound dones.0 parts.2 in
     let rest = found_parents v d taken earlier p rs parts.1 sound dones.1 parts.3 in (

@@ -17,7 +17,7 @@ use Rattle.tstp_graph.specs.declared.shape.Ref.TheVariants as ref
 use Rattle.verifier.specs.Lines.{Derivation, numbered, given_from, with_number, accepted, parent_of, both, parents_of}
 use Rattle.verifier.specs.code.Numbered.{Knows, IsOver, AreNumbered, forms_in, progress_of, derivation_in}
 use Rattle.verifier.specs.declared.lines.Lines.{Lines}
-use Rattle.verifier.specs.Run.{Progress, begun, with_line}
+use Rattle.verifier.specs.Run.{Progress, begun, with_answered}
 use Rattle.verifier.specs.Symbols.{IsAbsent}
 use Rattle.verifier.specs.code.Symbols.{IsInNoNumbered, IsUnused}
 use Rattle.verifier.proofs.Derived.{with_stays}
@@ -78,7 +78,7 @@ module _ (d : Derivation) (p : Progress) (knows : Knows d p) where
   given_stand = given_on 0 d.given (λ k a is. let same : 0 + k ≡ k = omega arith in ap (slice_get d.given) same ∙ is)
 
   -- a line at a place is added
-  pub knows_more : (place : ℕ) (form : Form) (u : Statements) → slice_get d.forms place ≡ Some form → Gains p.theory u form → Knows d (with_line p place u)
+  pub knows_more : (place : ℕ) (form : Form) (u : Statements) → slice_get d.forms place ≡ Some form → Gains p.theory u form → Knows d (with_answered p place u)
   knows_more place form u at gains = record {
     given = λ k a there. stays k a (knows.given k a there);
     lines = stand_more d p place form u at gains knows.lines;

@@ -18,7 +18,7 @@ use Rattle.tstp_graph.specs.declared.shape.Node.{Node}
 use Rattle.verifier.specs.Lines.{Derivation, Line, IsLineAt, given_from, parents_of}
 use Rattle.verifier.specs.Logged.{CanAdmit}
 use Rattle.verifier.specs.code.Numbered.{Knows}
-use Rattle.verifier.specs.Run.{Progress, AnswersKind, Answers, IsAnswered}
+use Rattle.verifier.specs.Run.{Progress, AnswersKind, AnswersLine, IsAnswered}
 use Rattle.verifier.specs.code.Taking.{CanTake, TakesAnswer, AnswersLine}
 use Rattle.verifier.specs.declared.answer.LineAnswer.{LineAnswer}
 use Rattle.verifier.specs.declared.answer.LineAnswer.TheVariants.{Accepted, Unverified, Skipped}
@@ -66,7 +66,7 @@ skips_line d p place line found log there found_is none = record {
 
 -- a line whose answer is taken
 pub takes_line : (d : Derivation) (p : Progress) (place : ℕ) (line : Line) (parents : List Parent) (answer : StepAnswer) (said : LineAnswer) (new : Progress) (log_old log_new : Option (List ℕ)) → IsLineAt d place line → parents_of d.given d.forms p.numbers line.node.parents ≡ Some parents
-    → Answers p.theory d.given line parents answer → TakesAnswer answer p place said new log_old log_new → AnswersLine d p place said new log_old log_new
+    → AnswersLine p.theory d.given line parents answer → TakesAnswer answer p place said new log_old log_new → AnswersLine d p place said new log_old log_new
 takes_line d p place line parents (step.Accepted rule cites entries) said new log_old log_new there known answers (said_is, admits, new_is, taken, fits) =
     let is : IsAnswered d.given p place line (Some parents) (Accepted rule cites) entries new = (answers, (new.theory, admits, new_is)) in
     record {
@@ -90,7 +90,7 @@ takes_line d p place line parents (step.Unverified reason) said new log_old log_
 
 -- and what is known then
 pub takes_knows : (d : Derivation) (p : Progress) (place : ℕ) (line : Line) (parents : List Parent) (answer : StepAnswer) (said : LineAnswer) (new : Progress) (log_old log_new : Option (List ℕ)) → IsLineAt d place line
-    → Answers p.theory d.given line parents answer → Knows d p → TakesAnswer answer p place said new log_old log_new → Knows d new
+    → AnswersLine p.theory d.given line parents answer → Knows d p → TakesAnswer answer p place said new log_old log_new → Knows d new
 takes_knows d p place line parents (step.Accepted rule cites entries) said new log_old log_new there answers knows (said_is, admits, new_is, taken, fits) =
     subst (Knows d) (sym new_is)
     (knows_more d p knows place line.form new.theory there.form (accepted_theory line.node.leaf p.theory new.theory d.given line.node.cited parents line.form rule cites entries answers admits))
@@ -98,12 +98,12 @@ takes_knows d p place line parents (step.Unverified reason) said new log_old log
 
 -- the same of what a call answers
 module _ {E : Type 0} (result : Result LineAnswer E) (d : Derivation) (p : Progress) (place : ℕ) (line : Line) (parents : List Parent) (answer : StepAnswer) (new : Progress) (log_old log_new : Option (List ℕ)) where
-  pub call_takes : IsLineAt d place line → parents_of d.given d.forms p.numbers line.node.parents ≡ Some parents → Answers p.theory d.given line parents answer → IfOk result (λ said. TakesAnswer answer p place said new log_old log_new) → IfOk result (λ said. AnswersLine d p place said new log_old log_new)
+  pub call_takes : IsLineAt d place line → parents_of d.given d.forms p.numbers line.node.parents ≡ Some parents → AnswersLine p.theory d.given line parents answer → IfOk result (λ said. TakesAnswer answer p place said new log_old log_new) → IfOk result (λ said. AnswersLine d p place said new log_old log_new)
   call_takes there known answers takes =
       IfOk-weaker result (λ said. TakesAnswer answer p place said new log_old log_new) (λ said. AnswersLine d p place said new log_old log_new)
       (λ said t. takes_line d p place line parents answer said new log_old log_new there known answers t) takes
 
-  pub call_knows : IsLineAt d place line → Answers p.theory d.given line parents answer → Knows d p → IfOk result (λ said. TakesAnswer answer p place said new log_old log_new) → OnOk result (Knows d new)
+  pub call_knows : IsLineAt d place line → AnswersLine p.theory d.given line parents answer → Knows d p → IfOk result (λ said. TakesAnswer answer p place said new log_old log_new) → OnOk result (Knows d new)
   call_knows there answers knows takes =
       IfOk-weaker result (λ said. TakesAnswer answer p place said new log_old log_new) (λ said. Knows d new) (λ said t. takes_knows d p place line parents answer said new log_old log_new there answers knows t) takes
 

@@ -11,7 +11,7 @@ use Rattle.kernel.specs.declared.entry.Entry.{Entry}
 use Rattle.tstp_graph.specs.Order.{is_taken}
 use Rattle.verifier.specs.Lines.{Derivation, Line, LinesStand, IsLineAt, parents_of}
 use Rattle.verifier.specs.Report.{AreAccepted}
-use Rattle.verifier.specs.Run.{Progress, AreAnswered, IsAnswered, IsRun, begun, with_line}
+use Rattle.verifier.specs.Run.{Progress, AreAnswered, IsAnswered, IsRun, begun, with_answered}
 use Rattle.verifier.specs.declared.answer.LineAnswer.{LineAnswer}
 use Rattle.verifier.specs.declared.answer.LineAnswer.TheVariants.{Accepted, Unverified, Skipped}
 use Rattle.verifier.proofs.Counting.{IsAccepted, one_accepted}
@@ -49,7 +49,7 @@ pub record IsNumbered (first : ℕ) (d : Derivation) (p : Progress) : Type 0 whe
   pub count : length p.numbers ≡ length d.nodes
 
 module _ (first : ℕ) (d : Derivation) where
-  numbered_more : (p : Progress) (place : ℕ) (form : Form) (u : Statements) → slice_get d.forms place ≡ Some form → Gains p.theory u form → IsNumbered first d p → IsNumbered first d (with_line p place u)
+  numbered_more : (p : Progress) (place : ℕ) (form : Form) (u : Statements) → slice_get d.forms place ≡ Some form → Gains p.theory u form → IsNumbered first d p → IsNumbered first d (with_answered p place u)
   numbered_more p place form u there gains before = record {
     long = omega (arith, before.long, longer d p place form u there gains);
     behind = λ k n number. by k n (set_cases p.numbers place k (Some (length u.formulas - 1)) (Some n) number);
@@ -97,14 +97,14 @@ run_numbered start d order answers entries end run = answers_numbered (length st
 abbrev pub HasNumber : Progress → ℕ → Type 0
 HasNumber p place = (number : ℕ) × (slice_get p.numbers place ≡ Some (Some number))
 
-set_has : (p : Progress) (place : ℕ) (theory : Statements) → place < length p.numbers → HasNumber (with_line p place theory) place
+set_has : (p : Progress) (place : ℕ) (theory : Statements) → place < length p.numbers → HasNumber (with_answered p place theory) place
 set_has p place theory within = (length theory.formulas - 1, set_here p.numbers place (Some (length theory.formulas - 1)) within)
 
-set_keeps : (p : Progress) (place k : ℕ) (theory : Statements) → place < length p.numbers → HasNumber p k → HasNumber (with_line p place theory) k
+set_keeps : (p : Progress) (place k : ℕ) (theory : Statements) → place < length p.numbers → HasNumber p k → HasNumber (with_answered p place theory) k
 set_keeps p place k theory within has = by (k == place) refl
   where
-    by : (b : Bool) → (k == place) ≡ b → HasNumber (with_line p place theory) k
-    by true test = let same : place ≡ k = grind (arith, nat_tests) in subst (HasNumber (with_line p place theory)) same (set_has p place theory within)
+    by : (b : Bool) → (k == place) ≡ b → HasNumber (with_answered p place theory) k
+    by true test = let same : place ≡ k = grind (arith, nat_tests) in subst (HasNumber (with_answered p place theory)) same (set_has p place theory within)
     by false test =
         let apart : k ≡ place → ⊥ = λ same. grind (arith, nat_tests) in
         (has.0, set_elsewhere p.numbers place k (Some (length theory.formulas - 1)) apart ∙ has.1)

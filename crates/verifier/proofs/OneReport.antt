@@ -21,7 +21,7 @@ use Rattle.szs_report.specs.declared.answer.LineAnswer.{LineAnswer as Said}
 use Rattle.verifier.specs.Claim.{answer_cites_marked, cites_marked}
 use Rattle.verifier.specs.Lines.{Derivation, Line, numbered, with_number, accepted, parent_of, both, parents_of, candidates_of}
 use Rattle.verifier.specs.Report.{said_of}
-use Rattle.verifier.specs.Run.{Progress, AnswersKind, AnswersPlace, AreAnswered, IsAnswered, IsRun, begun, with_line}
+use Rattle.verifier.specs.Run.{Progress, AnswersKind, AnswersPlace, AreAnswered, IsAnswered, IsRun, begun, with_answered}
 use Rattle.verifier.specs.declared.answer.LineAnswer.{LineAnswer}
 use Rattle.verifier.specs.declared.answer.LineAnswer.TheVariants.{Accepted, Unverified, Skipped}
 use Rattle.verifier.specs.code.Numbered.{forms_in}
@@ -151,7 +151,7 @@ gained_level t u v w line same first second = record {
 }
 
 -- the line at the place is accepted in both
-placed_level : (p q : Progress) (place : ℕ) (v w : Statements) → place < length p.numbers → place < length q.numbers → AreLevel p q → SameSymbols v w → AreLevel (with_line p place v) (with_line q place w)
+placed_level : (p q : Progress) (place : ℕ) (v w : Statements) → place < length p.numbers → place < length q.numbers → AreLevel p q → SameSymbols v w → AreLevel (with_answered p place v) (with_answered q place w)
 placed_level p q place v w in_first in_second level same = record { same = same; slots = slots }
   where
     n : ℕ
@@ -160,18 +160,18 @@ placed_level p q place v w in_first in_second level same = record { same = same;
     m : ℕ
     m = length w.formulas - 1
 
-    slots : (k : ℕ) → LevelSlots (slice_get (with_line p place v).numbers k) (slice_get (with_line q place w).numbers k)
+    slots : (k : ℕ) → LevelSlots (slice_get (with_answered p place v).numbers k) (slice_get (with_answered q place w).numbers k)
     slots k = by (k == place) refl
       where
-        by : (b : Bool) → (k == place) ≡ b → LevelSlots (slice_get (with_line p place v).numbers k) (slice_get (with_line q place w).numbers k)
+        by : (b : Bool) → (k == place) ≡ b → LevelSlots (slice_get (with_answered p place v).numbers k) (slice_get (with_answered q place w).numbers k)
         by true test =
             let here : place ≡ k = grind (arith, nat_tests) in
-            subst (λ (i : ℕ). LevelSlots (slice_get (with_line p place v).numbers i) (slice_get (with_line q place w).numbers i)) here
-            (subst (λ (o : Option (Option ℕ)). LevelSlots (slice_get (with_line p place v).numbers place) o) (sym (set_here q.numbers place (Some m) in_second))
+            subst (λ (i : ℕ). LevelSlots (slice_get (with_answered p place v).numbers i) (slice_get (with_answered q place w).numbers i)) here
+            (subst (λ (o : Option (Option ℕ)). LevelSlots (slice_get (with_answered p place v).numbers place) o) (sym (set_here q.numbers place (Some m) in_second))
             (subst (λ (o : Option (Option ℕ)). LevelSlots o (Some (Some m))) (sym (set_here p.numbers place (Some n) in_first)) tt))
         by false test =
             let apart : k ≡ place → ⊥ = λ here. grind (arith, nat_tests) in
-            subst (λ (o : Option (Option ℕ)). LevelSlots (slice_get (with_line p place v).numbers k) o) (sym (set_elsewhere q.numbers place k (Some m) apart))
+            subst (λ (o : Option (Option ℕ)). LevelSlots (slice_get (with_answered p place v).numbers k) o) (sym (set_elsewhere q.numbers place k (Some m) apart))
             (subst (λ (o : Option (Option ℕ)). LevelSlots o (slice_get q.numbers k)) (sym (set_elsewhere p.numbers place k (Some n) apart)) (level.slots k))
 
 -- the answers say the same, and cite what is marked alike
@@ -198,7 +198,7 @@ module _ (d : Derivation) (p q : Progress) (place : ℕ) (line : Line) (within :
               answered_marked marks d p place line p.theory follows.0 ps (forms_in ps) (Accepted r cites) entries v short first (same_symbols p.theory) refl known follows.1 tt here
               ∙ sym (answered_marked marks d q place line p.theory follows.0 qs (forms_in ps) (Accepted s others) more w short second level.same (sym alike) also follows.1 tt there);
         };
-        level = subst (λ (x : Progress). AreLevel x w) (sym here.1.2) (subst (λ (x : Progress). AreLevel (with_line p place here.1.0) x) (sym there.1.2)
+        level = subst (λ (x : Progress). AreLevel x w) (sym here.1.2) (subst (λ (x : Progress). AreLevel (with_answered p place here.1.0) x) (sym there.1.2)
             (placed_level p q place here.1.0 there.1.0 (omega (arith, within, first.count)) (omega (arith, within, second.count)) level
             (gained_level p.theory q.theory here.1.0 there.1.0 line.form level.same
             (accepted_theory line.node.leaf p.theory here.1.0 d.given line.node.cited ps line.form r cites entries is here.1.1)

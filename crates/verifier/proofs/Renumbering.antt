@@ -6,7 +6,7 @@ use Rattle.fof_terms.specs.declared.form.Form.{Form}
 use Rattle.clause_form.specs.ClauseView.{clause_of}
 use Rattle.clause_form.specs.declared.clause.Clause.{Clause}
 use Rattle.clause_form.specs.declared.path.Parent.{Parent}
-use Rattle.clause_rules.specs.Answers.{Rule as Word, norm, cover, tautology, resolution, paramodulation, eqfactor, rewrite, Holds as Gives}
+use Rattle.clause_rules.specs.Answers.{ShapeRule as Word, norm, cover, tautology, resolution, paramodulation, eqfactor, rewrite, Holds as Gives}
 use Rattle.clause_rules.specs.NormRule.{HasNorm}
 use Rattle.clause_rules.specs.Steps.{IsClauseAt, clauses_of}
 use Rattle.kernel.specs.Statements.{Statements}
@@ -15,7 +15,7 @@ use Rattle.skolem_fresh.specs.SkolemRule.{IsSkolemStep}
 use Rattle.split_defs.proofs.DefinitionRuleFacts.{definition_alike}
 use Rattle.split_defs.specs.SplitRule.{IsSplitStep}
 use Rattle.split_defs.specs.SplitSearch.{forms_of}
-use Rattle.elaborate.specs.ByRule.{Holds, IsFirst, GivesAlone, GivesNowhere, IsFirstAlone}
+use Rattle.elaborate.specs.ByRule.{Applies, IsFirst, GivesAlone, GivesNowhere, IsFirstAlone}
 use Rattle.elaborate.specs.declared.answer.Rule.{Rule}
 use Rattle.elaborate.specs.declared.answer.Rule.TheVariants.{Norm, Cover, Tautology, Resolution, Paramodulation, EqFactor, Rewrite, Split, Skolem, Definition, Choice}
 use Rattle.verifier.proofs.Symbols.{SameSymbols, other_way}
@@ -157,7 +157,7 @@ shaped_alike : (t u : Statements) (line : Form) (word : Word) (ps qs : List Pare
 shaped_alike t u line word ps qs same alike gives = subst (λ (v : Vocabulary). Gives v qs line word) same.vocabulary (gives_alike t.vocabulary line word ps qs alike gives)
 
 -- A rule holds where it holds of parents with the same formulas and of a theory with the same symbols.
-pub holds_alike : (t u : Statements) (line : Form) (rule : Rule) (ps qs : List Parent) → SameSymbols t u → Alike ps qs → Holds t ps line rule → Holds u qs line rule
+pub holds_alike : (t u : Statements) (line : Form) (rule : Rule) (ps qs : List Parent) → SameSymbols t u → Alike ps qs → Applies t ps line rule → Applies u qs line rule
 holds_alike t u line Norm ps qs same alike holds = shaped_alike t u line norm ps qs same alike holds
 holds_alike t u line Cover ps qs same alike holds = shaped_alike t u line cover ps qs same alike holds
 holds_alike t u line Tautology ps qs same alike holds = shaped_alike t u line tautology ps qs same alike holds
@@ -171,7 +171,7 @@ holds_alike t u line Definition ps qs same alike holds = definition_alike t u li
 holds_alike t u line Choice ps qs same alike holds = choice_alike t u same.vocabulary same.forth line holds
 
 -- nor does it hold there where it does not here
-fails_alike : (t u : Statements) (line : Form) (rule : Rule) (ps qs : List Parent) → SameSymbols t u → Alike ps qs → (Holds t ps line rule → ⊥) → Holds u qs line rule → ⊥
+fails_alike : (t u : Statements) (line : Form) (rule : Rule) (ps qs : List Parent) → SameSymbols t u → Alike ps qs → (Applies t ps line rule → ⊥) → Applies u qs line rule → ⊥
 fails_alike t u line rule ps qs same alike fails holds = fails (holds_alike u t line rule qs ps (other_way t u same) (sym alike) holds)
 
 -- the first rule of steps that holds

@@ -1,7 +1,9 @@
 -- Which formulas of a theory the entries of a log cite: those whose numbers stand behind `line` in their proofs.
 use Rattle.std.specs.Prelude.{ℕ, ◌≡◌, ⊤, List}
 use Rattle.std.specs.List.{AllByRecursion}
-use Rattle.kernel.specs.declared.proof.Proof.{Proof, Line, Hyp, AndI', AndE', OrI', OrE', ImpI', ImpE', NotI', NotE', Raa', IffI', IffL', IffR', AllI', AllE', ExI', ExE', Refl, Subst', Inhabit', Row_of-Proof, end_of-Proof, more_of-Proof}
+use Rattle.kernel.specs.declared.proof.Proof.{Proof, Line, Hyp, AndI', AndE', OrI', OrE', ImpI', ImpE', NotI', NotE'}
+use Rattle.kernel.specs.declared.proof.Proof.{Raa', IffI', IffL', IffR', AllI', AllE', ExI', ExE', Refl, Subst'}
+use Rattle.kernel.specs.declared.proof.Proof.{Inhabit', Row_of-Proof, end_of-Proof, more_of-Proof}
 use Rattle.kernel.specs.declared.entry.Entry.{Entry}
 use Rattle.kernel.specs.declared.entry.Entry.TheVariants.{Declare, Lemma, Name, Choice}
 

@@ -1,5 +1,5 @@
--- The declarations by which a signature grows to a longer one: its new sorts, and then its new symbols, each in the order
--- of their numbers.
+-- The declarations by which a signature grows to a longer one: its new sorts, and then its new symbols, each in the
+-- order of their numbers.
 use Rattle.std.specs.Prelude.{◌++◌, List, drop, length, map}
 use Rattle.fof_terms.specs.Vocabulary.{Vocabulary}
 use Rattle.kernel.specs.declared.entry.Decl.TheVariants.{Sort, Symbol}

@@ -15,13 +15,13 @@ use Rattle.verifier.specs.Report.{HasFalse}
 use Rattle.tstp_graph.specs.declared.shape.Ref.TheVariants as ref
 
 -- the formula of a parent
-abbrev pub form_of : List Form → List Form → Ref → Option Form
-form_of given forms (ref.Given place) = slice_get given place
-form_of given forms (ref.Line place) = slice_get forms place
+abbrev pub cited_form : List Form → List Form → Ref → Option Form
+cited_form given forms (ref.Given place) = slice_get given place
+cited_form given forms (ref.Line place) = slice_get forms place
 
-abbrev pub forms_of : List Form → List Form → List Ref → Option (List Form)
-forms_of given forms [] = Some []
-forms_of given forms (ref ∷ refs) = both (form_of given forms ref) (forms_of given forms refs)
+abbrev pub cited_forms : List Form → List Form → List Ref → Option (List Form)
+cited_forms given forms [] = Some []
+cited_forms given forms (ref ∷ refs) = both (cited_form given forms ref) (cited_forms given forms refs)
 
 -- The rules look at the formulas of parents alone, and so these have no numbers of their own.
 abbrev pub without_numbers : List Form → List Parent
@@ -51,7 +51,7 @@ FollowsAs false t given cited parents forms line cites = (rule : Rule) × ByRule
 -- with what is so far, a rule gives the line, which cites these formulas then
 abbrev pub Follows : Statements → Derivation → Line → List Ref → Type 0
 Follows t d line cites =
-    (forms : List Form) × (forms_of d.given d.forms line.node.parents ≡ Some forms) × FollowsAs line.node.leaf t d.given line.node.cited line.node.parents forms line.form cites
+    (forms : List Form) × (cited_forms d.given d.forms line.node.parents ≡ Some forms) × FollowsAs line.node.leaf t d.given line.node.cited line.node.parents forms line.form cites
 
 -- behind lines with these formulas, the lines at these places follow, one after another, and cite these formulas in
 -- turn

@@ -1,10 +1,12 @@
 -- What the report on a derivation says of the answers to its lines: the printed names of rules and reasons, and how the
 -- whole ends.
-use Rattle.std.specs.Prelude.{◌≡◌, ℕ, ◌+◌, ◌<◌, Bool, true, false, List, [], ◌∷◌, ◌++◌, length, codes, count_by, slice_get, Some}
+use Rattle.std.specs.Prelude.{◌≡◌, ℕ, ◌+◌, ◌<◌, Bool, true, false, List, [], ◌∷◌, ◌++◌, length, codes, count_by}
+use Rattle.std.specs.Prelude.{slice_get, Some}
 use Rattle.tptp_base.specs.declared.name.Name.{Name}
 use Rattle.fof_terms.specs.declared.form.Form.{Form, Or}
 use Rattle.elaborate.specs.declared.answer.Rule.{Rule}
-use Rattle.elaborate.specs.declared.answer.Rule.TheVariants.{Norm, Cover, Tautology, Resolution, Paramodulation, EqFactor, Rewrite, Split, Skolem, Definition, Choice}
+use Rattle.elaborate.specs.declared.answer.Rule.TheVariants.{Norm, Cover, Tautology, Resolution, Paramodulation}
+use Rattle.elaborate.specs.declared.answer.Rule.TheVariants.{EqFactor, Rewrite, Split, Skolem, Definition, Choice}
 use Rattle.elaborate.specs.declared.answer.Reason.{Reason}
 use Rattle.elaborate.specs.declared.answer.Reason.TheVariants.{NotYet, Leaf}
 use Rattle.szs_report.specs.Report.{line_text, verdict_text}

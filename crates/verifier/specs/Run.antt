@@ -1,6 +1,7 @@
--- What a run of a derivation is: each line, in an order in which it comes behind its parents, is skipped, or answered in
--- the theory so far, which takes the entries of the answer.
-use Rattle.std.specs.Prelude.{ℕ, ◌≡◌, ◌-◌, Bool, true, false, List, [], ◌∷◌, ◌++◌, length, Option, None, Some, replicate, slice_get, slice_set}
+-- What a run of a derivation is: each line, in an order in which it comes behind its parents, is skipped, or answered
+-- in the theory so far, which takes the entries of the answer.
+use Rattle.std.specs.Prelude.{ℕ, ◌≡◌, ◌-◌, Bool, true, false, List, [], ◌∷◌, ◌++◌, length, Option, None, Some}
+use Rattle.std.specs.Prelude.{replicate, slice_get, slice_set}
 use Rattle.fof_terms.specs.declared.form.Form.{Form}
 use Rattle.clause_form.specs.declared.path.Parent.{Parent}
 use Rattle.kernel.specs.Statements.{Statements}
@@ -13,15 +14,15 @@ use Rattle.verifier.specs.declared.answer.LineAnswer.{LineAnswer}
 use Rattle.verifier.specs.declared.answer.LineAnswer.TheVariants.{Accepted, Unverified, Skipped}
 use Rattle.elaborate.specs.declared.answer.StepAnswer.TheVariants as step
 
--- How far a derivation is run: the theory so far, and for each line, by its place in the text, the number of its formula
--- in that theory, if the line is accepted so far.
+-- How far a derivation is run: the theory so far, and for each line, by its place in the text, the number of its
+-- formula in that theory, if the line is accepted so far.
 pub record Progress : Type 0 where
   pub theory : Statements
   pub numbers : List (Option ℕ)
 
 -- the line at this place is accepted: its formula is the last of the theory
-abbrev pub with_line : Progress → ℕ → Statements → Progress
-with_line old place theory = record { theory = theory; numbers = slice_set old.numbers place (Some (length theory.formulas - 1)) }
+abbrev pub with_answered : Progress → ℕ → Statements → Progress
+with_answered old place theory = record { theory = theory; numbers = slice_set old.numbers place (Some (length theory.formulas - 1)) }
 
 -- in a theory, the answer to a leaf or to a step that has these parents
 abbrev pub AnswersKind : Bool → Statements → List Form → Bool → List Parent → Form → StepAnswer → Type 0
@@ -29,8 +30,8 @@ AnswersKind true t given cited parents form answer = IsLeafAnswer t (candidates_
 AnswersKind false t given cited parents form answer = IsStepAnswer t parents form answer
 
 -- in a theory, the answer to a line that has these parents
-abbrev pub Answers : Statements → List Form → Line → List Parent → StepAnswer → Type 0
-Answers t given line parents answer = AnswersKind line.node.leaf t given line.node.cited parents line.form answer
+abbrev pub AnswersLine : Statements → List Form → Line → List Parent → StepAnswer → Type 0
+AnswersLine t given line parents answer = AnswersKind line.node.leaf t given line.node.cited parents line.form answer
 
 -- The line at this place is answered, where these are its parents: it is skipped exactly where one of them is not
 -- accepted.
@@ -40,8 +41,8 @@ IsAnswered given old place line None (Accepted rule cites) entries new = ⊥
 IsAnswered given old place line None (Unverified reason) entries new = ⊥
 IsAnswered given old place line (Some parents) Skipped entries new = ⊥
 IsAnswered given old place line (Some parents) (Accepted rule cites) entries new =
-    Answers old.theory given line parents (step.Accepted rule cites entries) × ((theory : Statements) × Admits old.theory entries theory × (new ≡ with_line old place theory))
-IsAnswered given old place line (Some parents) (Unverified reason) entries new = Answers old.theory given line parents (step.Unverified reason) × (entries ≡ []) × (new ≡ old)
+    AnswersLine old.theory given line parents (step.Accepted rule cites entries) × ((theory : Statements) × Admits old.theory entries theory × (new ≡ with_answered old place theory))
+IsAnswered given old place line (Some parents) (Unverified reason) entries new = AnswersLine old.theory given line parents (step.Unverified reason) × (entries ≡ []) × (new ≡ old)
 
 -- The line at this place has its answer among these, which are in the order of the text.
 pub record AnswersPlace (d : Derivation) (answers : List LineAnswer) (old : Progress) (place : ℕ) (entries : List Entry) (new : Progress) : Type 0 where

@@ -8,8 +8,8 @@ use tptp_base::List;
 /// What is answered of a line.
 #[derive(Drop)]
 pub enum LineAnswer {
-    /// It follows by the rule, from the formulas of these numbers in the theory: a step from its parents, a leaf from the
-    /// given formula that gives it.
+    /// It follows by the rule, from the formulas of these numbers in the theory: a step from its parents, a leaf from
+    /// the given formula that gives it.
     Accepted { rule: Rule, cites: List<u64> },
     /// It was not shown to follow.
     Unverified(Reason),

@@ -36,7 +36,8 @@ pub fn close_log<K: Sink>(
 ) -> Result<(), RunFault>
     requires { IsVerified verdict.now → HasFalseLine forms.now numbers.now }
     ensures closes { OnOk result (ClosesLog verdict.now forms.now numbers.now (K.taken log.old) (K.taken log.new)) }
-    ensures cut { (t : Statements) → LinesStand t forms.now numbers.now → OnErr result (LogsSome t (K.taken log.old) (K.taken log.new)) }
+    ensures cut { (t : Statements) → LinesStand t forms.now numbers.now
+        → OnErr result (LogsSome t (K.taken log.old) (K.taken log.new)) }
     ensures cause { IfErr result (λ fault. HasCause fault (Rose (K.faults log.old) (K.faults log.new))) }
     ensures more_faults { K.faults log.old ≤ K.faults log.new }
 {

@@ -17,12 +17,13 @@ use kernel::{Decl, Entry, Theory};
 use std::alloc::Global;
 use tptp_base::{List, Memory, Sink, Text};
 
-/// Declares what the signature has and the theory lacks, its new sorts and then its new symbols, and logs the declarations.
+/// Declares what the signature has and the theory lacks, its new sorts and then its new symbols, and logs the
+/// declarations.
 ///
 /// # Errors
 ///
-/// `Sink` where the log failed, and `Memory`. The log has then taken a prefix of the lines of legal entries, and the theory
-/// has taken some of the declarations (`leads`).
+/// `Sink` where the log failed, and `Memory`. The log has then taken a prefix of the lines of legal entries, and the
+/// theory has taken some of the declarations (`leads`).
 #[tactic(auto, using(crate::proofs::Leading::led_none))]
 pub fn declare<K: Sink>(
     alloc: Global,
@@ -31,9 +32,13 @@ pub fn declare<K: Sink>(
     log: &mut K,
 ) -> Result<(), RunFault>
     requires { CanAdmit theory.old (Declarations.declarations theory.old.vocabulary signature.now) }
-    ensures admits { OnOk result (Admits theory.old (Declarations.declarations theory.old.vocabulary signature.now) theory.new) }
-    ensures logged { OnOk result (Takes (K.taken log.old) (K.taken log.new) (entries_text (Declarations.declarations theory.old.vocabulary signature.now))) }
-    ensures in_range { OnOk result (HaveNumbersInRange (Declarations.declarations theory.old.vocabulary signature.now)) }
+    ensures admits { OnOk result
+        (Admits theory.old (Declarations.declarations theory.old.vocabulary signature.now) theory.new) }
+    ensures logged { OnOk result
+        (Takes (K.taken log.old) (K.taken log.new)
+        (entries_text (Declarations.declarations theory.old.vocabulary signature.now))) }
+    ensures in_range { OnOk result
+        (HaveNumbersInRange (Declarations.declarations theory.old.vocabulary signature.now)) }
     ensures leads { LeadTo theory.old theory.new }
     ensures cut { OnErr result (LogsSome theory.old (K.taken log.old) (K.taken log.new)) }
     ensures cause { IfErr result (λ fault. HasCause fault (Rose (K.faults log.old) (K.faults log.new))) }
@@ -60,7 +65,8 @@ fn declare_sorts(
     new: &Signature,
     entries: &mut List<Entry>,
 ) -> Result<(), Memory>
-    ensures { OnOk result (entries.new ≡ entries.old ++ map (λ name. Declare (decl.Sort name)) (drop (length old.now.sorts) new.now.sorts)) }
+    ensures { OnOk result (entries.new ≡ entries.old
+        ++ map (λ name. Declare (decl.Sort name)) (drop (length old.now.sorts) new.now.sorts)) }
 {
     for number in old.sort_count()..new.sort_count() {
         let Some(name) = new.sort(number) else {
@@ -79,7 +85,8 @@ fn declare_symbols(
     new: &Signature,
     entries: &mut List<Entry>,
 ) -> Result<(), Memory>
-    ensures { OnOk result (entries.new ≡ entries.old ++ map (λ symbol. Declare (decl.Symbol symbol)) (drop (length old.now.symbols) new.now.symbols)) }
+    ensures { OnOk result (entries.new ≡ entries.old
+        ++ map (λ symbol. Declare (decl.Symbol symbol)) (drop (length old.now.symbols) new.now.symbols)) }
 {
     for number in old.symbol_count()..new.symbol_count() {
         let Some(symbol) = new.symbol(number) else {

@@ -11,8 +11,8 @@ use std::alloc::{AllocError, Global};
 use szs_report::Verdict;
 use tptp_base::{List, Text};
 
-/// How a derivation with these answers ends, over a problem that was named so. It is the first that applies: some line is
-/// not accepted; no line is falsehood; the claim is not justified; all is verified.
+/// How a derivation with these answers ends, over a problem that was named so. It is the first that applies: some line
+/// is not accepted; no line is falsehood; the claim is not justified; all is verified.
 pub fn verdict(
     alloc: Global,
     claim: &Claim,

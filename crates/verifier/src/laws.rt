@@ -17,7 +17,7 @@ ghost use Rattle.verifier.specs.Closing.{Closes, IsVerified};
 ghost use Rattle.verifier.specs.Good.{IsGood};
 ghost use Rattle.verifier.specs.Lines.{Derivation, Line as Placed};
 ghost use Rattle.verifier.specs.Report.{HasFalse, AreAccepted, IsVerdict, said_of};
-ghost use Rattle.verifier.specs.Run.{Answers, IsRun};
+ghost use Rattle.verifier.specs.Run.{AnswersLine, IsRun};
 ghost use Rattle.verifier.specs.Symbols.{IsUnusedIn};
 ghost use Rattle.verifier.specs.declared.answer.LineAnswer.{LineAnswer as Answered};
 ghost use Rattle.verifier.specs.declared.claim.Claim.{Claim as Claimed};
@@ -25,68 +25,91 @@ ghost use Rattle.verifier.specs.declared.claim.Claim.{Claim as Claimed};
 /// Where entries lead from a theory to the one that a run begins from, all lines of the run are accepted, and one of
 /// them is falsehood, the entries, those of the run and the last one for its verdict refute the theory.
 pub fn a_verified_run_refutes()
-    ensures falsehood { (start : Statements) (d : Derivation) (order : List ℕ) (answers : List Answered) (entries : List LogEntry) (end : Statements)
-        → length d.forms ≡ length d.nodes → first_left (is_taken order) 0 d.nodes ≡ None → IsRun start d order answers entries end
+    ensures falsehood { (start : Statements) (d : Derivation) (order : List ℕ) (answers : List Answered)
+        (entries : List LogEntry) (end : Statements)
+        → length d.forms ≡ length d.nodes → first_left (is_taken order) 0 d.nodes ≡ None
+        → IsRun start d order answers entries end
         → AreAccepted answers → HasFalse d.forms → HasFalse end.formulas }
-    ensures refutes { (t start : Statements) (before : List LogEntry) (d : Derivation) (order : List ℕ) (answers : List Answered) (entries : List LogEntry) (end : Statements) (verdict : Ending) (last : List LogEntry)
-        → Admits t before start → (run : IsRun start d order answers entries end) → IsVerified verdict → Closes verdict d.forms run.numbers last → Refutes t (before ++ entries ++ last) }
+    ensures refutes { (t start : Statements) (before : List LogEntry) (d : Derivation) (order : List ℕ)
+        (answers : List Answered) (entries : List LogEntry) (end : Statements) (verdict : Ending) (last : List LogEntry)
+        → Admits t before start → (run : IsRun start d order answers entries end) → IsVerified verdict
+        → Closes verdict d.forms run.numbers last → Refutes t (before ++ entries ++ last) }
 {}
 
 /// Of the formulas that stand in the theory before the entries of an accepted line, the entries cite none but those
 /// that the line is said to cite.
 pub fn a_line_cites_what_is_said()
-    ensures { (t : Statements) (given : List Formula) (line : Placed) (parents : List Stated) (rule : Rule) (cites : List ℕ) (entries : List LogEntry) (number : ℕ)
-        → Answers t given line parents (step.Accepted rule cites entries) → number < length t.formulas → Each (λ cited. cited ≡ number → ⊥) cites → DoNotCite number entries }
+    ensures { (t : Statements) (given : List Formula) (line : Placed) (parents : List Stated) (rule : Rule)
+        (cites : List ℕ) (entries : List LogEntry) (number : ℕ)
+        → AnswersLine t given line parents (step.Accepted rule cites entries) → number < length t.formulas
+        → Each (λ cited. cited ≡ number → ⊥) cites → DoNotCite number entries }
 {}
 
 /// Of the formulas that a run begins with and that are marked, the log cites none, where no line cites a marked one:
 /// neither the entries of the run do, nor the last one for its verdict.
 pub fn a_run_cites_what_its_lines_cite()
-    ensures { (start : Statements) (d : Derivation) (order : List ℕ) (answers : List Answered) (entries : List LogEntry) (end : Statements) (verdict : Ending) (last : List LogEntry) (marks : List Bool) (number : ℕ)
+    ensures { (start : Statements) (d : Derivation) (order : List ℕ) (answers : List Answered) (entries : List LogEntry)
+        (end : Statements) (verdict : Ending) (last : List LogEntry) (marks : List Bool) (number : ℕ)
         → (run : IsRun start d order answers entries end) → Closes verdict d.forms run.numbers last
-        → cites_marked marks answers ≡ false → number < length start.formulas → is_marked marks number ≡ true → DoNotCite number (entries ++ last) }
+        → cites_marked marks answers ≡ false → number < length start.formulas → is_marked marks number ≡ true
+        → DoNotCite number (entries ++ last) }
 {}
 
 /// A symbol is new to all formulas of the theory behind a run exactly where it stands in nothing that is given and in
 /// no accepted line.
 pub fn a_run_speaks_of_its_lines()
-    ensures { (start : Statements) (d : Derivation) (order : List ℕ) (answers : List Answered) (entries : List LogEntry) (end : Statements) (k : ℕ)
-        → start.formulas ≡ d.given → IsRun start d order answers entries end → IsFresh k end ↔ IsUnusedIn k d order answers }
+    ensures { (start : Statements) (d : Derivation) (order : List ℕ) (answers : List Answered) (entries : List LogEntry)
+        (end : Statements) (k : ℕ)
+        → start.formulas ≡ d.given → IsRun start d order answers entries end
+        → IsFresh k end ↔ IsUnusedIn k d order answers }
 {}
 
 /// A run of a good derivation accepts each line, and where nothing is marked that the lines cite by their texts, no
 /// answer cites a formula that is marked.
 pub fn a_good_derivation_is_accepted()
-    ensures accepted { (start : Statements) (d : Derivation) (order : List ℕ) (cites : List Cited) (answers : List Answered) (entries : List LogEntry) (end : Statements)
-        → start.formulas ≡ d.given → IsGood start.vocabulary d order cites → TakesInTurn d.nodes [] order → first_left (is_taken order) 0 d.nodes ≡ None
+    ensures accepted { (start : Statements) (d : Derivation) (order : List ℕ) (cites : List Cited)
+        (answers : List Answered) (entries : List LogEntry) (end : Statements)
+        → start.formulas ≡ d.given → IsGood start.vocabulary d order cites → TakesInTurn d.nodes [] order
+        → first_left (is_taken order) 0 d.nodes ≡ None
         → IsRun start d order answers entries end → AreAccepted answers }
-    ensures unmarked { (start : Statements) (d : Derivation) (order : List ℕ) (cites : List Cited) (answers : List Answered) (entries : List LogEntry) (end : Statements) (marks : List Bool)
-        → start.formulas ≡ d.given → IsGood start.vocabulary d order cites → TakesInTurn d.nodes [] order → first_left (is_taken order) 0 d.nodes ≡ None
-        → IsRun start d order answers entries end → length marks ≤ length d.given → some_marked_ref marks cites ≡ false → cites_marked marks answers ≡ false }
+    ensures unmarked { (start : Statements) (d : Derivation) (order : List ℕ) (cites : List Cited)
+        (answers : List Answered) (entries : List LogEntry) (end : Statements) (marks : List Bool)
+        → start.formulas ≡ d.given → IsGood start.vocabulary d order cites → TakesInTurn d.nodes [] order
+        → first_left (is_taken order) 0 d.nodes ≡ None
+        → IsRun start d order answers entries end → length marks ≤ length d.given → some_marked_ref marks cites ≡ false
+        → cites_marked marks answers ≡ false }
 {}
 
 /// A derivation is good where a run accepts each line and one of them is falsehood. Where no answer cites a formula
 /// that is marked, the lines cite none that is marked by their texts. So the law before asks for no more than is found.
 pub fn an_accepted_derivation_is_good()
-    ensures { (start : Statements) (d : Derivation) (order : List ℕ) (answers : List Answered) (entries : List LogEntry) (end : Statements)
+    ensures { (start : Statements) (d : Derivation) (order : List ℕ) (answers : List Answered) (entries : List LogEntry)
+        (end : Statements)
         → start.formulas ≡ d.given → IsRun start d order answers entries end → AreAccepted answers → HasFalse d.forms
         → (cites : List Cited) × IsGood start.vocabulary d order cites
-        × ((marks : List Bool) → length marks ≤ length d.given → cites_marked marks answers ≡ false → some_marked_ref marks cites ≡ false) }
+        × ((marks : List Bool) → length marks ≤ length d.given → cites_marked marks answers ≡ false
+        → some_marked_ref marks cites ≡ false) }
 {}
 
-/// Two runs of a derivation from one theory answer each line alike: what is said of it is the same, and a formula that is
-/// marked is cited in the one exactly where it is cited in the other. Their entries may differ.
+/// Two runs of a derivation from one theory answer each line alike: what is said of it is the same, and a formula that
+/// is marked is cited in the one exactly where it is cited in the other. Their entries may differ.
 pub fn a_run_has_one_report()
-    ensures said { (start : Statements) (d : Derivation) (order : List ℕ) (answers others : List Answered) (entries more : List LogEntry) (end last : Statements)
+    ensures said { (start : Statements) (d : Derivation) (order : List ℕ) (answers others : List Answered)
+        (entries more : List LogEntry) (end last : Statements)
         → start.formulas ≡ d.given → first_left (is_taken order) 0 d.nodes ≡ None
-        → IsRun start d order answers entries end → IsRun start d order others more last → map said_of answers ≡ map said_of others }
-    ensures marked { (start : Statements) (d : Derivation) (order : List ℕ) (answers others : List Answered) (entries more : List LogEntry) (end last : Statements) (marks : List Bool)
+        → IsRun start d order answers entries end → IsRun start d order others more last
+        → map said_of answers ≡ map said_of others }
+    ensures marked { (start : Statements) (d : Derivation) (order : List ℕ) (answers others : List Answered)
+        (entries more : List LogEntry) (end last : Statements) (marks : List Bool)
         → start.formulas ≡ d.given → first_left (is_taken order) 0 d.nodes ≡ None
-        → IsRun start d order answers entries end → IsRun start d order others more last → length marks ≤ length d.given → cites_marked marks answers ≡ cites_marked marks others }
+        → IsRun start d order answers entries end → IsRun start d order others more last → length marks ≤ length d.given
+        → cites_marked marks answers ≡ cites_marked marks others }
 {}
 
 /// One verdict applies to a claim, the name of the problem, the formulas of the lines and the answers.
 pub fn one_verdict_applies()
-    ensures { (claim : Claimed) (problem : List ℕ) (forms : List Formula) (answers : List Answered) (verdict other : Ending)
-        → IsVerdict claim problem forms answers verdict → IsVerdict claim problem forms answers other → verdict ≡ other }
+    ensures { (claim : Claimed) (problem : List ℕ) (forms : List Formula) (answers : List Answered)
+        (verdict other : Ending)
+        → IsVerdict claim problem forms answers verdict → IsVerdict claim problem forms answers other
+        → verdict ≡ other }
 {}

@@ -1,5 +1,5 @@
-//! The lines of a derivation are run in the theory of its problem: each is accepted by a rule, with entries that go to the
-//! log, or is not verified, or is skipped; and how the whole ends.
+//! The lines of a derivation are run in the theory of its problem: each is accepted by a rule, with entries that go to
+//! the log, or is not verified, or is skipped; and how the whole ends.
 #![tactic(auto)]
 
 mod answer;

@@ -36,7 +36,9 @@ pub fn run_line<K: Sink>(
     requires same { length lines.now.forms.now ≡ length lines.now.nodes.now }
     requires numbered { AreNumbered lines.now.given.now }
     requires knows { Knows (derivation_in lines.now) (progress_of theory.old numbers.old) }
-    ensures answered { IfOk result (λ answer. AnswersLine (derivation_in lines.now) (progress_of theory.old numbers.old) place answer (progress_of theory.new numbers.new) (K.taken log.old) (K.taken log.new)) }
+    ensures answered { IfOk result (λ answer.
+        AnswersLine (derivation_in lines.now) (progress_of theory.old numbers.old) place answer
+        (progress_of theory.new numbers.new) (K.taken log.old) (K.taken log.new)) }
     ensures knows { OnOk result (Knows (derivation_in lines.now) (progress_of theory.new numbers.new)) }
     ensures leads { LeadTo theory.old theory.new }
     ensures cut { OnErr result (LogsSome theory.old (K.taken log.old) (K.taken log.new)) }
@@ -69,7 +71,8 @@ fn answer_line(
     requires given_ready { AreReady theory.now.vocabulary given.now }
     requires line { IsReady theory.now.vocabulary form.now }
     requires numbered { AreNumbered given.now }
-    ensures { IfOk result (spec.AnswersKind node.now.leaf theory.now (forms_in given.now) node.now.cited parents.now form.now) }
+    ensures { IfOk result
+        (spec.AnswersKind node.now.leaf theory.now (forms_in given.now) node.now.cited parents.now form.now) }
 {
     if !node.leaf {
         return step(alloc, theory, parents, form);
@@ -93,7 +96,9 @@ fn take_answer<K: Sink>(
 ) -> Result<LineAnswer, RunFault>
     requires within { place < length numbers.old }
     requires adds { CanTake theory.old answer }
-    ensures takes { IfOk result (λ taken. TakesAnswer answer (progress_of theory.old numbers.old) place taken (progress_of theory.new numbers.new) (K.taken log.old) (K.taken log.new)) }
+    ensures takes { IfOk result (λ taken.
+        TakesAnswer answer (progress_of theory.old numbers.old) place taken (progress_of theory.new numbers.new)
+        (K.taken log.old) (K.taken log.new)) }
     ensures leads { LeadTo theory.old theory.new }
     ensures cut { OnErr result (LogsSome theory.old (K.taken log.old) (K.taken log.new)) }
     ensures cause { IfErr result (λ fault. HasCause fault (Rose (K.faults log.old) (K.faults log.new))) }

@@ -50,7 +50,14 @@ pub fn run_lines<K: Sink>(
     requires ordered { IsOrdered graph.now.nodes graph.now }
     requires given { All (IsReady theory.old.vocabulary) theory.old.formulas }
     requires lines { All (IsReady theory.old.vocabulary) forms.now }
-    ensures ran { IfOk result (λ ran. LogsRun theory.old (record { given = theory.old.formulas; nodes = graph.now.nodes; forms = forms.now }) graph.now.order ran.answers ran.numbers theory.new (K.taken log.old) (K.taken log.new)) }
+    ensures ran { IfOk result (λ ran.
+        LogsRun theory.old
+        (record {
+          given = theory.old.formulas;
+          nodes = graph.now.nodes;
+          forms =
+              forms.now;
+        }) graph.now.order ran.answers ran.numbers theory.new (K.taken log.old) (K.taken log.new)) }
     ensures leads { LeadTo theory.old theory.new }
     ensures cut { OnErr result (LogsSome theory.old (K.taken log.old) (K.taken log.new)) }
     ensures cause { IfErr result (λ fault. HasCause fault (Rose (K.faults log.old) (K.faults log.new))) }
@@ -76,7 +83,9 @@ fn run_in_order<K: Sink>(
 ) -> Result<Outcome, RunFault>
     requires over { IsOver theory.old lines.now }
     requires turns { TakesInTurn lines.now.nodes.now [] order.now }
-    ensures ran { IfOk result (λ ran. LogsRun theory.old (derivation_in lines.now) order.now ran.answers ran.numbers theory.new (K.taken log.old) (K.taken log.new)) }
+    ensures ran { IfOk result (λ ran.
+        LogsRun theory.old (derivation_in lines.now) order.now ran.answers ran.numbers theory.new (K.taken log.old)
+        (K.taken log.new)) }
     ensures leads { LeadTo theory.old theory.new }
     ensures cut { OnErr result (LogsSome theory.old (K.taken log.old) (K.taken log.new)) }
     ensures cause { IfErr result (λ fault. HasCause fault (Rose (K.faults log.old) (K.faults log.new))) }

@@ -35,7 +35,8 @@ abbrev pub IsCoverAlone : Vocabulary → List Parent → Form → ℕ → Option
 IsCoverAlone w candidates line i None = CoversAlone w candidates line i → ⊥
 IsCoverAlone w candidates line i (Some p) = (c : Parent) × (slice_get candidates i ≡ Some c) × Gives w (c ∷ []) line cover × ShowsLine w (c ∷ []) line p
 
--- `cover` gives the line from the candidate of this number alone and from none before it, and the part shows it from that
+-- `cover` gives the line from the candidate of this number alone and from none before it, and the part shows it from
+-- that
 pub record IsFromFirst (w : Vocabulary) (candidates : List Parent) (line : Form) (from : FromOne) : Type 0 where
   pub place : ℕ
   pub candidate : Parent

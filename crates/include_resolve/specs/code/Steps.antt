@@ -1,5 +1,6 @@
 -- What one step of the walk does. It is no part of the definition: only the contracts of private functions cite it.
-use Rattle.std.specs.Prelude.{◌≡◌, ◌⊎◌, ◌<◌, ⊤, ◌+◌, List, ◌∷◌, ◌++◌, length, map, true, false, Ok, Err, string_bytes, option_to_list}
+use Rattle.std.specs.Prelude.{◌≡◌, ◌⊎◌, ◌<◌, ⊤, ◌+◌, List, ◌∷◌, ◌++◌, length, map, true, false, Ok, Err, string_bytes}
+use Rattle.std.specs.Prelude.{option_to_list}
 use Rattle.std.specs.declared.result.Result.{Result}
 use Rattle.tptp_base.specs.declared.item.Item.{Item}
 use Rattle.tptp_base.specs.declared.item.Item.TheVariants.{Comment, Formula, Include}

@@ -1,5 +1,5 @@
--- Paths that fit a formula: each step of such a path has a formula of its kind before it, and what is left of the path fits
--- the part that the step leads to.
+-- Paths that fit a formula: each step of such a path has a formula of its kind before it, and what is left of the path
+-- fits the part that the step leads to.
 use Rattle.std.specs.Prelude.{◌≡◌, Some}
 use Rattle.fof_terms.specs.declared.form.Form.{Form}
 use Rattle.clause_form.specs.declared.path.Path.{Path}

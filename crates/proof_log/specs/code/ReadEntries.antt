@@ -1,5 +1,6 @@
 -- What the functions that read entries and whole logs compute.
-use Rattle.std.specs.Prelude.{ℕ, zero, suc, ◌==◌, Bool, true, false, if◌then◌else◌, List, [], ◌∷◌, length, Result, Ok, Err}
+use Rattle.std.specs.Prelude.{ℕ, zero, suc, ◌==◌, Bool, true, false, if◌then◌else◌, List, [], ◌∷◌, length, Result, Ok}
+use Rattle.std.specs.Prelude.{Err}
 use Rattle.first_fault.specs.code.Reading.{Cause, Outcome, Reader, refuse, mapped, opened, closed}
 use Rattle.fof_terms.specs.declared.signature.Kind.TheVariants.{Function, Predicate}
 use Rattle.kernel.specs.declared.entry.Decl.{Decl}

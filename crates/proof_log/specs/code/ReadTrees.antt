@@ -3,7 +3,8 @@ use Rattle.std.specs.Prelude.{ℕ, zero, suc}
 use Rattle.first_fault.specs.code.Reading.{Reader, refuse, and_then, mapped}
 use Rattle.fof_terms.specs.declared.term.Term.{Term, Var, App}
 use Rattle.fof_terms.specs.declared.form.Form.{Form, Atom, Eq, Not, And, Or, Imp, Iff, All, Ex}
-use Rattle.kernel.specs.declared.proof.Proof.{Proof, Line, Hyp, AndI, AndE, OrI, OrE, ImpI, ImpE, NotI, NotE, Raa, IffI, IffL, IffR, AllI, AllE, ExI, ExE, Refl, Subst, Inhabit}
+use Rattle.kernel.specs.declared.proof.Proof.{Proof, Line, Hyp, AndI, AndE, OrI, OrE, ImpI, ImpE, NotI, NotE, Raa, IffI}
+use Rattle.kernel.specs.declared.proof.Proof.{IffL, IffR, AllI, AllE, ExI, ExE, Refl, Subst, Inhabit}
 use Rattle.proof_log.specs.declared.name.TermName.{TermName}
 use Rattle.proof_log.specs.declared.name.FormName.{FormName}
 use Rattle.proof_log.specs.declared.name.ProofName.{ProofName}

@@ -1,5 +1,6 @@
 -- What the functions that read words compute.
-use Rattle.std.specs.Prelude.{ℕ, zero, suc, ◌+◌, ◌*◌, ◌-◌, ◌==◌, ◌&&◌, nat_le, max, Bool, if◌then◌else◌, List, [], ◌∷◌, length, drop, Option, Some, None, Ok, Err}
+use Rattle.std.specs.Prelude.{ℕ, zero, suc, ◌+◌, ◌*◌, ◌-◌, ◌==◌, ◌&&◌, nat_le, max, Bool, if◌then◌else◌, List, [], ◌∷◌}
+use Rattle.std.specs.Prelude.{length, drop, Option, Some, None, Ok, Err}
 use Rattle.std.specs.Char.{is_ascii_digit}
 use Rattle.first_fault.specs.code.Reading.{Unexpected, TooDeep, Reader, refuse, and_then, mapped, opened}
 

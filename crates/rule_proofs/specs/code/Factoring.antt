@@ -17,7 +17,8 @@ abbrev pub pick : Bool → Term → Term → Term
 pick true l r = r
 pick false l r = l
 
--- the literals are the equations of `side` with `first` and with `second`, and the line covers what the factoring leaves
+-- the literals are the equations of `side` with `first` and with `second`, and the line covers what the factoring
+-- leaves
 pub record IsFactoring (line : List Lit) (pivot other : Lit) (first_flipped second_flipped : Bool) (side first second : Term) : Type 0 where
   pub pivot_is : pivot ≡ equation first_flipped side first
   pub other_is : other ≡ equation second_flipped side second

@@ -1,5 +1,5 @@
--- An instance of a clause in which a term gives way to another one. The clause is marked where the term stands: there it
--- has one variable more, which is numbered behind the clause's own.
+-- An instance of a clause in which a term gives way to another one. The clause is marked where the term stands: there
+-- it has one variable more, which is numbered behind the clause's own.
 use Rattle.std.specs.Prelude.{ℕ, ◌≡◌, Bool, List, [], ◌∷◌, ◌++◌, ◌+◌, length, map, take, drop, Some}
 use Rattle.fof_terms.specs.declared.term.Term.{Term, Var}
 use Rattle.fof_terms.specs.Vocabulary.{Vocabulary}
@@ -29,7 +29,8 @@ pub record IsMarked (w : Vocabulary) (v : List ℕ) (images : List Term) (marked
   pub images_sorted : IsImages w sorts v (image_at images)
   pub sorted : AreSorted w (sorts ++ sort ∷ []) marked
 
--- The literals `old` have the left side of the equation e for the mark. With its right side there, the line covers them.
+-- The literals `old` have the left side of the equation e for the mark. With its right side there, the line covers
+-- them.
 pub record IsRewriting (w : Vocabulary) (v : List ℕ) (line : List Lit) (images : List Term) (marked old : List Lit) (e : Lit) (flipped : Bool) : Type 0 where
   pub left : Term
   pub right : Term

@@ -1,5 +1,5 @@
--- How far the search for a resolution has come: at two literals, at one literal of the left clause, with a left clause, and
--- among the clauses that the parents are.
+-- How far the search for a resolution has come: at two literals, at one literal of the left clause, with a left clause,
+-- and among the clauses that the parents are.
 use Rattle.std.specs.Prelude.{ℕ, ◌≡◌, not, List, [], ◌∷◌, ◌++◌, Option, Some, None, slice_get}
 use Rattle.fof_terms.specs.declared.term.Term.{Term}
 use Rattle.fof_terms.specs.Vocabulary.{Vocabulary}
@@ -12,7 +12,7 @@ use Rattle.clause_rules.specs.declared.just.Just.{Just}
 use Rattle.clause_rules.specs.declared.just.Just.TheVariants.{Resolution}
 use Rattle.rule_steps.specs.declared.resolution_rule.Found.{Found}
 use Rattle.clause_rules.specs.Steps.{scope_of_both, instances, IsJoint, images_of_parents}
-use Rattle.clause_rules.specs.ResolutionRule.{IsResolvent, Resolves}
+use Rattle.clause_rules.specs.ResolutionRule.{IsResolvent, ResolvesTo}
 use Rattle.substitution_search.specs.Ways.{lit_ways, cover_needs, goal_of_needs}
 
 -- what is asked of a substitution: the pivot becomes complementary to the opposite, and each literal is covered
@@ -31,23 +31,23 @@ AsksAt line joint i j goal = (pivot opposite : Lit) → slice_get joint.left i �
 -- the images show the resolution at these literals
 pub record IsShown (v : Vocabulary) (left right line : Clause) (i j : ℕ) (images : List Term) : Type 0 where
   pub joint : IsJoint v line (scope_of_both left right) images
-  pub resolves : Resolves v left right line i j (scope_of_both left right) (images_of_parents line images)
+  pub resolves : ResolvesTo v left right line i j (scope_of_both left right) (images_of_parents line images)
 
 -- with literal i of the left clause
 abbrev pub FoundAt : Vocabulary → Clause → Clause → Clause → ℕ → Option Found → Type 0
-FoundAt v left right line i None = (j : ℕ) (more : List ℕ) (s : ℕ → Term) → Resolves v left right line i j more s → ⊥
+FoundAt v left right line i None = (j : ℕ) (more : List ℕ) (s : ℕ → Term) → ResolvesTo v left right line i j more s → ⊥
 FoundAt v left right line i (Some found) = IsShown v left right line i found.place found.subst
 
 -- the same with a right clause, if it is one
 abbrev pub FoundInSlot : Vocabulary → Clause → Option Clause → Clause → ℕ → Option Found → Type 0
-FoundInSlot v left slot line i None = (right : Clause) → slot ≡ Some right → (j : ℕ) (more : List ℕ) (s : ℕ → Term) → Resolves v left right line i j more s → ⊥
+FoundInSlot v left slot line i None = (right : Clause) → slot ≡ Some right → (j : ℕ) (more : List ℕ) (s : ℕ → Term) → ResolvesTo v left right line i j more s → ⊥
 FoundInSlot v left slot line i (Some found) = (right : Clause) × (slot ≡ Some right) × IsShown v left right line i found.place found.subst
 
 -- clause b of the list is the right one of a resolution with this left one
 pub record ResolvesWith (v : Vocabulary) (clauses : List (Option Clause)) (left line : Clause) (b i j : ℕ) (more : List ℕ) (s : ℕ → Term) : Type 0 where
   pub right : Clause
   pub there : slice_get clauses b ≡ Some (Some right)
-  pub resolves : Resolves v left right line i j more s
+  pub resolves : ResolvesTo v left right line i j more s
 
 -- the justification shows a resolution of the left clause, whose number is a, with clause b
 pub record ShowsWith (v : Vocabulary) (clauses : List (Option Clause)) (left line : Clause) (a : ℕ) (just : Just) : Type 0 where

@@ -1,5 +1,6 @@
 -- What private contracts say, beside the definitions of specs/Choosing.
-use Rattle.std.specs.Prelude.{ℕ, ◌≡◌, ◌<◌, ◌+◌, Bool, true, false, List, [], ◌∷◌, ◌++◌, ◌⊎◌, reverse, Option, Some, None}
+use Rattle.std.specs.Prelude.{ℕ, ◌≡◌, ◌<◌, ◌+◌, Bool, true, false, List, [], ◌∷◌, ◌++◌, ◌⊎◌, reverse, Option, Some}
+use Rattle.std.specs.Prelude.{None}
 use Rattle.std.specs.List.{AllByRecursion as Each}
 use Rattle.fof_terms.specs.declared.form.Form.{Form, Imp}
 use Rattle.fof_terms.specs.Instance.{instance_of}
@@ -16,14 +17,14 @@ use Rattle.skolem_fresh.specs.code.Reading.{read}
 use Rattle.skolem_fresh.specs.Uses.{value_of, Fits, AreArguments, AreNew}
 use Rattle.skolem_fresh.specs.ChoiceRule.{IsOpened, MayChooseFor}
 
--- The answer is that the first k existential quantifiers of the formula are opened by some functions that fit, whose list is
--- then what was gained, to this result; and there are no others.
+-- The answer is that the first k existential quantifiers of the formula are opened by some functions that fit, whose
+-- list is then what was gained, to this result; and there are no others.
 pub record IsRead (v : Vocabulary) (scope : List ℕ) (k : ℕ) (a right : Form) (old new : List Use) (answer : Bool) : Type 0 where
   pub sound : answer ≡ true → (more : List Use) × (new ≡ old ++ more) × IsOpened k more a right × Each (Fits v scope) more
   pub complete : (more : List Use) → IsOpened k more a right → Each (Fits v scope) more → (answer ≡ true) × (new ≡ old ++ more)
 
--- What stands under the quantifier, with a function in place of its variable where that occurs: the one that is read off,
--- which is gained. None where none is read off that fits.
+-- What stands under the quantifier, with a function in place of its variable where that occurs: the one that is read
+-- off, which is gained. None where none is read off that fits.
 abbrev pub IsNext : Vocabulary → List ℕ → ℕ → Form → List Leaf → List Use → List Use → Option Form → Type 0
 IsNext v scope s body leaves old new None = (has_variable 0 body ≡ true) × ((u : Use) → read s (leaves_of 0 body) leaves ≡ Some u → Fits v scope u → ⊥)
 IsNext v scope s body leaves old new (Some next) =

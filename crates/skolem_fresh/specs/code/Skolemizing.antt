@@ -14,8 +14,8 @@ use Rattle.skolem_fresh.specs.SkolemRule.{HasNorm, MayReplace, IsSkolemized, Are
 use Rattle.skolem_fresh.specs.code.Solid.{IsSolid, AreSolid}
 use Rattle.skolem_fresh.specs.Uses.{value_of, AreNew}
 
--- The function that is read off these terms may take the place of the variable of an existential quantifier over the body,
--- under so many quantifiers; or none may.
+-- The function that is read off these terms may take the place of the variable of an existential quantifier over the
+-- body, under so many quantifiers; or none may.
 abbrev pub IsFunctionFor : Vocabulary → List ℕ → ℕ → ℕ → Form → List Leaf → Option Use → Type 0
 IsFunctionFor v scope outer s body leaves None = has_variable 0 body ≡ true → (u : Use) → read_from outer s (leaves_of 0 body) leaves ≡ Some u → MayReplace v scope u s body → ⊥
 IsFunctionFor v scope outer s body leaves (Some u) = (read_from outer s (leaves_of 0 body) leaves ≡ Some u) × MayReplace v scope u s body
@@ -26,8 +26,9 @@ IsReplaced v scope outer s body leaves old new None = IsFunctionFor v scope oute
 IsReplaced v scope outer s body leaves old new (Some next) =
     (u : Use) × IsFunctionFor v scope outer s body leaves (Some u) × (new ≡ old ++ u ∷ []) × (next ≡ instance_of body (value_of u))
 
--- The second formula is the first without its existential quantifiers, by functions that were gained. And a solid formula
--- is no other without them, by no other functions, if the terms begin with those of that other; and then these are left.
+-- The second formula is the first without its existential quantifiers, by functions that were gained. And a solid
+-- formula is no other without them, by no other functions, if the terms begin with those of that other; and then these
+-- are left.
 pub record IsWalkedTo (v : Vocabulary) (scope : List ℕ) (a b : Form) (leaves left : List Leaf) (old new : List Use) : Type 0 where
   pub functions : List Use
   pub gained : new ≡ old ++ functions
@@ -55,8 +56,8 @@ abbrev pub IsPassed : List Leaf → List Leaf → List Leaf → Option Form → 
 IsPassed own leaves left None a = (after : List Leaf) → leaves ≡ own ++ after → ⊥
 IsPassed own leaves left (Some b) a = (b ≡ a) × ((after : List Leaf) → leaves ≡ own ++ after → after ≡ left)
 
--- The formula has a normal form that, without its existential quantifiers, has this normal form, by functions that are new
--- to the theory; there is at least one.
+-- The formula has a normal form that, without its existential quantifiers, has this normal form, by functions that are
+-- new to the theory; there is at least one.
 pub record Gives (t : Statements) (parent made : Form) (norm result : Form) (uses : List Use) : Type 0 where
   pub of_parent : HasNorm parent norm
   pub some : 0 < length uses

@@ -1,5 +1,5 @@
--- Formulas in which nothing stands that a normal form lets go: neither truth nor falsehood, and no quantifier whose variable
--- occurs nowhere. Negations stand at atoms and equations alone, and there are no implications.
+-- Formulas in which nothing stands that a normal form lets go: neither truth nor falsehood, and no quantifier whose
+-- variable occurs nowhere. Negations stand at atoms and equations alone, and there are no implications.
 use Rattle.std.specs.Prelude.{ℕ, ◌≡◌, Bool, true, List, [], ◌∷◌}
 use Rattle.fof_terms.specs.Variables.{has_variable}
 use Rattle.fof_terms.specs.declared.term.Term.{Term}

@@ -39,8 +39,8 @@ pub record IsOpenable (v : Vocabulary) (scope : List ℕ) (k : ℕ) (uses : List
   pub same : Each (λ (u : Use). u.variables ≡ variables) uses
   pub only : Each (λ (u : Use). only_has u.variables 0 a ≡ true) uses
 
--- in each theory and context in which the functions open the formula and what the entries add stands, the proof shows the
--- result where the part shows the formula
+-- in each theory and context in which the functions open the formula and what the entries add stands, the proof shows
+-- the result where the part shows the formula
 abbrev pub Leads : ℕ → List Use → Form → Form → List Entry → ℕ → Proof → Proof → Type 0
 Leads k uses a right told n part made =
     (t : Statements) (v : List ℕ) (h : List Form) → IsOpenable t.vocabulary v k uses a right → AddedFrom t n told → Proves t v h part a → Proves t v h made right

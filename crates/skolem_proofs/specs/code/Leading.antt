@@ -8,8 +8,8 @@ use Rattle.kernel.specs.Proves.{Proves}
 use Rattle.kernel.specs.Statements.{Statements}
 use Rattle.kernel.specs.declared.proof.Proof.{Proof}
 
--- the proof shows the line in every theory that has the parent at its number, and in which the part shows that the parent's
--- normal form implies the formula, if the line has the formula's normal form
+-- the proof shows the line in every theory that has the parent at its number, and in which the part shows that the
+-- parent's normal form implies the formula, if the line has the formula's normal form
 abbrev pub LeadsToLine : Parent → Form → Form → Proof → Proof → Type 0
 LeadsToLine parent form line part made =
     (t : Statements) → Sorted t.vocabulary [] parent.form → Sorted t.vocabulary [] form → Sorted t.vocabulary [] line → slice_get t.formulas parent.number ≡ Some parent.form → norm_of true line ≡ norm_of true form

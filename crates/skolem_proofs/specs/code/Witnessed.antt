@@ -1,5 +1,5 @@
--- The proof that a normal form implies what it is with functions in place of its existential variables, and the entries by
--- which the functions come in.
+-- The proof that a normal form implies what it is with functions in place of its existential variables, and the entries
+-- by which the functions come in.
 use Rattle.std.specs.Prelude.{ℕ, ◌≡◌, ◌+◌, Bool, true, false, List, [], ◌∷◌, ◌++◌, length, map, Some, slice_get}
 use Rattle.fof_terms.specs.declared.form.Form.{Form, And, Or, Imp, All, Ex}
 use Rattle.fof_terms.specs.declared.term.Term.{Var}

@@ -1,5 +1,6 @@
 -- Formulas whose variables get other names.
-use Rattle.std.specs.Prelude.{ℕ, ◌+◌, ◌-◌, ◌||◌, ◌&&◌, Bool, nat_lt, nat_eq, if◌then◌else◌, List, map, length, Option, Some, None, position}
+use Rattle.std.specs.Prelude.{ℕ, ◌+◌, ◌-◌, ◌||◌, ◌&&◌, Bool, nat_lt, nat_eq, if◌then◌else◌, List, map, length, Option}
+use Rattle.std.specs.Prelude.{Some, None, position}
 use Rattle.std.specs.List.{list_any, list_all}
 use Rattle.fof_terms.specs.declared.term.Term.{Term, Var, App}
 use Rattle.fof_terms.specs.declared.term.Term.TheFolds.{fold-Term}

@@ -1,5 +1,5 @@
--- The proof of a line that has names for parts of a parent. The line and what its names stand for are supposed false one
--- inside the other, each for variables of its own; there each literal of the parent's instance is contradicted.
+-- The proof of a line that has names for parts of a parent. The line and what its names stand for are supposed false
+-- one inside the other, each for variables of its own; there each literal of the parent's instance is contradicted.
 use Rattle.std.specs.Prelude.{ℕ, ◌≡◌, ◌+◌, ◌≤◌, List, [], ◌∷◌, ◌++◌, length, map, Some, slice_get}
 use Rattle.fof_terms.specs.declared.form.Form.{Form, Not, Or}
 use Rattle.fof_terms.specs.Sorts.{IsScope}

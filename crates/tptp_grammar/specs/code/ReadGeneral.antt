@@ -3,7 +3,8 @@ use Rattle.std.specs.Prelude.{ℕ, zero, suc, false, true, if◌then◌else◌, 
 use Rattle.std.specs.Str.{bytes_eq}
 use Rattle.first_fault.specs.code.Reading.{TooDeep, Reader, refuse, and_then, mapped, next, tail, closed, separated}
 use Rattle.tptp_lexer.specs.declared.token.Token.{Token}
-use Rattle.tptp_lexer.specs.declared.token.Token.TheVariants.{Lower, Quoted, Upper, Dollar, Number, Distinct, Mark as Sign}
+use Rattle.tptp_lexer.specs.declared.token.Token.TheVariants.{Lower, Quoted, Upper, Dollar, Number, Distinct}
+use Rattle.tptp_lexer.specs.declared.token.Token.TheVariants.{Mark as Sign}
 use Rattle.tptp_base.specs.declared.surface.STerm.{STerm}
 use Rattle.tptp_base.specs.declared.surface.Surface.{Surface}
 use Rattle.tptp_base.specs.declared.item.Lang.{Lang}

@@ -1,7 +1,8 @@
 -- What the parser's functions for items compute. The number is the nesting that is left.
 use Rattle.std.specs.Prelude.{ℕ, Bool, true, false, if◌then◌else◌, List, [], ◌∷◌, Option, Some, None, Ok, codes}
 use Rattle.std.specs.Str.{bytes_eq}
-use Rattle.first_fault.specs.code.Reading.{Reader, refuse, and_then, mapped, next, tail, expect, closed, opened, separated}
+use Rattle.first_fault.specs.code.Reading.{Reader, refuse, and_then, mapped, next, tail, expect, closed, opened}
+use Rattle.first_fault.specs.code.Reading.{separated}
 use Rattle.tptp_lexer.specs.declared.token.Token.{Token}
 use Rattle.tptp_lexer.specs.declared.token.Token.TheVariants.{Lower, Quoted, Number, Mark as Sign}
 use Rattle.tptp_base.specs.declared.place.Place.{Place}

@@ -1,7 +1,8 @@
 -- What the parser's functions for sorts and type lines compute. The number is the nesting that is left.
 use Rattle.std.specs.Prelude.{ℕ, zero, suc, if◌then◌else◌, List, [], ◌∷◌, Option, Some, Ok, Err, codes}
 use Rattle.std.specs.Str.{bytes_eq}
-use Rattle.first_fault.specs.code.Reading.{TooDeep, Reader, refuse, and_then, mapped, next, tail, closed, opened, separated}
+use Rattle.first_fault.specs.code.Reading.{TooDeep, Reader, refuse, and_then, mapped, next, tail, closed, opened}
+use Rattle.first_fault.specs.code.Reading.{separated}
 use Rattle.tptp_lexer.specs.declared.token.Token.{Token}
 use Rattle.tptp_lexer.specs.declared.token.Token.TheVariants.{Lower, Quoted, Dollar, Mark as Sign}
 use Rattle.tptp_base.specs.declared.surface.SortName.{SortName}

@@ -1,6 +1,7 @@
 -- What the scanner computes of the bytes at the front of a text. It is no part of the definition of tokens: only the
 -- contracts of private functions cite it.
-use Rattle.std.specs.Prelude.{ℕ, suc, ◌+◌, ◌-◌, ◌<◌, Bool, true, false, ◌||◌, ◌&&◌, ◌==◌, if◌then◌else◌, nat_le, [], ◌∷◌, length, take, drop, slice_index, Option, None, Some, option_map}
+use Rattle.std.specs.Prelude.{ℕ, suc, ◌+◌, ◌-◌, ◌<◌, Bool, true, false, ◌||◌, ◌&&◌, ◌==◌, if◌then◌else◌, nat_le, []}
+use Rattle.std.specs.Prelude.{◌∷◌, length, take, drop, slice_index, Option, None, Some, option_map}
 use Rattle.std.specs.List.{prefix_len}
 use Rattle.tptp_lexer.specs.declared.quotes.Quote.{Quote}
 use Rattle.tptp_lexer.specs.declared.quotes.Quote.TheVariants.{Closed, Unclosed, Broken}
@@ -12,7 +13,8 @@ use Rattle.tptp_lexer.specs.declared.scan.Kind.{Kind}
 use Rattle.tptp_lexer.specs.declared.style.Style.{Style}
 use Rattle.tptp_lexer.specs.declared.token.Mark.{Mark}
 use Rattle.tptp_lexer.specs.declared.token.Token.{Token}
-use Rattle.tptp_lexer.specs.Bytes.{Text, is_blank, is_lower_alpha, is_upper_alpha, is_numeric, is_alpha_numeric, is_in_line}
+use Rattle.tptp_lexer.specs.Bytes.{Text, is_blank, is_lower_alpha, is_upper_alpha, is_numeric, is_alpha_numeric}
+use Rattle.tptp_lexer.specs.Bytes.{is_in_line}
 use Rattle.tptp_lexer.specs.Comments.{begins_comment}
 use Rattle.tptp_lexer.specs.Numbers.{is_sign, is_exponent}
 use Rattle.tptp_lexer.specs.Quotes.{is_plain, is_escaped}

@@ -1,6 +1,7 @@
--- Where the nodes that are not taken stand while an order is searched: among those that are ready, or behind a parent that
--- is not taken.
-use Rattle.std.specs.Prelude.{ℕ, ◌≡◌, ◌≢◌, ◌⊎◌, ◌<◌, ◌≤◌, ◌==◌, ◌||◌, Bool, true, false, List, [], ◌∷◌, ◌++◌, length, take, get_or, slice_get, Some}
+-- Where the nodes that are not taken stand while an order is searched: among those that are ready, or behind a parent
+-- that is not taken.
+use Rattle.std.specs.Prelude.{ℕ, ◌≡◌, ◌≢◌, ◌⊎◌, ◌<◌, ◌≤◌, ◌==◌, ◌||◌, Bool, true, false, List, [], ◌∷◌, ◌++◌, length}
+use Rattle.std.specs.Prelude.{take, get_or, slice_get, Some}
 use Rattle.std.specs.List.{list_any, list_all, All}
 use Rattle.std.specs.Ordering.{nat_cmp}
 use Rattle.std.specs.BTreeSet.{BTreeSet, contains}
@@ -61,8 +62,8 @@ pub record Waits (nodes : List Node) (taken : ℕ → Bool) (waiting : List (Lis
   pub left : taken line ≡ false
   pub listed : line < length nodes → has_number (waiters_of waiting line) number ≡ true
 
--- Those that are ready are nodes that are ready, those that wait for a line that is not taken have it as a parent, and each
--- node that is not taken is pending, ready or waits.
+-- Those that are ready are nodes that are ready, those that wait for a line that is not taken have it as a parent, and
+-- each node that is not taken is pending, ready or waits.
 pub record IsQueue (nodes : List Node) (taken pending : ℕ → Bool) (ready : BTreeSet ℕ) (waiting : List (List Waiter)) : Type 0 where
   pub len : length waiting ≡ length nodes
   pub free : (number : ℕ) → contains nat_cmp ready number ≡ true → IsFree nodes taken number

@@ -1,5 +1,6 @@
 -- Nodes: the variables of a scope, and terms with the numbers of their arguments' nodes.
-use Rattle.std.specs.Prelude.{ℕ, ◌≡◌, ◌≢◌, ◌<◌, ◌≤◌, ◌++◌, List, [], ◌∷◌, length, map, slice_get, ◌⊎◌, Bool, false, ◌==◌, ◌&&◌, Option, Some, None}
+use Rattle.std.specs.Prelude.{ℕ, ◌≡◌, ◌≢◌, ◌<◌, ◌≤◌, ◌++◌, List, [], ◌∷◌, length, map, slice_get, ◌⊎◌, Bool, false}
+use Rattle.std.specs.Prelude.{◌==◌, ◌&&◌, Option, Some, None}
 use Rattle.std.specs.Option.{option_map}
 use Rattle.std.specs.Borrow.{Bor}
 use Rattle.fof_terms.specs.Vocabulary.{Vocabulary}

@@ -1,5 +1,6 @@
 -- The images of classes, made along an order.
-use Rattle.std.specs.Prelude.{ℕ, ◌≡◌, ◌<◌, ◌==◌, ◌^◌, if◌then◌else◌, Bool, true, List, [], ◌∷◌, length, map, get_or, slice_get, Option, Some, None}
+use Rattle.std.specs.Prelude.{ℕ, ◌≡◌, ◌<◌, ◌==◌, ◌^◌, if◌then◌else◌, Bool, true, List, [], ◌∷◌, length, map, get_or}
+use Rattle.std.specs.Prelude.{slice_get, Option, Some, None}
 use Rattle.fof_terms.specs.declared.term.Term.{Term, Var, App}
 use Rattle.unify_terms.specs.declared.node.Node.{Node}
 use Rattle.unify_terms.specs.declared.node.Node.TheVariants.{Open, Rigid, Function}

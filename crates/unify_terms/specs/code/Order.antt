@@ -1,5 +1,6 @@
 -- An order of the classes in which the arguments stand first.
-use Rattle.std.specs.Prelude.{ℕ, ◌≡◌, ◌<◌, List, [], ◌∷◌, length, reverse, get_or, Option, Some, None, Bool, true, false, suc, ◌⊎◌}
+use Rattle.std.specs.Prelude.{ℕ, ◌≡◌, ◌<◌, List, [], ◌∷◌, length, reverse, get_or, Option, Some, None, Bool, true}
+use Rattle.std.specs.Prelude.{false, suc, ◌⊎◌}
 use Rattle.std.specs.List.{list_all}
 use Rattle.fof_terms.specs.Vocabulary.{Vocabulary}
 use Rattle.fof_terms.specs.declared.term.Term.{Term}

@@ -10,7 +10,7 @@ use Rattle.derive_kit.specs.Derived.{with_formulas}
 use Rattle.elaborate.specs.declared.answer.StepAnswer.{StepAnswer}
 use Rattle.verifier.specs.Lines.{Derivation, Line, IsLineAt, parents_of}
 use Rattle.verifier.specs.Logged.{entries_text}
-use Rattle.verifier.specs.Run.{Progress, IsAnswered, with_line}
+use Rattle.verifier.specs.Run.{Progress, IsAnswered, with_answered}
 use Rattle.verifier.specs.declared.answer.LineAnswer.{LineAnswer}
 use Rattle.verifier.specs.declared.answer.LineAnswer.TheVariants.{Accepted, Unverified}
 use Rattle.elaborate.specs.declared.answer.StepAnswer.TheVariants as step
@@ -24,11 +24,11 @@ Adds t form (step.Unverified reason) = ⊤
 abbrev pub CanTake : Statements → StepAnswer → Type 0
 CanTake t answer = (form : Form) × Adds t form answer
 
--- the answer of a line at this place is taken: its entries, if there are any, are added and logged, and the line has the
--- number of the last formula
+-- the answer of a line at this place is taken: its entries, if there are any, are added and logged, and the line has
+-- the number of the last formula
 abbrev pub TakesAnswer : StepAnswer → Progress → ℕ → LineAnswer → Progress → Option (List ℕ) → Option (List ℕ) → Type 0
 TakesAnswer (step.Accepted rule cites entries) old place answer new log_old log_new =
-    (answer ≡ Accepted rule cites) × Admits old.theory entries new.theory × (new ≡ with_line old place new.theory) × Takes log_old log_new (entries_text entries) × HaveNumbersInRange entries
+    (answer ≡ Accepted rule cites) × Admits old.theory entries new.theory × (new ≡ with_answered old place new.theory) × Takes log_old log_new (entries_text entries) × HaveNumbersInRange entries
 TakesAnswer (step.Unverified reason) old place answer new log_old log_new = (answer ≡ Unverified reason) × (new ≡ old) × (log_new ≡ log_old)
 
 -- the line at this place is answered, and the entries of the answer are logged

@@ -5,4 +5,4 @@ use Rattle.derivation_text.proofs.lines.forms_of.Given as goal
 
 -- the formulas so far, and those that are left, are all
 abbrev pub invariant-loop-line : goal.invariant-loop-line
-invariant-loop-line l = l.forms ++ spec.forms_of (drop l.line-index l.lines) ≡ spec.forms_of l.lines
+invariant-loop-line l = l.forms ++ spec.denied_forms (drop l.line-index l.lines) ≡ spec.denied_forms l.lines
