@@ -2,7 +2,7 @@ use kernel::Entry;
 use tptp_base::List;
 
 /// A rule that gives a line from its parents.
-#[derive(Clone, Copy, Debug, PartialEq, Eq)]
+#[derive(Clone, Copy, PartialEq, Eq)]
 pub enum Rule {
     /// `norm`: a parent has the line's normal form.
     Norm,
@@ -32,7 +32,7 @@ pub enum Rule {
 }
 
 /// Why a line isn't verified.
-#[derive(Clone, Copy, Debug, PartialEq, Eq)]
+#[derive(Clone, Copy, PartialEq, Eq)]
 pub enum Reason {
     /// `not-yet`: no rule that is built gives it.
     NotYet,

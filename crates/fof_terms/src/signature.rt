@@ -22,7 +22,7 @@ pub const MAX_SYMBOLS: usize = 16_777_216;
 pub const MAX_SORTS: usize = 65_536;
 
 /// What a symbol makes: a term or a formula.
-#[derive(Clone, Copy, Debug, PartialEq, Eq)]
+#[derive(Clone, Copy, PartialEq, Eq)]
 pub enum Kind {
     /// Its applications are terms.
     Function,

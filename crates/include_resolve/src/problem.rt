@@ -7,7 +7,7 @@ pub const MAX_DEPTH: usize = 16;
 pub const TOTAL_SIZE: u64 = 268_435_456;
 
 /// A problem whose includes are replaced.
-#[derive(Debug, Drop)]
+#[derive(Drop)]
 pub struct Problem {
     /// The names of the files as they were opened, in the order of opening. The number of a file in a `Place` is its
     /// place in this list.

@@ -15,7 +15,7 @@ pub trait Spelled {
 }
 
 /// The terms.
-#[derive(Clone, Copy, Debug, PartialEq, Eq)]
+#[derive(Clone, Copy, PartialEq, Eq)]
 pub enum TermName {
     Var,
     App,
@@ -36,7 +36,7 @@ impl Spelled for TermName {
 }
 
 /// The formulas.
-#[derive(Clone, Copy, Debug, PartialEq, Eq)]
+#[derive(Clone, Copy, PartialEq, Eq)]
 pub enum FormName {
     Atom,
     Eq,
@@ -81,7 +81,7 @@ impl Spelled for FormName {
 }
 
 /// The rules of proofs.
-#[derive(Clone, Copy, Debug, PartialEq, Eq)]
+#[derive(Clone, Copy, PartialEq, Eq)]
 pub enum ProofName {
     Line,
     Hyp,
@@ -162,7 +162,7 @@ impl Spelled for ProofName {
 }
 
 /// What is declared.
-#[derive(Clone, Copy, Debug, PartialEq, Eq)]
+#[derive(Clone, Copy, PartialEq, Eq)]
 pub enum DeclName {
     Sort,
     Function,
@@ -185,7 +185,7 @@ impl Spelled for DeclName {
 }
 
 /// The entries.
-#[derive(Clone, Copy, Debug, PartialEq, Eq)]
+#[derive(Clone, Copy, PartialEq, Eq)]
 pub enum EntryName {
     Declare,
     Lemma,
@@ -215,7 +215,7 @@ impl Spelled for EntryName {
 }
 
 /// The versions of logs.
-#[derive(Clone, Copy, Debug, PartialEq, Eq)]
+#[derive(Clone, Copy, PartialEq, Eq)]
 pub enum LogVersion {
     One,
 }

@@ -5,7 +5,7 @@ ghost use Rattle.proof_log.specs.declared.stop.Stop.TheVariants.{Memory};
 use std::alloc::AllocError;
 
 /// Why a function that reads stops. The cursor then stands before the byte that can't be read.
-#[derive(Clone, Copy, Debug, PartialEq, Eq)]
+#[derive(Clone, Copy, PartialEq, Eq)]
 pub enum Stop {
     Memory,
     /// No log goes on with the next byte, or there is none and no log ends here.

@@ -66,7 +66,7 @@ impl From<Memory> for SortFault {
 }
 
 /// Why a part of a line denotes nothing.
-#[derive(Clone, Copy, Debug, PartialEq, Eq)]
+#[derive(Clone, Copy, PartialEq, Eq)]
 pub enum Stop {
     Rule(SortRule),
     Memory,

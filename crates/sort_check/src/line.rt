@@ -3,7 +3,7 @@ use fof_terms::Form;
 use tptp_base::{Name, Place, Role};
 
 /// Which text the formulas are of.
-#[derive(Clone, Copy, Debug, PartialEq, Eq)]
+#[derive(Clone, Copy, PartialEq, Eq)]
 pub enum TextKind {
     /// A problem has at most one conjecture.
     Problem,

@@ -2,7 +2,7 @@
 use tptp_base::Text;
 
 /// What is answered of a line of a derivation.
-#[derive(Debug, Drop)]
+#[derive(Drop)]
 pub enum LineAnswer {
     /// It follows, by the rule of this name.
     Ok(Text),
@@ -13,7 +13,7 @@ pub enum LineAnswer {
 }
 
 /// How a derivation ends.
-#[derive(Debug, Drop)]
+#[derive(Drop)]
 pub enum Verdict {
     /// Some line is not accepted: how many are unverified, how many are skipped, and how many lines there are.
     Failed(u64, u64, u64),

@@ -8,7 +8,7 @@ ghost use Rattle.szs_report.specs.Marks.{is_letter};
 use memchr::memchr;
 
 /// The lines that a derivation and its status are found by.
-#[derive(Clone, Copy, Debug, PartialEq, Eq)]
+#[derive(Clone, Copy, PartialEq, Eq)]
 pub enum LineKind {
     /// `SZS output start`.
     Start,

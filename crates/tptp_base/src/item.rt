@@ -2,7 +2,7 @@
 use crate::{Boxed, List, Name, Place, STerm, SortName, Surface, Text};
 
 /// The languages of annotated formulas.
-#[derive(Clone, Copy, Debug, PartialEq, Eq)]
+#[derive(Clone, Copy, PartialEq, Eq)]
 pub enum Lang {
     Cnf,
     Fof,
@@ -10,7 +10,7 @@ pub enum Lang {
 }
 
 /// The roles of formulas.
-#[derive(Clone, Copy, Debug, PartialEq, Eq)]
+#[derive(Clone, Copy, PartialEq, Eq)]
 pub enum Role {
     Axiom,
     Hypothesis,
@@ -31,7 +31,7 @@ pub enum Role {
 }
 
 /// What a type line declares of its name.
-#[derive(Debug, Drop)]
+#[derive(Drop)]
 pub enum Shape {
     /// A sort, by `$tType`.
     Sort,
@@ -40,21 +40,21 @@ pub enum Shape {
 }
 
 /// A type line's body.
-#[derive(Debug, Drop)]
+#[derive(Drop)]
 pub struct Typing {
     pub name: Text,
     pub shape: Shape,
 }
 
 /// An annotated formula's body.
-#[derive(Debug, Drop)]
+#[derive(Drop)]
 pub enum Body {
     Logic(Surface),
     Typing(Typing),
 }
 
 /// A general term, as sources and useful information are written in.
-#[derive(Debug, Drop)]
+#[derive(Drop)]
 pub enum GTerm {
     Word(Text),
     Func(Text, List<GTerm>),
@@ -73,7 +73,7 @@ pub enum GTerm {
 }
 
 /// An annotated formula.
-#[derive(Debug, Drop)]
+#[derive(Drop)]
 pub struct Annotated {
     /// The place of its first token.
     pub place: Place,
@@ -86,7 +86,7 @@ pub struct Annotated {
 }
 
 /// An include, with the names that it selects where it selects any.
-#[derive(Debug, Drop)]
+#[derive(Drop)]
 pub struct Include {
     /// The place of its first token.
     pub place: Place,
@@ -95,7 +95,7 @@ pub struct Include {
 }
 
 /// What stands in a file.
-#[derive(Debug, Drop)]
+#[derive(Drop)]
 pub enum Item {
     /// A comment between formulas, without the line feed that ends it.
     Comment(Text),

@@ -19,7 +19,7 @@ pub struct Place {
 }
 
 /// A part of a text: the bytes from `start`, and before `end`.
-#[derive(Clone, Copy, Debug, PartialEq, Eq)]
+#[derive(Clone, Copy, PartialEq, Eq)]
 pub struct Region {
     /// The bytes before the part.
     pub start: u64,

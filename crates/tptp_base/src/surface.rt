@@ -2,14 +2,14 @@
 use crate::{Boxed, List, Text};
 
 /// A term: a variable, or a word with its arguments.
-#[derive(Debug, Drop)]
+#[derive(Drop)]
 pub enum STerm {
     Var(Text),
     App(Text, List<STerm>),
 }
 
 /// The name of a sort.
-#[derive(Debug, Drop)]
+#[derive(Drop)]
 pub enum SortName {
     /// `$i`.
     Individual,
@@ -19,14 +19,14 @@ pub enum SortName {
 }
 
 /// A variable as a quantifier binds it, with its sort where one is written.
-#[derive(Debug, Drop)]
+#[derive(Drop)]
 pub struct BoundVar {
     pub name: Text,
     pub sort: Option<SortName>,
 }
 
 /// The connectives that stand between two formulas and do not associate.
-#[derive(Clone, Copy, Debug, PartialEq, Eq)]
+#[derive(Clone, Copy, PartialEq, Eq)]
 pub enum BinOp {
     /// `=>`.
     Imp,
@@ -43,7 +43,7 @@ pub enum BinOp {
 }
 
 /// The quantifiers.
-#[derive(Clone, Copy, Debug, PartialEq, Eq)]
+#[derive(Clone, Copy, PartialEq, Eq)]
 pub enum Quant {
     /// `!`.
     All,
@@ -52,7 +52,7 @@ pub enum Quant {
 }
 
 /// A formula as it is written. It keeps no parentheses: they show in how formulas stand in each other.
-#[derive(Debug, Drop)]
+#[derive(Drop)]
 pub enum Surface {
     True,
     False,

@@ -24,14 +24,14 @@ use tptp_lexer::{Token, Tokens};
 const MAX_NESTING: usize = 250;
 
 /// Why a list of tokens is not read, and how many tokens are left there, comments left out.
-#[derive(Clone, Copy, Debug, PartialEq, Eq)]
+#[derive(Clone, Copy, PartialEq, Eq)]
 struct Refusal {
     stop: Stop,
     left: usize,
 }
 
 /// What stands between items, and how many of its tokens are left behind the first one.
-#[derive(Debug, Drop)]
+#[derive(Drop)]
 struct Turn {
     item: Item,
     left: usize,

@@ -5,7 +5,7 @@ ghost use Rattle.tptp_grammar.specs.declared.stop.Stop.TheVariants.{Memory};
 use std::alloc::AllocError;
 
 /// Why a function that reads stops. The cursor then stands before the token that can't be read.
-#[derive(Clone, Copy, Debug, PartialEq, Eq)]
+#[derive(Clone, Copy, PartialEq, Eq)]
 pub enum Stop {
     Memory,
     /// No text goes on with the next token, or there is none and no text ends here.

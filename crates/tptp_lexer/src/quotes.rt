@@ -8,7 +8,7 @@ use std::alloc::Global;
 use tptp_base::{Memory, Text};
 
 /// How a quote ends.
-#[derive(Clone, Copy, Debug)]
+#[derive(Clone, Copy)]
 pub enum Quote {
     /// At a closing quote, with so many bytes before it.
     Closed(usize),
@@ -19,7 +19,7 @@ pub enum Quote {
 }
 
 /// What a byte does within a quote.
-#[derive(Clone, Copy, Debug)]
+#[derive(Clone, Copy)]
 pub enum Turn {
     /// It belongs to it. The next byte has a `\` before it or not.
     Goes(bool),

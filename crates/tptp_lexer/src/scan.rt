@@ -11,7 +11,7 @@ use crate::{Mark, Style};
 use memchr::memmem;
 
 /// The kinds of tokens.
-#[derive(Clone, Copy, Debug)]
+#[derive(Clone, Copy)]
 pub enum Kind {
     Lower,
     Quoted,
@@ -25,7 +25,7 @@ pub enum Kind {
 }
 
 /// What a text begins with.
-#[derive(Clone, Copy, Debug)]
+#[derive(Clone, Copy)]
 pub enum Front {
     /// So many blanks.
     Blanks(usize),

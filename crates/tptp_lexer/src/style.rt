@@ -1,5 +1,5 @@
 /// How a text is read.
-#[derive(Clone, Copy, Debug, PartialEq, Eq)]
+#[derive(Clone, Copy, PartialEq, Eq)]
 pub enum Style {
     /// A problem: a line comment begins with `%`.
     Problem,

@@ -1,7 +1,7 @@
 use tptp_base::{List, Place, Text};
 
 /// The marks.
-#[derive(Clone, Copy, Debug, PartialEq, Eq)]
+#[derive(Clone, Copy, PartialEq, Eq)]
 pub enum Mark {
     /// `(`
     Open,
@@ -50,7 +50,7 @@ pub enum Mark {
 }
 
 /// A token. Comments are tokens too, blanks are not.
-#[derive(Debug, Drop)]
+#[derive(Drop)]
 pub enum Token {
     /// A word that begins with a small letter.
     Lower(Text),
@@ -72,7 +72,7 @@ pub enum Token {
 }
 
 /// The tokens of a part of a text.
-#[derive(Debug, Drop)]
+#[derive(Drop)]
 pub struct Tokens {
     /// The tokens in turn, each with the place where it begins.
     pub items: List<(Token, Place)>,

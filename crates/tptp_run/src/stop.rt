@@ -40,7 +40,7 @@ pub fn ended(status: u8, text: Vec<u8>) -> Answer
 }
 
 /// A fault of the outside, or want of memory.
-#[derive(Clone, Copy, Debug, PartialEq, Eq)]
+#[derive(Clone, Copy, PartialEq, Eq)]
 pub enum Stop {
     Store,
     Sink,

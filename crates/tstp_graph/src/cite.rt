@@ -2,7 +2,7 @@
 use tptp_base::{List, Name};
 
 /// A parent as a source names it.
-#[derive(Debug, Drop)]
+#[derive(Drop)]
 pub enum Cite {
     /// The line of this name, or the given formulas of this name.
     Named(Name),
@@ -11,7 +11,7 @@ pub enum Cite {
 }
 
 /// What a general term is read as.
-#[derive(Debug, Drop)]
+#[derive(Drop)]
 pub struct Reading {
     /// The name that it is, where it is one.
     pub name: Option<Name>,

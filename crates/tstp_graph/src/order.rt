@@ -9,7 +9,7 @@ use std::alloc::Global;
 use tptp_base::{List, Memory};
 
 /// An order of nodes, and the first node that it does not take.
-#[derive(Debug, Drop)]
+#[derive(Drop)]
 pub struct Ordered {
     pub order: List<u32>,
     pub left: Option<u32>,

@@ -17,14 +17,14 @@ use std::mem;
 use tptp_base::{List, Memory};
 
 // A node that waits: its parents before this place are taken.
-#[derive(Clone, Copy, Debug, Drop)]
+#[derive(Clone, Copy, Drop)]
 pub struct Waiter {
     pub number: u32,
     pub place: usize,
 }
 
 // A parent that is not taken: its line, and its place among the parents.
-#[derive(Clone, Copy, Debug, Drop)]
+#[derive(Clone, Copy, Drop)]
 pub struct Missing {
     pub line: u32,
     pub place: usize,

@@ -2,7 +2,7 @@
 use tptp_base::List;
 
 /// What a line is from: another line, or a given formula, each by its number in its list.
-#[derive(Clone, Copy, Debug, PartialEq, Eq, Hash)]
+#[derive(Clone, Copy, PartialEq, Eq, Hash)]
 pub enum Ref {
     /// The node of this number.
     Line(u32),
@@ -11,7 +11,7 @@ pub enum Ref {
 }
 
 /// A line of a derivation.
-#[derive(Debug, Drop)]
+#[derive(Drop)]
 pub struct Node {
     /// Where the line stands among the items, from 0.
     pub item: u32,
@@ -25,7 +25,7 @@ pub struct Node {
 
 /// The lines of a derivation in the order of the text, and the order in which they can be checked: it takes repeatedly
 /// the first line whose parents are all taken.
-#[derive(Debug, Drop)]
+#[derive(Drop)]
 pub struct Graph {
     pub nodes: List<Node>,
     pub order: List<u32>,
