@@ -1,4 +1,4 @@
-ghost use Rattle.std.specs.Prelude.{◌≡◌, ◌<◌, ◌^◌, ◌++◌, ◌∷◌, [], IfOk, OnOk, MatchOption, not};
+ghost use Rattle.std.specs.Prelude.{◌≡◌, ◌<◌, ◌^◌, ◌++◌, ◌∷◌, ◌⊎◌, [], IfOk, OnErr, OnOk, MatchOption, not};
 ghost use Rattle.std.specs.List.{list_any};
 ghost use Rattle.fof_terms.specs.Sorts.{binder_depth};
 ghost use Rattle.clause_form.specs.Norm.{node as node_of, members_of, ends, alone as alone_of, joined_flat};
@@ -56,15 +56,17 @@ pub fn join_flat(alloc: Global, positive: bool, flat: List<Form>) -> Form
     alone(positive, flat)
 }
 
-/// Moves the members of a node of that sign to the end of the list, or the formula itself.
+/// Moves the members of a node of that sign to the end of the list, or the formula itself. Where memory runs out, the
+/// list is as it was, or it is empty.
 #[tactic(auto, using(crate::proofs::MemberKinds::members_equations))]
 pub fn push_members(flat: &mut List<Form>, positive: bool, form: Form) -> Result<(), Memory>
-    ensures { OnOk result (flat.new ≡ flat.old ++ members_of positive form) }
+    ensures ok { OnOk result (flat.new ≡ flat.old ++ members_of positive form) }
+    ensures err { OnErr result ((flat.new ≡ flat.old) ⊎ (flat.new ≡ [])) }
 {
     match form {
         Form::And(inner) => {
             if positive {
-                flat.append(inner)?;
+                append(flat, inner)?;
             } else {
                 flat.push(Form::And(inner))?;
             }
@@ -73,7 +75,7 @@ pub fn push_members(flat: &mut List<Form>, positive: bool, form: Form) -> Result
             if positive {
                 flat.push(Form::Or(inner))?;
             } else {
-                flat.append(inner)?;
+                append(flat, inner)?;
             }
         }
         Form::Atom(symbol, args) => flat.push(Form::Atom(symbol, args))?,
@@ -85,6 +87,23 @@ pub fn push_members(flat: &mut List<Form>, positive: bool, form: Form) -> Result
         Form::Ex(sort, body) => flat.push(Form::Ex(sort, body))?,
     }
     Ok(())
+}
+
+// Moves the formulas to the end of the list. Where memory runs out, nothing is known of what the list has, so it is
+// emptied.
+fn append(flat: &mut List<Form>, more: List<Form>) -> Result<(), Memory>
+    ensures ok { OnOk result (flat.new ≡ flat.old ++ more) }
+    ensures err { OnErr result (flat.new ≡ []) }
+{
+    match flat.append(more) {
+        Ok(()) => Ok(()),
+        Err(_) => {
+            for _ in 0..flat.len() {
+                let _ = flat.pop();
+            }
+            Err(Memory)
+        }
+    }
 }
 
 /// The members of a node of that sign; None for another formula.

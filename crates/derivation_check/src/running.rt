@@ -23,7 +23,6 @@ use tptp_base::Sink;
 use verifier::{Outcome, RunFault, declare, run_lines};
 
 /// Writes the log's first line, declares what the derivation brings, and runs its lines.
-#[tactic(auto, using(verifier::proofs::Leading::led_more))]
 pub fn run_derivation<K: Sink>(
     alloc: Global,
     derivation: &Derivation,

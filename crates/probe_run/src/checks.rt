@@ -5,6 +5,7 @@ ghost use Rattle.tptp_base.specs.Count.{Rose};
 ghost use Rattle.sort_check.specs.Sorting.{AreDeclared, Extends, IsSentence};
 ghost use Rattle.tstp_graph.specs.Graphs.{IsOrdered};
 ghost use Rattle.verifier.specs.Faults.{HasCause};
+ghost use Rattle.verifier.specs.Logged.{LeadTo};
 ghost use Rattle.derivation_check.specs.Cases.{asked_of};
 ghost use Rattle.derivation_check.specs.Logs.{ChecksWithLog, TakesSomeOfLog};
 
@@ -40,6 +41,7 @@ pub trait Checking {
             ChecksWithLog (asked_of asked.now) theory.old derivation.now signature.now report (K.taken log.old)
             (K.taken log.new)) }
         ensures log { TakesSomeOfLog theory.old (K.taken log.old) (K.taken log.new) }
+        ensures leads { LeadTo theory.old theory.new }
         ensures cause { IfErr result (λ fault. HasCause fault (Rose (K.faults log.old) (K.faults log.new))) }
         ensures more_faults { K.faults log.old ≤ K.faults log.new };
 }

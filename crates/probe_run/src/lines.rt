@@ -12,7 +12,7 @@ ghost use Rattle.verifier.specs.Closing.{ClosesLog, HasFalseLine, IsVerified};
 ghost use Rattle.verifier.specs.Declarations;
 ghost use Rattle.verifier.specs.Faults.{HasCause};
 ghost use Rattle.verifier.specs.Lines.{LinesStand};
-ghost use Rattle.verifier.specs.Logged.{CanAdmit, LogsSome, LogsRun, entries_text};
+ghost use Rattle.verifier.specs.Logged.{CanAdmit, LeadTo, LogsSome, LogsRun, entries_text};
 
 use crate::{Control, Probe};
 use fof_terms::{Form, Signature};
@@ -46,6 +46,7 @@ pub trait Running {
               forms =
                   forms.now;
             }) graph.now.order ran.answers ran.numbers theory.new (K.taken log.old) (K.taken log.new)) }
+        ensures leads { LeadTo theory.old theory.new }
         ensures cut { OnErr result (LogsSome theory.old (K.taken log.old) (K.taken log.new)) }
         ensures cause { IfErr result (λ fault. HasCause fault (Rose (K.faults log.old) (K.faults log.new))) }
         ensures more_faults { K.faults log.old ≤ K.faults log.new };
@@ -65,6 +66,7 @@ pub trait Running {
             (entries_text (Declarations.declarations theory.old.vocabulary signature.now))) }
         ensures in_range { OnOk result
             (HaveNumbersInRange (Declarations.declarations theory.old.vocabulary signature.now)) }
+        ensures leads { LeadTo theory.old theory.new }
         ensures cut { OnErr result (LogsSome theory.old (K.taken log.old) (K.taken log.new)) }
         ensures cause { IfErr result (λ fault. HasCause fault (Rose (K.faults log.old) (K.faults log.new))) }
         ensures more_faults { K.faults log.old ≤ K.faults log.new };

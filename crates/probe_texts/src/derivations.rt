@@ -1,7 +1,7 @@
 // Derivations.
 ghost use Rattle.derivation_text.specs.Derivations.{IsDerivation, IsDerivationFault};
 ghost use Rattle.sort_check.specs.Sorting.{Extends, IsSentence};
-ghost use Rattle.std.specs.Prelude.{All, IfErr, IfOk, OnOk, length, ◌<◌, ◌^◌, ◌≡◌, ◌≤◌};
+ghost use Rattle.std.specs.Prelude.{All, IfErr, IfOk, length, ◌<◌, ◌^◌, ◌≡◌, ◌≤◌};
 ghost use Rattle.tptp_base.specs.declared.read.TheConstants.{FILE_SIZE as file_size};
 ghost use Rattle.tstp_graph.specs.Graphs.{IsFault, IsGraph};
 
@@ -32,7 +32,7 @@ pub trait Deriving {
         requires few_given { length given.now < 2 ^ 32 }
         ensures is { IfOk result (λ d. IsDerivation text.now given.now signature.old d signature.new) }
         ensures fault { IfErr result (λ fault. IsDerivationFault text.now given.now signature.old fault) }
-        ensures extends { OnOk result (Extends signature.old signature.new) }
+        ensures extends { Extends signature.old signature.new }
         ensures sentences { IfOk result (λ d. All (IsSentence signature.new) d.forms) }
         ensures each_form { IfOk result (λ d. length d.forms ≡ length d.graph.nodes) }
         ensures each_name { IfOk result (λ d. length d.names ≡ length d.graph.nodes) };

@@ -19,7 +19,7 @@ use Rattle.verifier.specs.Lines.{Derivation, Line, IsLineAt, given_from, parents
 use Rattle.verifier.specs.Logged.{CanAdmit}
 use Rattle.verifier.specs.code.Numbered.{Knows}
 use Rattle.verifier.specs.Run.{Progress, AnswersKind, AnswersLine, IsAnswered}
-use Rattle.verifier.specs.code.Taking.{CanTake, TakesAnswer, AnswersLine}
+use Rattle.verifier.specs.code.Taking.{CanTake, TakesAnswer, RunsLine}
 use Rattle.verifier.specs.declared.answer.LineAnswer.{LineAnswer}
 use Rattle.verifier.specs.declared.answer.LineAnswer.TheVariants.{Accepted, Unverified, Skipped}
 use Rattle.verifier.proofs.Derived.{some_formula, accepted_theory}
@@ -54,7 +54,7 @@ took_some t u answer rule cites entries is can admits =
 -- ---- a line at its place
 
 -- a line with a parent that is not accepted
-pub skips_line : (d : Derivation) (p : Progress) (place : ℕ) (line : Line) (found : Option (List Parent)) (log : Option (List ℕ)) → IsLineAt d place line → found ≡ parents_of d.given d.forms p.numbers line.node.parents → found ≡ None → AnswersLine d p place Skipped p log log
+pub skips_line : (d : Derivation) (p : Progress) (place : ℕ) (line : Line) (found : Option (List Parent)) (log : Option (List ℕ)) → IsLineAt d place line → found ≡ parents_of d.given d.forms p.numbers line.node.parents → found ≡ None → RunsLine d p place Skipped p log log
 skips_line d p place line found log there found_is none = record {
   line = line;
   there = there;
@@ -66,7 +66,7 @@ skips_line d p place line found log there found_is none = record {
 
 -- a line whose answer is taken
 pub takes_line : (d : Derivation) (p : Progress) (place : ℕ) (line : Line) (parents : List Parent) (answer : StepAnswer) (said : LineAnswer) (new : Progress) (log_old log_new : Option (List ℕ)) → IsLineAt d place line → parents_of d.given d.forms p.numbers line.node.parents ≡ Some parents
-    → AnswersLine p.theory d.given line parents answer → TakesAnswer answer p place said new log_old log_new → AnswersLine d p place said new log_old log_new
+    → AnswersLine p.theory d.given line parents answer → TakesAnswer answer p place said new log_old log_new → RunsLine d p place said new log_old log_new
 takes_line d p place line parents (step.Accepted rule cites entries) said new log_old log_new there known answers (said_is, admits, new_is, taken, fits) =
     let is : IsAnswered d.given p place line (Some parents) (Accepted rule cites) entries new = (answers, (new.theory, admits, new_is)) in
     record {
@@ -98,9 +98,9 @@ takes_knows d p place line parents (step.Unverified reason) said new log_old log
 
 -- the same of what a call answers
 module _ {E : Type 0} (result : Result LineAnswer E) (d : Derivation) (p : Progress) (place : ℕ) (line : Line) (parents : List Parent) (answer : StepAnswer) (new : Progress) (log_old log_new : Option (List ℕ)) where
-  pub call_takes : IsLineAt d place line → parents_of d.given d.forms p.numbers line.node.parents ≡ Some parents → AnswersLine p.theory d.given line parents answer → IfOk result (λ said. TakesAnswer answer p place said new log_old log_new) → IfOk result (λ said. AnswersLine d p place said new log_old log_new)
+  pub call_takes : IsLineAt d place line → parents_of d.given d.forms p.numbers line.node.parents ≡ Some parents → AnswersLine p.theory d.given line parents answer → IfOk result (λ said. TakesAnswer answer p place said new log_old log_new) → IfOk result (λ said. RunsLine d p place said new log_old log_new)
   call_takes there known answers takes =
-      IfOk-weaker result (λ said. TakesAnswer answer p place said new log_old log_new) (λ said. AnswersLine d p place said new log_old log_new)
+      IfOk-weaker result (λ said. TakesAnswer answer p place said new log_old log_new) (λ said. RunsLine d p place said new log_old log_new)
       (λ said t. takes_line d p place line parents answer said new log_old log_new there known answers t) takes
 
   pub call_knows : IsLineAt d place line → AnswersLine p.theory d.given line parents answer → Knows d p → IfOk result (λ said. TakesAnswer answer p place said new log_old log_new) → OnOk result (Knows d new)

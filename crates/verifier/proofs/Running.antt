@@ -16,7 +16,7 @@ use Rattle.verifier.specs.Lines.{Derivation, Line, parents_of}
 use Rattle.verifier.specs.Logged.{LogsSome, LogsRun, entries_text}
 use Rattle.verifier.specs.code.Numbered.{progress_of}
 use Rattle.verifier.specs.Run.{Progress, IsAnswered, AnswersPlace, AreAnswered, begun}
-use Rattle.verifier.specs.code.Taking.{AnswersLine}
+use Rattle.verifier.specs.code.Taking.{RunsLine}
 use Rattle.verifier.specs.declared.answer.LineAnswer.{LineAnswer}
 use Rattle.verifier.specs.declared.answer.LineAnswer.TheVariants.{Accepted, Unverified, Skipped}
 use Rattle.verifier.specs.declared.run.Outcome.{Outcome}
@@ -84,7 +84,7 @@ pub turn_within : (nodes : List Node) (done : List ℕ) (place : ℕ) → HasTur
 turn_within nodes done place turn = within nodes place turn.node turn.there
 
 pub running_more : (d : Derivation) (start : Progress) (order : List ℕ) (now new : Progress) (answers more : List LineAnswer) (done longer here rest : List ℕ) (place : ℕ) (answer : LineAnswer) (log_old log_now log_new : Option (List ℕ)) → here ≡ place ∷ rest → longer ≡ done ++ place ∷ [] → more ≡ slice_set answers place answer
-    → IsRunning d start order now answers done here log_old log_now → AnswersLine d now place answer new log_now log_new → IsRunning d start order new more longer rest log_old log_new
+    → IsRunning d start order now answers done here log_old log_now → RunsLine d now place answer new log_now log_new → IsRunning d start order new more longer rest log_old log_new
 running_more d start order now new answers more done longer here rest place answer log_old log_now log_new is_here is_longer is_more so_far answered =
     let before : IsRunning d start order now answers done (place ∷ rest) log_old log_now = subst (λ (ps : List ℕ). IsRunning d start order now answers done ps log_old log_now) is_here so_far in
     let turn : HasTurn d.nodes done place = turn_of d.nodes done place before.turns.0 in

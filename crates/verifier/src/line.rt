@@ -6,7 +6,7 @@ ghost use Rattle.derive_kit.specs.Derived.{AreOfTheory};
 ghost use Rattle.verifier.specs.Faults.{HasCause};
 ghost use Rattle.verifier.specs.Logged.{LeadTo, LogsSome};
 ghost use Rattle.verifier.specs.code.Numbered.{forms_in, AreNumbered, progress_of, derivation_in, Knows};
-ghost use Rattle.verifier.specs.code.Taking.{CanTake, TakesAnswer, AnswersLine};
+ghost use Rattle.verifier.specs.code.Taking.{CanTake, TakesAnswer, RunsLine};
 ghost use Rattle.verifier.specs.Run as spec;
 
 use crate::answer::LineAnswer;
@@ -37,7 +37,7 @@ pub fn run_line<K: Sink>(
     requires numbered { AreNumbered lines.now.given.now }
     requires knows { Knows (derivation_in lines.now) (progress_of theory.old numbers.old) }
     ensures answered { IfOk result (λ answer.
-        AnswersLine (derivation_in lines.now) (progress_of theory.old numbers.old) place answer
+        RunsLine (derivation_in lines.now) (progress_of theory.old numbers.old) place answer
         (progress_of theory.new numbers.new) (K.taken log.old) (K.taken log.new)) }
     ensures knows { OnOk result (Knows (derivation_in lines.now) (progress_of theory.new numbers.new)) }
     ensures leads { LeadTo theory.old theory.new }

@@ -73,7 +73,7 @@ pub fn run_lines<K: Sink>(
 }
 
 // Runs the lines at these places.
-#[tactic(auto, using(crate::proofs::Leading::led_none, crate::proofs::Leading::led_more))]
+#[tactic(auto, using(crate::proofs::Leading::led_none))]
 fn run_in_order<K: Sink>(
     alloc: Global,
     lines: &Lines<'_>,

@@ -32,7 +32,7 @@ TakesAnswer (step.Accepted rule cites entries) old place answer new log_old log_
 TakesAnswer (step.Unverified reason) old place answer new log_old log_new = (answer ≡ Unverified reason) × (new ≡ old) × (log_new ≡ log_old)
 
 -- the line at this place is answered, and the entries of the answer are logged
-pub record AnswersLine (d : Derivation) (old : Progress) (place : ℕ) (answer : LineAnswer) (new : Progress) (log_old log_new : Option (List ℕ)) : Type 0 where
+pub record RunsLine (d : Derivation) (old : Progress) (place : ℕ) (answer : LineAnswer) (new : Progress) (log_old log_new : Option (List ℕ)) : Type 0 where
   pub line : Line
   pub there : IsLineAt d place line
   pub entries : List Entry

@@ -1,3 +1,4 @@
+use Rattle.verifier.proofs.Leading.{led_more}
 use Rattle.derivation_check.proofs.Runs.{given_ready, run_cut, runs}
 use Rattle.derivation_check.proofs.running.run_derivation.Goals as goal
 
@@ -12,3 +13,9 @@ returns-in-Ok-clause-ran g c =
 pub returns-in-Err-clause-cut : goal.returns-in-Err-clause-cut
 returns-in-Err-clause-cut g c =
     run_cut c.args.theory.now c.args.derivation.now c.args.signature.now c.begin.new.theory (g.K.Sink.taken c.args.log.now) (g.K.Sink.taken c.begin.new.log) (g.K.Sink.taken c.run_lines.new.log) c.in_ok-begin.ensures.widens c.in_ok-begin.ensures.declared c.in_ok-begin.ensures.logged c.in-Err.ensures.cut
+
+pub returns-in-Ok-clause-leads : goal.returns-in-Ok-clause-leads
+returns-in-Ok-clause-leads g c = led_more c.args.theory.now c.begin.new.theory c.run_lines.new.theory c.in_ok-begin.ensures.leads c.in-Ok.ensures.leads
+
+pub returns-in-Err-clause-leads : goal.returns-in-Err-clause-leads
+returns-in-Err-clause-leads g c = led_more c.args.theory.now c.begin.new.theory c.run_lines.new.theory c.in_ok-begin.ensures.leads c.in-Err.ensures.leads

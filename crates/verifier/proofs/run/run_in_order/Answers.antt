@@ -28,6 +28,9 @@ returns-in_err-answer-clause-cut g c =
     let p = err_from_is_err_and c.from_residual-in_err-answer.result c.from_residual-in_err-answer.ensures.1 in
     rw p.1 (running_cut _ _ _ _ _ _ _ _ _ _ c.loop-place.invariant.running c.in_err-answer.ensures.cut)
 
+pub returns-in_err-answer-clause-leads : goal.returns-in_err-answer-clause-leads
+returns-in_err-answer-clause-leads g c = led_more _ _ _ c.loop-place.invariant.leads c.in_err-answer.ensures.leads
+
 pub set-requires : goal.set-requires
 set-requires g c =
     let i = c.loop-place.place-index in
