@@ -8,7 +8,8 @@ use Rattle.tptp_lexer.specs.declared.scan.Kind.TheVariants as k
 use Rattle.tptp_lexer.specs.declared.style.Style.TheVariants.{Problem}
 use Rattle.tptp_lexer.specs.declared.token.Mark.{Mark as Sign}
 use Rattle.tptp_lexer.specs.declared.token.Mark.TheVariants as m
-use Rattle.tptp_lexer.specs.Bytes.{Text, is_lower_alpha, is_upper_alpha, is_numeric, is_alpha_numeric, is_in_line}
+use Rattle.tptp_lexer.specs.Bytes.{Text, is_lower_alpha, is_upper_alpha, is_numeric, is_alpha_numeric}
+use Rattle.tptp_base.specs.Place.{is_no_line_feed}
 use Rattle.tptp_lexer.specs.Comments.{begins_comment, HasNoEnd}
 use Rattle.tptp_lexer.specs.Marks.{mark_text}
 use Rattle.tptp_lexer.specs.Numbers.{is_sign, is_exponent, AreDigits, IsSign, no_sign, one_sign, IsFraction, no_fraction, dot_decimal, IsExponent, no_exponent, exponent, IsNumber, rational, decimal}
@@ -175,9 +176,9 @@ longest_number number after h ends = longest_begun number after h (number_begins
 
 -- ---- comments
 
-pub longest_line : (first : ℕ) (line after : Text) → begins_comment Problem first ≡ true → list_all is_in_line line ≡ true → IsLongest Problem (length (first ∷ line)) ((first ∷ line) ++ 10 ∷ after)
+pub longest_line : (first : ℕ) (line after : Text) → begins_comment Problem first ≡ true → list_all is_no_line_feed line ≡ true → IsLongest Problem (length (first ∷ line)) ((first ∷ line) ++ 10 ∷ after)
 longest_line first line after h all =
-    let len : prefix_len is_in_line ((first ∷ line) ++ 10 ∷ after) ≡ length (first ∷ line) = passes_all is_in_line (first ∷ line) (10 ∷ after) (and_from _ _ (in_line_first Problem first h) all) refl in
+    let len : prefix_len is_no_line_feed ((first ∷ line) ++ 10 ∷ after) ≡ length (first ∷ line) = passes_all is_no_line_feed (first ∷ line) (10 ∷ after) (and_from _ _ (in_line_first Problem first h) all) refl in
     found_longest Problem ((first ∷ line) ++ 10 ∷ after) k.Comment (length (first ∷ line)) (front-line Problem first (line ++ 10 ∷ after) h ∙ ap (Found k.Comment) len)
 
 pub longest_block : (body after : Text) → HasNoEnd (body ++ 42 ∷ []) → IsLongest Problem (length (47 ∷ 42 ∷ (body ++ 42 ∷ 47 ∷ []))) ((47 ∷ 42 ∷ (body ++ 42 ∷ 47 ∷ [])) ++ after)

@@ -17,7 +17,8 @@ use Rattle.tptp_grammar.specs.Faults.{max_nesting}
 use Rattle.tptp_grammar.specs.Laws as laws
 use Rattle.tptp_grammar.proofs.OneAnswer as parsing
 use Rattle.canon_print.specs.Canonical.{canonical_text}
-use Rattle.canon_print.specs.RoundTrip.{AreSame, TextSpells, whole, ParsesAs, ReadsAs}
+use Rattle.canon_print.specs.RoundTrip.{AreSame, TextSpells, ParsesAs, ReadsAs}
+use Rattle.tptp_lexer.specs.Answer.{whole}
 use Rattle.canon_print.proofs.FilesShown.{read_again}
 
 -- a text is all of itself

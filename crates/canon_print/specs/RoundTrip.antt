@@ -1,7 +1,6 @@
 -- Texts that spell items, and items that differ in their places alone.
-use Rattle.std.specs.Prelude.{◌≡◌, ℕ, List, [], length, map, Result, Ok, Err}
+use Rattle.std.specs.Prelude.{◌≡◌, ℕ, List, [], map, Result, Ok, Err}
 use Rattle.tptp_base.specs.declared.place.Place.{Place}
-use Rattle.tptp_base.specs.declared.place.Region.{Region}
 use Rattle.tptp_base.specs.declared.item.Item.{Item}
 use Rattle.tptp_lexer.specs.declared.fault.LexFault.{LexFault}
 use Rattle.tptp_lexer.specs.declared.style.Style.TheVariants.{Problem}
@@ -37,10 +36,6 @@ AreSame items others = map (at_place first_place) items ≡ map (at_place first_
 -- Some text spells the same items again, but for their places.
 abbrev pub SpellsAgain : ℕ → ℕ → List Item → Text → Type 0
 SpellsAgain file limit items text = (again : List Item) × AreSame again items × TextSpells file limit again text
-
--- a text as a region of itself
-abbrev pub whole : Text → Region
-whole text = record { start = 0; end = length text }
 
 -- `parse` gave these items, but for their places, or memory was wanting.
 abbrev pub ParsesAs : List Item → Result (List Item) GrammarFault → Type 0

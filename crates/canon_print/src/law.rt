@@ -5,11 +5,11 @@ ghost use Rattle.tptp_base.specs.declared.read.TheConstants.{FILE_SIZE};
 ghost use Rattle.tptp_lexer.specs.declared.fault.LexFault.{LexFault};
 ghost use Rattle.tptp_lexer.specs.declared.style.Style.TheVariants.{Problem};
 ghost use Rattle.tptp_lexer.specs.declared.token.Tokens.{Tokens};
-ghost use Rattle.tptp_lexer.specs.Answer.{Answers};
+ghost use Rattle.tptp_lexer.specs.Answer.{Answers, whole};
 ghost use Rattle.tptp_lexer.specs.Bytes.{Text};
 ghost use Rattle.tptp_grammar.specs.Faults.{max_nesting};
 ghost use Rattle.canon_print.specs.Canonical.{canonical_text};
-ghost use Rattle.canon_print.specs.RoundTrip.{AreSame, TextSpells, SpellsAgain, whole, ReadsAs};
+ghost use Rattle.canon_print.specs.RoundTrip.{AreSame, TextSpells, SpellsAgain, ReadsAs};
 
 /// What some text spells, the canonical text spells again, but for the places of the items. It nests no deeper than
 /// any text that spells them.

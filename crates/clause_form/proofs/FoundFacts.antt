@@ -14,7 +14,8 @@ use Rattle.clause_form.specs.declared.clause.AtomOf.{AtomOf}
 use Rattle.clause_form.specs.declared.clause.AtomOf.TheVariants.{Pred, Eq as Equation, True, False}
 use Rattle.clause_form.specs.declared.clause.Lit.{Lit}
 use Rattle.clause_form.specs.declared.clause.Clause.{Clause}
-use Rattle.clause_form.specs.ClauseView.{view_of, form_of_atom, signed_form, form_of_lit, open_clause, alone_lit, within}
+use Rattle.clause_form.specs.Norm.{signed}
+use Rattle.clause_form.specs.ClauseView.{view_of, form_of_atom, form_of_lit, open_clause, alone_lit, within}
 use Rattle.clause_form.specs.Paths.{is_plain, plain, all_beside, one_more, each_reaches, reached}
 use Rattle.clause_form.proofs.PathCases.{reached-Leaf, reached-Pick, reached-Each, reached-Under, none_picked, none_each, none_under, lit_back}
 use Rattle.clause_form.specs.Sizes.{norm_size_of}
@@ -68,7 +69,7 @@ over_room as_ cs all r =
     }
 
 -- Literals.
-signed_size : (g : Bool) (a : AtomOf) → is_plain a ≡ true → norm_size_of (signed_form g (form_of_atom a)) ≡ 1
+signed_size : (g : Bool) (a : AtomOf) → is_plain a ≡ true → norm_size_of (signed g (form_of_atom a)) ≡ 1
 signed_size true (Pred p ts) e = norm_size_of-Atom p ts
 signed_size true (Equation l r) e = norm_size_of-Eq l r
 signed_size true True e = cc

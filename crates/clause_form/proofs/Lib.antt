@@ -16,6 +16,7 @@ pub mod Joined
 pub mod MemberKinds
 pub mod NormFacts
 pub mod NormCases
+pub mod NormFits
 pub mod NormShape
 pub mod NormSize
 pub mod NormSorts

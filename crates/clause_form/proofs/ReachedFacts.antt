@@ -18,7 +18,8 @@ use Rattle.clause_form.specs.declared.clause.AtomOf.{AtomOf}
 use Rattle.clause_form.specs.declared.clause.AtomOf.TheVariants.{Pred, Eq as Equation, True, False}
 use Rattle.clause_form.specs.declared.clause.Lit.{Lit}
 use Rattle.clause_form.specs.declared.clause.Clause.{Clause}
-use Rattle.clause_form.specs.ClauseView.{form_of_atom, signed_form, form_of_lit, form_of_lits, within}
+use Rattle.clause_form.specs.Norm.{signed}
+use Rattle.clause_form.specs.ClauseView.{form_of_atom, form_of_lit, form_of_lits, within}
 use Rattle.clause_form.specs.Covers.{at_terms, in_lit}
 use Rattle.clause_form.specs.Paths.{all_beside}
 use Rattle.clause_form.specs.Sizes.{norm_size_of}
@@ -36,7 +37,7 @@ atom_moved by n (Equation l r) = sym (lifted-Eq by n l r)
 atom_moved by n True = rw lifted-And refl
 atom_moved by n False = rw lifted-Or refl
 
-signed_moved : (by n : ℕ) (g : Bool) (a b : Form) → a ≡ lifted by n b → signed_form g a ≡ lifted by n (signed_form g b)
+signed_moved : (by n : ℕ) (g : Bool) (a b : Form) → a ≡ lifted by n b → signed g a ≡ lifted by n (signed g b)
 signed_moved by n true a b e = e
 signed_moved by n false a b e = rw lifted-Not (ap Not e)
 

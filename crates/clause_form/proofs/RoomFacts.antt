@@ -20,7 +20,8 @@ use Rattle.clause_form.specs.declared.clause.AtomOf.{AtomOf}
 use Rattle.clause_form.specs.declared.clause.AtomOf.TheVariants.{Pred, Eq as Equation, True, False}
 use Rattle.clause_form.specs.declared.clause.Lit.{Lit}
 use Rattle.clause_form.specs.declared.clause.Clause.{Clause}
-use Rattle.clause_form.specs.ClauseView.{form_of_atom, signed_form, form_of_lit, form_of_lits}
+use Rattle.clause_form.specs.Norm.{signed}
+use Rattle.clause_form.specs.ClauseView.{form_of_atom, form_of_lit, form_of_lits}
 use Rattle.clause_form.specs.Covers.{in_lit}
 use Rattle.clause_form.specs.Paths.{all_beside}
 use Rattle.clause_form.specs.code.Beside.{moved, segments}
@@ -33,7 +34,7 @@ use Rattle.clause_form.specs.Room.{AreOver}
 
 pub ruleset reach_rules = (lift_reach-Atom, lift_reach-Eq)
 
-same_reach : (by n : ℕ) (g : Bool) (a : Form) → lift_reach by n (signed_form g a) ≡ lift_reach by n a
+same_reach : (by n : ℕ) (g : Bool) (a : Form) → lift_reach by n (signed g a) ≡ lift_reach by n a
 same_reach by n true a = refl
 same_reach by n false a = lift_reach-Not by n a
 
@@ -98,7 +99,7 @@ module _ (w : Vocabulary) (scope : List ℕ) (e f n : ℕ) where
   atom_reaches True fits = (rw lift_reach-And (omega arith), rw (lifted-And, lift_reach-And) (omega arith))
   atom_reaches False fits = (rw lift_reach-Or (omega arith), rw (lifted-Or, lift_reach-Or) (omega arith))
 
-  signed_reaches : (g : Bool) (a : AtomOf) → is_sorted w scope (signed_form g (form_of_atom a)) ≡ true → (lift_reach f n (signed_form g (form_of_atom a)) ≤ length scope + f) × (lift_reach e 0 (lifted f n (signed_form g (form_of_atom a))) ≤ length scope + f + e)
+  signed_reaches : (g : Bool) (a : AtomOf) → is_sorted w scope (signed g (form_of_atom a)) ≡ true → (lift_reach f n (signed g (form_of_atom a)) ≤ length scope + f) × (lift_reach e 0 (lifted f n (signed g (form_of_atom a))) ≤ length scope + f + e)
   signed_reaches true a fits = atom_reaches a fits
   signed_reaches false a fits =
       let inner = atom_reaches a (rw is_sorted-Not at fits) in

@@ -6,7 +6,8 @@ use Rattle.clause_form.specs.declared.clause.AtomOf.{AtomOf}
 use Rattle.clause_form.specs.declared.clause.AtomOf.TheVariants.{Pred, Eq as Equation, True, False}
 use Rattle.clause_form.specs.declared.clause.Lit.{Lit}
 use Rattle.clause_form.specs.declared.clause.Clause.{Clause}
-use Rattle.clause_form.specs.ClauseView.{View, view_of, clause_of, all_there, stated, open_clause, within, form_of_atom, form_of_lit, form_of_lits, signed_form, closed_by, closed, IsLoneFalsehood}
+use Rattle.clause_form.specs.Norm.{signed}
+use Rattle.clause_form.specs.ClauseView.{View, view_of, clause_of, all_there, stated, open_clause, within, form_of_atom, form_of_lit, form_of_lits, closed_by, closed, IsLoneFalsehood}
 use Rattle.clause_form.proofs.ClauseViewFacts.{view_of-Atom, view_of-Eq, view_of-Not, view_of-And, view_of-Or, view_of-All}
 
 atom_view : (a : AtomOf) → (view_of (form_of_atom a)).atom ≡ Some a
@@ -21,7 +22,7 @@ stated_view (Equation l r) = rw view_of-Eq refl
 stated_view True = rw view_of-And refl
 stated_view False = rw view_of-Or refl
 
-signed_view : (g : Bool) (a : AtomOf) → (view_of (signed_form g (form_of_atom a))).lit ≡ Some (record { positive = g; atom = a })
+signed_view : (g : Bool) (a : AtomOf) → (view_of (signed g (form_of_atom a))).lit ≡ Some (record { positive = g; atom = a })
 signed_view true a = stated_view a
 signed_view false a = rw (view_of-Not, atom_view a) refl
 
@@ -32,7 +33,7 @@ lits_view : (lits : List Lit) → all_there (map (λ (u : View). u.lit) (map vie
 lits_view [] = refl
 lits_view (l ∷ lits) = rw (lit_view l, lits_view lits) refl
 
-lone_view : (g : Bool) (a : AtomOf) → (record { positive = g; atom = a } ≡ stated False → ⊥) → (view_of (signed_form g (form_of_atom a))).clause ≡ Some (open_clause (record { positive = g; atom = a } ∷ []))
+lone_view : (g : Bool) (a : AtomOf) → (record { positive = g; atom = a } ≡ stated False → ⊥) → (view_of (signed g (form_of_atom a))).clause ≡ Some (open_clause (record { positive = g; atom = a } ∷ []))
 lone_view true (Pred p ts) other = rw view_of-Atom refl
 lone_view true (Equation l r) other = rw view_of-Eq refl
 lone_view true True other = rw view_of-And refl

@@ -8,6 +8,7 @@ use Rattle.clause_form.specs.declared.clause.AtomOf.{AtomOf}
 use Rattle.clause_form.specs.declared.clause.AtomOf.TheVariants.{Pred, Eq as Equation, True, False}
 use Rattle.clause_form.specs.declared.clause.Lit.{Lit}
 use Rattle.clause_form.specs.declared.clause.Clause.{Clause}
+use Rattle.clause_form.specs.Norm.{signed}
 use Rattle.fof_terms.specs.declared.form.Form.TheOpen as form
 
 -- what a formula is as an atom, as a literal, as a disjunction of literals and as a clause, where it is one
@@ -86,12 +87,8 @@ form_of_atom (Equation l r) = Eq l r
 form_of_atom True = And []
 form_of_atom False = Or []
 
-abbrev pub signed_form : Bool → Form → Form
-signed_form true a = a
-signed_form false a = Not a
-
 abbrev pub form_of_lit : Lit → Form
-form_of_lit l = signed_form l.positive (form_of_atom l.atom)
+form_of_lit l = signed l.positive (form_of_atom l.atom)
 
 -- one literal alone is itself
 abbrev pub form_of_lits : List Lit → Form

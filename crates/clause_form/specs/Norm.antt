@@ -1,6 +1,6 @@
 -- The normal form of a formula (negation normal form, with members of one kind joined, truth and falsehood gone, and
 -- quantifiers without use dropped), and of its negation.
-use Rattle.std.specs.Prelude.{ℕ, Bool, true, false, not, List, [], ◌∷◌, map, flat_map, if◌then◌else◌}
+use Rattle.std.specs.Prelude.{ℕ, ◌≡◌, ◌≤◌, Bool, true, false, not, List, [], ◌∷◌, map, flat_map, if◌then◌else◌}
 use Rattle.std.specs.List.{list_any}
 use Rattle.fof_terms.specs.Instance.{instance_at}
 use Rattle.fof_terms.specs.Variables.{has_variable}
@@ -8,6 +8,7 @@ use Rattle.fof_terms.specs.declared.term.Term.{Var}
 use Rattle.fof_terms.specs.declared.form.Form.{Form, Atom, Eq, Not, And, Or, Imp, Iff, All, Ex}
 use Rattle.fof_terms.specs.declared.form.Form.TheViews.{out-Form}
 use Rattle.fof_terms.specs.declared.form.Form.TheFolds.{fold-Form}
+use Rattle.clause_form.specs.Sizes.{norm_size_of}
 use Rattle.fof_terms.specs.declared.form.Form.TheOpen as form
 
 -- the formula, or under minus its negation
@@ -79,3 +80,8 @@ norm_step (form.Ex s a) g = quantified (not g) s (a g)
 -- the normal form of the formula, or under minus of its negation
 unfoldable pub norm_of : Bool → Form → Form
 norm_of g a = fold-Form (Bool → Form) norm_step a g
+
+-- The rules' normal form: a formula whose norm size is over 100,000 has none.
+pub record HasNorm (a made : Form) : Type 0 where
+  pub small : norm_size_of a ≤ 100000
+  pub same : norm_of true a ≡ made

@@ -6,6 +6,7 @@ use Rattle.std.specs.Option.{option_map}
 use Rattle.fof_terms.specs.Lift.{lifted_term}
 use Rattle.fof_terms.specs.declared.form.Form.{Form}
 use Rattle.fof_terms.specs.declared.form.Form.TheViews.{out-Form}
+use Rattle.clause_form.specs.declared.path.Parent.{Parent}
 use Rattle.clause_form.specs.declared.path.Path.{Path}
 use Rattle.clause_form.specs.declared.path.Path.TheFolds.{fold-Path}
 use Rattle.clause_form.specs.declared.clause.AtomOf.{AtomOf}
@@ -81,3 +82,7 @@ reached = fold-Path (Form → Option Clause) path_step
 -- the clause is one of the formula's, by some path
 abbrev pub IsReached : Form → Clause → Type 0
 IsReached a c = (p : Path) × (reached p a ≡ Some c)
+
+-- the formulas of the parents
+abbrev pub forms_of : List Parent → List Form
+forms_of parents = map (λ (p : Parent). p.form) parents

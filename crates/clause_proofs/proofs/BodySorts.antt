@@ -13,7 +13,8 @@ use Rattle.fof_terms.proofs.SortsFacts.{is_sorted-Atom, is_sorted-Eq, is_sorted-
 use Rattle.clause_form.specs.declared.clause.AtomOf.{AtomOf}
 use Rattle.clause_form.specs.declared.clause.AtomOf.TheVariants.{Pred, Eq as Equation, True, False}
 use Rattle.clause_form.specs.declared.clause.Lit.{Lit}
-use Rattle.clause_form.specs.ClauseView.{form_of_atom, form_of_lit, signed_form, closed_by}
+use Rattle.clause_form.specs.Norm.{signed}
+use Rattle.clause_form.specs.ClauseView.{form_of_atom, form_of_lit, closed_by}
 use Rattle.clause_form.specs.Covers.{is_sorted_atom, negated, AreSorted}
 use Rattle.clause_proofs.specs.Bodies.{body_of}
 
@@ -32,7 +33,7 @@ module _ (w : Vocabulary) where
     atom_fits True = is_sorted-And w v []
     atom_fits False = is_sorted-Or w v []
 
-    signed_fits : (g : Bool) (a : AtomOf) → is_sorted w v (signed_form g (form_of_atom a)) ≡ is_sorted_atom w v a
+    signed_fits : (g : Bool) (a : AtomOf) → is_sorted w v (signed g (form_of_atom a)) ≡ is_sorted_atom w v a
     signed_fits true a = atom_fits a
     signed_fits false a = is_sorted-Not w v (form_of_atom a) ∙ atom_fits a
 
@@ -59,7 +60,7 @@ module _ (w : Vocabulary) where
     atom_depth True = binder_depth-And []
     atom_depth False = binder_depth-Or []
 
-    signed_depth : (g : Bool) (a : AtomOf) → binder_depth (signed_form g (form_of_atom a)) ≡ 0
+    signed_depth : (g : Bool) (a : AtomOf) → binder_depth (signed g (form_of_atom a)) ≡ 0
     signed_depth true a = atom_depth a
     signed_depth false a = binder_depth-Not (form_of_atom a) ∙ atom_depth a
 
@@ -69,7 +70,7 @@ module _ (w : Vocabulary) where
     pub place_sorted : (lits : List Lit) (i : ℕ) (l : Lit) → IsScope w v → AreSorted w v lits → slice_get lits i ≡ Some l → Sorted w v (form_of_lit l)
     place_sorted lits i l sc sorted at = lit_sorted l sc (member_of (λ (k : Lit). is_sorted_atom w v k.atom ≡ true) lits i l (recursion_from_All (λ (k : Lit). is_sorted_atom w v k.atom ≡ true) lits sorted.fits) at)
 
-    signed_same : (g x : Bool) (a : AtomOf) → is_sorted w v (signed_form g (form_of_atom a)) ≡ is_sorted w v (signed_form x (form_of_atom a))
+    signed_same : (g x : Bool) (a : AtomOf) → is_sorted w v (signed g (form_of_atom a)) ≡ is_sorted w v (signed x (form_of_atom a))
     signed_same g x a = signed_fits g a ∙ sym (signed_fits x a)
 
     pub negated_sorted : (l : Lit) → Sorted w v (form_of_lit l) → Sorted w v (form_of_lit (negated l))

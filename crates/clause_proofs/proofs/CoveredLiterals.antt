@@ -11,7 +11,8 @@ use Rattle.fof_terms.proofs.Scoped.{not_sorted, sorted_of_not, sorted_of_eq, mem
 use Rattle.clause_form.specs.declared.clause.AtomOf.{AtomOf}
 use Rattle.clause_form.specs.declared.clause.AtomOf.TheVariants.{Pred, Eq as Equation, True, False}
 use Rattle.clause_form.specs.declared.clause.Lit.{Lit}
-use Rattle.clause_form.specs.ClauseView.{form_of_atom, form_of_lit, signed_form}
+use Rattle.clause_form.specs.Norm.{signed}
+use Rattle.clause_form.specs.ClauseView.{form_of_atom, form_of_lit}
 use Rattle.clause_form.specs.Covers.{IsSame, Denies, IsAbsurd, IsCovered}
 use Rattle.kernel.specs.Statements.{Statements}
 use Rattle.kernel.specs.Proves.{Proves}
@@ -38,7 +39,7 @@ module _ (w : Vocabulary) (v : List ℕ) where
       by_not_e t v h (Hyp n) _ (body o) (by_hyp t v h n (Not (body o)) (not_sorted w v 2147483647 (body o) g.sorted) denied)
       (injected_shows t v h o.is_or o.clause.lits k l own g.alone g.sorted at (shows fs h first))
 
-  signed_sorted : (g : Bool) (a : Form) → Sorted w v (signed_form g a) → Sorted w v a
+  signed_sorted : (g : Bool) (a : Form) → Sorted w v (signed g a) → Sorted w v a
   signed_sorted true a s = s
   signed_sorted false a s = sorted_of_not w v 2147483647 a s
 
@@ -59,8 +60,8 @@ module _ (w : Vocabulary) (v : List ℕ) where
   refutes_absurd n g l p a s fs h first denied = a (theory_of w fs) v h s first
 
 -- literals that are false by their form
-signed_at : (g x : Bool) (a b : AtomOf) → g ≡ x → a ≡ b → signed_form g (form_of_atom a) ≡ signed_form x (form_of_atom b)
-signed_at g x a b e f = ap (λ (y : Bool). signed_form y (form_of_atom a)) e ∙ ap (λ (c : AtomOf). signed_form x (form_of_atom c)) f
+signed_at : (g x : Bool) (a b : AtomOf) → g ≡ x → a ≡ b → signed g (form_of_atom a) ≡ signed x (form_of_atom b)
+signed_at g x a b e f = ap (λ (y : Bool). signed y (form_of_atom a)) e ∙ ap (λ (c : AtomOf). signed x (form_of_atom c)) f
 
 hyp_at : (t : Statements) (v : List ℕ) (h : List Form) (a b : Form) → Sorted t.vocabulary v a → slice_get h 0 ≡ Some a → a ≡ b → Proves t v h (Hyp 0) b
 hyp_at t v h a b s at e = subst (λ (c : Form). Proves t v h (Hyp 0) c) e (by_hyp t v h 0 a s at)

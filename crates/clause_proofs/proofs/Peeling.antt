@@ -17,7 +17,8 @@ use Rattle.fof_terms.proofs.Walks.{TermWalk, staying_term, lifting_term, placing
 use Rattle.clause_form.specs.declared.clause.AtomOf.{AtomOf}
 use Rattle.clause_form.specs.declared.clause.AtomOf.TheVariants.{Pred, Eq as Equation, True, False}
 use Rattle.clause_form.specs.declared.clause.Lit.{Lit}
-use Rattle.clause_form.specs.ClauseView.{form_of_atom, form_of_lit, signed_form, closed_by}
+use Rattle.clause_form.specs.Norm.{signed}
+use Rattle.clause_form.specs.ClauseView.{form_of_atom, form_of_lit, closed_by}
 use Rattle.clause_form.specs.Covers.{at_terms, in_lit, lit_image, AreSorted}
 use Rattle.clause_form.specs.Images.{image, IsImages}
 use Rattle.clause_form.proofs.ImagesFacts.{image-Var, image-App, AgreeOn}
@@ -128,7 +129,7 @@ module _ (x : Term) (d : ℕ) where
   instance_atom True = instance_at-And x d []
   instance_atom False = instance_at-Or x d []
 
-  instance_signed : (g : Bool) (a : AtomOf) → instance_at x d (signed_form g (form_of_atom a)) ≡ signed_form g (form_of_atom (at_terms (instance_term x d) a))
+  instance_signed : (g : Bool) (a : AtomOf) → instance_at x d (signed g (form_of_atom a)) ≡ signed g (form_of_atom (at_terms (instance_term x d) a))
   instance_signed true a = instance_atom a
   instance_signed false a = rw (instance_at-Not, instance_atom a) refl
 

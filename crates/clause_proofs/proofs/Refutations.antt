@@ -8,7 +8,8 @@ use Rattle.fof_terms.proofs.Scoped.{not_sorted, sorted_of_not, or_sorted}
 use Rattle.clause_form.specs.declared.clause.AtomOf.{AtomOf}
 use Rattle.clause_form.specs.declared.clause.AtomOf.TheVariants.{Pred, Eq as Equation, True, False}
 use Rattle.clause_form.specs.declared.clause.Lit.{Lit}
-use Rattle.clause_form.specs.ClauseView.{form_of_atom, form_of_lit, signed_form}
+use Rattle.clause_form.specs.Norm.{signed}
+use Rattle.clause_form.specs.ClauseView.{form_of_atom, form_of_lit}
 use Rattle.clause_form.specs.Covers.{IsSame, IsSameAtom, AreComplementary, IsCovered, turned_atom, negated}
 use Rattle.kernel.specs.Statements.{Statements}
 use Rattle.kernel.specs.Proves.{Proves}
@@ -22,22 +23,22 @@ use Rattle.clause_proofs.specs.Refuting.{theory_of, Refutes, ShowsUnder, IsDenia
 use Rattle.clause_proofs.specs.code.Refuting.{ShowsFrom, RefutesUnder, AllRefute}
 
 positive_form : (l : Lit) → l.positive ≡ true → form_of_lit l ≡ form_of_atom l.atom
-positive_form l e = ap (λ (g : Bool). signed_form g (form_of_atom l.atom)) e
+positive_form l e = ap (λ (g : Bool). signed g (form_of_atom l.atom)) e
 
 negative_form : (l : Lit) → l.positive ≡ false → form_of_lit l ≡ Not (form_of_atom l.atom)
-negative_form l e = ap (λ (g : Bool). signed_form g (form_of_atom l.atom)) e
+negative_form l e = ap (λ (g : Bool). signed g (form_of_atom l.atom)) e
 
 pub denial_positive : (l : Lit) (p : Proof) → l.positive ≡ true → IsDenial l p (NotI (form_of_atom l.atom) p)
 denial_positive l p e t v h s shown =
     let form = positive_form l e in
-    let other : form_of_lit (negated l) ≡ Not (form_of_atom l.atom) = ap (λ (g : Bool). signed_form (not g) (form_of_atom l.atom)) e in
+    let other : form_of_lit (negated l) ≡ Not (form_of_atom l.atom) = ap (λ (g : Bool). signed (not g) (form_of_atom l.atom)) e in
     subst (λ (a : Form). Proves t v h (NotI (form_of_atom l.atom) p) a) (sym other)
     (by_not_i t v h (form_of_atom l.atom) p (subst (Sorted t.vocabulary v) form s) (subst (λ (a : Form). Proves t v (a ∷ h) p (Or [])) form shown))
 
 pub denial_negative : (l : Lit) (p : Proof) → l.positive ≡ false → IsDenial l p (Raa (form_of_atom l.atom) p)
 denial_negative l p e t v h s shown =
     let form = negative_form l e in
-    let other : form_of_lit (negated l) ≡ form_of_atom l.atom = ap (λ (g : Bool). signed_form (not g) (form_of_atom l.atom)) e in
+    let other : form_of_lit (negated l) ≡ form_of_atom l.atom = ap (λ (g : Bool). signed (not g) (form_of_atom l.atom)) e in
     let sorted = sorted_of_not t.vocabulary v 2147483647 (form_of_atom l.atom) (subst (Sorted t.vocabulary v) form s) in
     subst (λ (a : Form). Proves t v h (Raa (form_of_atom l.atom) p) a) (sym other)
     (by_raa t v h (form_of_atom l.atom) p sorted (subst (λ (a : Form). Proves t v (a ∷ h) p (Or [])) form shown))

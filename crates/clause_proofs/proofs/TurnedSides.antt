@@ -17,7 +17,8 @@ use Rattle.fof_terms.proofs.Walks.{lifted_sort}
 use Rattle.clause_form.specs.declared.clause.AtomOf.{AtomOf}
 use Rattle.clause_form.specs.declared.clause.AtomOf.TheVariants.{Pred, Eq as Equation, True, False}
 use Rattle.clause_form.specs.declared.clause.Lit.{Lit}
-use Rattle.clause_form.specs.ClauseView.{form_of_atom, form_of_lit, signed_form}
+use Rattle.clause_form.specs.Norm.{signed}
+use Rattle.clause_form.specs.ClauseView.{form_of_atom, form_of_lit}
 use Rattle.clause_form.specs.Covers.{IsSame, IsSameAtom, turned_atom, turned}
 use Rattle.kernel.specs.Statements.{Statements}
 use Rattle.kernel.specs.Proves.{Proves}
@@ -110,7 +111,7 @@ pub no_then : {X : Type 0} (b : Bool) → b ≡ false → (IsTrue b ↔ X) → X
 no_then b e h x = let t : IsTrue b = h.1 x in cc
 
 module _ (w : Vocabulary) (v : List ℕ) where
-  signed_sorted : (g : Bool) (a : Form) → Sorted w v (signed_form g a) → Sorted w v a
+  signed_sorted : (g : Bool) (a : Form) → Sorted w v (signed g a) → Sorted w v a
   signed_sorted true a s = s
   signed_sorted false a s = sorted_of_not w v 2147483647 a s
 
@@ -139,14 +140,14 @@ same_sign k l (inr e) = sym (ap (λ (x : Lit). x.positive) e)
 module _ (w : Vocabulary) (v : List ℕ) (n : ℕ) (k l : Lit) where
   pub positive_shows : (p : Proof) → k.positive ≡ true → IsSame k l → ShowsFrom w v n (form_of_atom k.atom) (form_of_atom l.atom) p → ShowsFrom w v n (form_of_lit k) (form_of_lit l) p
   positive_shows p e same shows fs h at =
-      let fk : form_of_lit k ≡ form_of_atom k.atom = ap (λ (g : Bool). signed_form g (form_of_atom k.atom)) e in
-      let fl : form_of_lit l ≡ form_of_atom l.atom = ap (λ (g : Bool). signed_form g (form_of_atom l.atom)) (same_sign k l same ∙ e) in
+      let fk : form_of_lit k ≡ form_of_atom k.atom = ap (λ (g : Bool). signed g (form_of_atom k.atom)) e in
+      let fl : form_of_lit l ≡ form_of_atom l.atom = ap (λ (g : Bool). signed g (form_of_atom l.atom)) (same_sign k l same ∙ e) in
       subst (λ (a : Form). Proves (theory_of w fs) v h p a) (sym fl) (shows fs h (at ∙ ap Some fk))
 
   pub negative_shows : (p : Proof) → k.positive ≡ false → IsSame k l → ShowsFrom w v n (Not (form_of_atom k.atom)) (Not (form_of_atom l.atom)) p → ShowsFrom w v n (form_of_lit k) (form_of_lit l) p
   negative_shows p e same shows fs h at =
-      let fk : form_of_lit k ≡ Not (form_of_atom k.atom) = ap (λ (g : Bool). signed_form g (form_of_atom k.atom)) e in
-      let fl : form_of_lit l ≡ Not (form_of_atom l.atom) = ap (λ (g : Bool). signed_form g (form_of_atom l.atom)) (same_sign k l same ∙ e) in
+      let fk : form_of_lit k ≡ Not (form_of_atom k.atom) = ap (λ (g : Bool). signed g (form_of_atom k.atom)) e in
+      let fl : form_of_lit l ≡ Not (form_of_atom l.atom) = ap (λ (g : Bool). signed g (form_of_atom l.atom)) (same_sign k l same ∙ e) in
       subst (λ (a : Form). Proves (theory_of w fs) v h p a) (sym fl) (shows fs h (at ∙ ap Some fk))
 
   same_lit : k.positive ≡ l.positive → k.atom ≡ l.atom → k ≡ l

@@ -1,14 +1,8 @@
 -- The rule `norm`: a parent has the line's normal form. A formula whose norm size is over 100,000 has none here.
-use Rattle.std.specs.Prelude.{ℕ, ◌≡◌, ◌<◌, ◌≤◌, true, List, Some, slice_get}
+use Rattle.std.specs.Prelude.{ℕ, ◌≡◌, ◌<◌, List, Some, slice_get}
 use Rattle.fof_terms.specs.declared.form.Form.{Form}
 use Rattle.clause_form.specs.declared.path.Parent.{Parent}
-use Rattle.clause_form.specs.Norm.{norm_of}
-use Rattle.clause_form.specs.Sizes.{norm_size_of}
-
--- the formula has this normal form
-pub record HasNorm (a made : Form) : Type 0 where
-  pub small : norm_size_of a ≤ 100000
-  pub same : norm_of true a ≡ made
+use Rattle.clause_form.specs.Norm.{HasNorm}
 
 -- the parent of that number has this normal form
 pub record NormsAlike (parents : List Parent) (made : Form) (a : ℕ) : Type 0 where

@@ -13,7 +13,8 @@ use Rattle.tptp_grammar.specs.Files.{Through, last_token, dropped, token, IsFile
 use Rattle.tptp_grammar.specs.Solid.{Placed}
 use Rattle.tptp_grammar.specs.Tokens.{Tokens}
 use Rattle.szs_report.specs.Region.{region_of}
-use Rattle.derivation_text.specs.Texts.{IsRegionLexed, IsParsed, RegionSpells}
+use Rattle.tptp_grammar.specs.Texts.{IsParsed}
+use Rattle.derivation_text.specs.Texts.{IsRegionLexed, RegionSpells}
 
 cut_few : {T : Type 0} {style : Style} {item : Token → ℕ → T} {at end : ℕ} {text rest : List ℕ} {items : List T} → Cut style item at text items end rest → length items ≤ length text
 cut_few here = omega arith

@@ -29,7 +29,8 @@ use Rattle.derivation_text.specs.declared.derivation.Derivation.{Derivation}
 use Rattle.derivation_text.specs.declared.fault.DerivationFault.{DerivationFault}
 use Rattle.derivation_text.specs.declared.fault.DerivationFault.TheVariants as fault
 use Rattle.derivation_text.specs.Derivations.{AreDerivation, IsItemsFault, IsDerivation, IsDerivationFault, denied_forms, names_of}
-use Rattle.derivation_text.specs.Texts.{IsRegionLexed, IsParsed, RegionSpells, IsTextFault}
+use Rattle.tptp_grammar.specs.Texts.{IsParsed}
+use Rattle.derivation_text.specs.Texts.{IsRegionLexed, RegionSpells, IsTextFault}
 use Rattle.derivation_text.specs.Wants.{IsWant}
 
 -- one of the two is want of memory, or they are the same

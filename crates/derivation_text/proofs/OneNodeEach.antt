@@ -2,8 +2,7 @@
 use Rattle.std.proofs.Common.{◌≡◌, ℕ, ◌+◌, Bool, true, false, cond, List, [], ◌∷◌, length, Option, Some, None, Ok, Err, refl, sym, ◌∙◌, ap, arith}
 use Rattle.std.specs.Bool.{beq}
 use Rattle.tptp_base.specs.declared.name.Name.{Name}
-use Rattle.tptp_base.specs.declared.item.Role.{Role}
-use Rattle.tptp_base.specs.declared.item.Role.TheVariants.{Typing}
+use Rattle.tptp_base.specs.Roles.{is_typing}
 use Rattle.tptp_base.specs.declared.item.Annotated.{Annotated}
 use Rattle.tptp_base.specs.declared.item.Item.{Item}
 use Rattle.tptp_base.specs.declared.item.Item.TheVariants as it
@@ -15,10 +14,10 @@ use Rattle.sort_check.specs.declared.line.Line.{Line}
 use Rattle.sort_check.specs.declared.line.TextKind.{TextKind}
 use Rattle.sort_check.specs.Outcomes.{Outcome, mapped}
 use Rattle.sort_check.specs.Symbols.{Text}
-use Rattle.sort_check.specs.Texts.{Declared, Reading, is_type, at_line, line_of, line_form, line_item, with_line, lines_from, type_lines, only_vocabulary, denoted}
+use Rattle.sort_check.specs.Texts.{Declared, Reading, at_line, line_of, line_form, line_item, with_line, lines_from, type_lines, only_vocabulary, denoted}
 use Rattle.sort_check.proofs.Stepping.{at_ok, then_ok, mapped_ok}
 use Rattle.tstp_graph.specs.declared.shape.Node.{Node}
-use Rattle.tstp_graph.specs.Lines.{is_typing, formula_of, with_formula_name, names_in}
+use Rattle.tstp_graph.specs.Lines.{formula_of, with_formula_name, names_in}
 use Rattle.tstp_graph.specs.Meaning.{Means}
 use Rattle.tstp_graph.specs.Nodes.{nodes_of}
 use Rattle.tstp_graph.proofs.OneNodeEach.{one_node_each}
@@ -26,10 +25,6 @@ use Rattle.tstp_graph.proofs.OneNodeEach.{one_node_each}
 abbrev pub has : {X : Type 0} → Option X → Bool
 has None = false
 has (Some x) = true
-
-same_type : (role : Role) → is_typing role ≡ is_type role
-same_type Typing = refl
-same_type other = refl
 
 -- ---- a formula that is a line denotes something
 
@@ -47,13 +42,11 @@ none_has s t found e = at_ok {E = SortFault} (λ (x : Option Line) (u : Reading)
 alike : (kind : TextKind) (names : List Text) (place : ℕ) (i : Item) (s t : Reading) (found : Option Line) → line_item kind names place i s ≡ Ok (found, t) → has (formula_of false i) ≡ has found
 alike kind names place (it.Comment text) s t found k = sym (none_has s t found k)
 alike kind names place (it.Include i) s t found k = sym (none_has s t found k)
-alike kind names place (it.Formula a) s t found k = by (is_type a.role) (is_typing a.role) (same_type a.role) k
+alike kind names place (it.Formula a) s t found k = by (is_typing a.role) k
   where
-    by : (b c : Bool) → c ≡ b → ◌≡◌ {A = Outcome SortFault Reading (Option Line)} (cond b (Ok (None, s)) (at_line a (mapped (λ form. Some (line_of place a form)) (line_form kind names a s)))) (Ok (found, t)) → has (cond (beq c false) (Some a) None) ≡ has found
-    by true true same k = sym (none_has s t found k)
-    by false false same k = sym (at_has place a (line_form kind names a s) found t k)
-    by true false same k = absurd cc
-    by false true same k = absurd cc
+    by : (b : Bool) → ◌≡◌ {A = Outcome SortFault Reading (Option Line)} (cond b (Ok (None, s)) (at_line a (mapped (λ form. Some (line_of place a form)) (line_form kind names a s)))) (Ok (found, t)) → has (cond (beq b false) (Some a) None) ≡ has found
+    by true k = sym (none_has s t found k)
+    by false k = sym (at_has place a (line_form kind names a s) found t k)
 
 -- ---- as many nodes as lines
 

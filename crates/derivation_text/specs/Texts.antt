@@ -5,26 +5,19 @@ use Rattle.tptp_base.specs.declared.item.Item.{Item}
 use Rattle.tptp_lexer.specs.declared.fault.LexFault.{LexFault}
 use Rattle.tptp_lexer.specs.declared.style.Style.TheVariants.{Derivation}
 use Rattle.tptp_lexer.specs.declared.token.Tokens.{Tokens}
-use Rattle.tptp_grammar.specs.declared.fault.GrammarFault.{GrammarFault}
+use Rattle.tptp_grammar.specs.Texts.{IsParsed, SpellsText}
 use Rattle.szs_report.specs.Region.{region_of}
 use Rattle.derivation_text.specs.declared.fault.DerivationFault.{DerivationFault}
 use Rattle.tptp_lexer.specs.Answer as lexer
-use Rattle.tptp_grammar.specs.Answers as parser
 use Rattle.derivation_text.specs.declared.fault.DerivationFault.TheVariants as fault
 
 -- the part has these tokens, or the lexer's first fault
 abbrev pub IsRegionLexed : List ℕ → Result Tokens LexFault → Type 0
 IsRegionLexed text answer = lexer.Answers 0 text (region_of text) Derivation answer
 
--- the tokens spell these items, or they have the parser's first fault
-abbrev pub IsParsed : Tokens → Result (List Item) GrammarFault → Type 0
-IsParsed tokens answer = parser.Answers tokens.items tokens.end answer
-
--- The text spells the items, nested no deeper than the limit.
-pub record RegionSpells (text : List ℕ) (items : List Item) : Type 0 where
-  pub tokens : Tokens
-  pub lexed : IsRegionLexed text (Ok tokens)
-  pub parsed : IsParsed tokens (Ok items)
+-- the part spells the items, nested no deeper than the limit
+abbrev pub RegionSpells : List ℕ → List Item → Type 0
+RegionSpells text items = SpellsText 0 text (region_of text) Derivation items
 
 -- Why a text spells nothing: the first fault of its tokens, or else that of its items. Want of memory is never ruled
 -- out.

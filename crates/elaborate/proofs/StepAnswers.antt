@@ -21,7 +21,8 @@ use Rattle.skolem_fresh.specs.declared.just.SkolemJust.{SkolemJust}
 use Rattle.split_defs.specs.DefinitionRule.{Defines, IsDefinitionStep}
 use Rattle.split_defs.specs.DefinitionSearch.{IsFoundDefinition}
 use Rattle.split_defs.specs.SplitRule.{IsSplitStep}
-use Rattle.split_defs.specs.SplitSearch.{ShowsSplit, forms_of}
+use Rattle.clause_form.specs.Paths.{forms_of}
+use Rattle.split_defs.specs.SplitSearch.{ShowsSplit}
 use Rattle.split_defs.proofs.SplitSearchFacts.{split_holds}
 use Rattle.split_defs.specs.declared.just.SplitJust.{SplitJust}
 use Rattle.kernel.specs.declared.entry.Entry.{Entry}

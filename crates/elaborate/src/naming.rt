@@ -7,7 +7,7 @@ ghost use Rattle.skolem_fresh.specs.ChoiceRule.{IsChoiceStep};
 ghost use Rattle.skolem_fresh.specs.SkolemRule.{IsSkolemStep};
 ghost use Rattle.split_defs.specs.DefinitionRule.{IsDefinitionStep};
 ghost use Rattle.split_defs.specs.SplitRule.{IsSplitStep};
-ghost use Rattle.split_defs.specs.SplitSearch.{forms_of};
+ghost use Rattle.clause_form.specs.Paths.{forms_of};
 ghost use Rattle.elaborate.specs.code.Proofs.{IsByEntries};
 
 use clause_form::Parent;

@@ -42,7 +42,9 @@ file_few (comment more) = let few = file_few more in omega (arith, few)
 file_few (input is through more) = let few = file_few more in let less = through_few through in omega (arith, few, less)
 
 pub spelled_few : (number : ℕ) (text : Text) (items : List Item) → IsSpelled number text items → length items ≤ length text
-spelled_few number text items (tokens, (fits, (offset, cut, end)), (us, file, within)) =
+spelled_few number text items spells =
+    let (fits, (offset, cut, end)) = spells.lexed in
+    let (us, file, within) = spells.parsed in
     let bytes = cut_few cut in
     let entries = file_few file in
     omega (arith, bytes, entries, range_length text 0 (length text) (omega arith))

@@ -15,7 +15,8 @@ use Rattle.tptp_grammar.proofs.OneAnswer as parsing
 use Rattle.include_resolve.specs.declared.fault.TextFault.{TextFault}
 use Rattle.include_resolve.specs.declared.fault.TextFault.TheVariants.{Lex, Grammar}
 use Rattle.include_resolve.specs.Names.{Text}
-use Rattle.include_resolve.specs.Texts.{whole, HasTokens, IsSpelled, IsGrammarFault, IsFaulty}
+use Rattle.include_resolve.specs.Texts.{HasTokens, IsSpelled, IsGrammarFault, IsFaulty}
+use Rattle.tptp_lexer.specs.Answer.{whole}
 
 -- ---- answers that are no want of memory
 
@@ -104,17 +105,17 @@ module _ (number : ℕ) (text : Text) where
   no_tokens t f has h = not_lexed t h.fault h.some (lex_one (Ok t) (Err h.fault) has h.first)
 
   pub one_spelled : (xs ys : List Item) → IsSpelled number text xs → IsSpelled number text ys → xs ≡ ys
-  one_spelled xs ys (t, has, h) (u, also, k) =
-      let same = one_tokens u t also has in
-      one_read xs ys (parsing.one t.items t.end (Ok xs) (Ok ys) h (subst (λ (v : Tokens). parser.Answers v.items v.end (Ok ys)) same k))
+  one_spelled xs ys s r =
+      let same = one_tokens r.tokens s.tokens r.lexed s.lexed in
+      one_read xs ys (parsing.one s.tokens.items s.tokens.end (Ok xs) (Ok ys) s.parsed (subst (λ (v : Tokens). parser.Answers v.items v.end (Ok ys)) same r.parsed))
 
   first_of : (t : Tokens) (f : TextFault) → HasTokens number text t → (k : IsTokenFault f) → parser.Answers t.items t.end (Err k.fault)
   first_of t f has k = subst (λ (v : Tokens). parser.Answers v.items v.end (Err k.fault)) (one_tokens k.tokens t k.has has) k.first
 
   pub not_spelled : (xs : List Item) (f : TextFault) → IsSpelled number text xs → IsFaulty number text f → ⊥
-  not_spelled xs f (t, has, h) faulty = elim (fault_kind f faulty) [
-    | inl k ↦ no_tokens t f has k
-    | inr k ↦ not_read xs k.fault k.some (parsing.one t.items t.end (Ok xs) (Err k.fault) h (first_of t f has k))
+  not_spelled xs f s faulty = elim (fault_kind f faulty) [
+    | inl k ↦ no_tokens s.tokens f s.lexed k
+    | inr k ↦ not_read xs k.fault k.some (parsing.one s.tokens.items s.tokens.end (Ok xs) (Err k.fault) s.parsed (first_of s.tokens f s.lexed k))
   ]
 
   pub one_fault : (f g : TextFault) → IsFaulty number text f → IsFaulty number text g → f ≡ g

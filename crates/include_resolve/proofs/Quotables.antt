@@ -39,8 +39,10 @@ quotable_file (Formula annotated) all = tt
 quotable_file (Comment text) all = tt
 
 pub spelled_quotable : (number : ℕ) (text : Text) (items : List Item) → IsSpelled number text items → All HasQuotableFile items
-spelled_quotable number text items (tokens, (fits, (offset, cut, end)), (us, file, within)) =
-    let names = spelled_names ProblemStyle number text _ _ tokens.items offset [] items cut (us, file) in
+spelled_quotable number text items spells =
+    let (fits, (offset, cut, end)) = spells.lexed in
+    let (us, file, within) = spells.parsed in
+    let names = spelled_names ProblemStyle number text _ _ spells.tokens.items offset [] items cut (us, file) in
     All-weaker (λ (item : Item). AreQuotable (names_of_item item)) HasQuotableFile quotable_file items
     (All-from_recursion (λ (item : Item). AreQuotable (names_of_item item)) items (quotable_in_each names_of_item items names))
 

@@ -57,7 +57,10 @@ file_placed number (input {i = i} {t = t} {place = place} {items = items} {ts = 
     All-cons (IsOfFile number) i items (item_placed number is (All-head (IsInFile number) (t, place) ts all)) (file_placed number more (through_placed number through (All-tail (IsInFile number) (t, place) ts all)))
 
 spelled_placed : (number : ℕ) (text : Text) (items : List Item) → IsSpelled number text items → All (IsOfFile number) items
-spelled_placed number text items (tokens, (fits, (offset, cut, end)), (us, file, within)) = file_placed number file (cut_placed number (λ t k. refl) cut)
+spelled_placed number text items spells =
+    let (fits, (offset, cut, end)) = spells.lexed in
+    let (us, file, within) = spells.parsed in
+    file_placed number file (cut_placed number (λ t k. refl) cut)
 
 -- ---- of a walk
 

@@ -33,7 +33,8 @@ use Rattle.include_resolve.specs.Resolved as walk
 use Rattle.include_resolve.specs.Resolved.{Walk, start, IsFirstFile, first, later, IsRead, Opens, Reads, Replaces, TakesItem, inside, beyond}
 use Rattle.include_resolve.specs.Laws.{HasAnswer}
 use Rattle.include_resolve.specs.Selection.{selected, chosen, unknown_name}
-use Rattle.include_resolve.specs.Texts.{whole, HasTokens, IsSpelled, IsFaulty}
+use Rattle.include_resolve.specs.Texts.{HasTokens, IsSpelled, IsFaulty}
+use Rattle.tptp_lexer.specs.Answer.{whole}
 
 -- ---- the text of a file
 
@@ -42,7 +43,7 @@ module _ (number : ℕ) (text : Text) (fits : length text ≤ FILE_SIZE) where
   Spelled = ((items : List Item) × IsSpelled number text items) ⊎ ((f : TextFault) × IsFaulty number text f)
 
   by_parsing : (tokens : Tokens) → HasTokens number text tokens → (o : Result (List Item) GrammarFault) → (o ≡ Err grammar.Memory → ⊥) → parser.Answers tokens.items tokens.end o → Spelled
-  by_parsing tokens has (Ok items) some h = inl (items, (tokens, has, h))
+  by_parsing tokens has (Ok items) some h = inl (items, record { tokens = tokens; lexed = has; parsed = h })
   by_parsing tokens has (Err (grammar.Token place)) some h = inr (Grammar (grammar.Token place), (tokens, has, h))
   by_parsing tokens has (Err (grammar.Profile place)) some h = inr (Grammar (grammar.Profile place), (tokens, has, h))
   by_parsing tokens has (Err (grammar.End place)) some h = inr (Grammar (grammar.End place), (tokens, has, h))

@@ -1,11 +1,12 @@
 -- What the text of a file spells: the items that its tokens derive by the productions of the TPTP BNF, or the first
 -- fault in it. A fault of the tokens comes before each fault of the productions.
-use Rattle.std.specs.Prelude.{ℕ, List, length, Ok, Err}
+use Rattle.std.specs.Prelude.{ℕ, List, Ok, Err}
 use Rattle.tptp_base.specs.declared.item.Item.{Item}
-use Rattle.tptp_base.specs.declared.place.Region.{Region}
 use Rattle.tptp_lexer.specs.declared.style.Style.TheVariants.{Problem as ProblemStyle}
 use Rattle.tptp_lexer.specs.declared.token.Tokens.{Tokens}
+use Rattle.tptp_lexer.specs.Answer.{whole}
 use Rattle.tptp_grammar.specs.declared.fault.GrammarFault.{GrammarFault}
+use Rattle.tptp_grammar.specs.Texts.{SpellsText}
 use Rattle.include_resolve.specs.declared.fault.TextFault.{TextFault}
 use Rattle.include_resolve.specs.declared.fault.TextFault.TheVariants.{Lex, Grammar}
 use Rattle.include_resolve.specs.Names.{Text}
@@ -14,16 +15,13 @@ use Rattle.tptp_lexer.specs.Answer as lexer
 use Rattle.tptp_grammar.specs.declared.fault.GrammarFault.TheVariants as grammar
 use Rattle.tptp_grammar.specs.Answers as parser
 
-abbrev pub whole : Text → Region
-whole text = record { start = 0; end = length text }
-
 -- the tokens of the text, with their places in the file of this number
 abbrev pub HasTokens : ℕ → Text → Tokens → Type 0
 HasTokens number text tokens = lexer.Answers number text (whole text) ProblemStyle (Ok tokens)
 
 -- the text of the file of this number spells these items
 abbrev pub IsSpelled : ℕ → Text → List Item → Type 0
-IsSpelled number text items = (tokens : Tokens) × HasTokens number text tokens × parser.Answers tokens.items tokens.end (Ok items)
+IsSpelled number text items = SpellsText number text (whole text) ProblemStyle items
 
 -- the tokens spell nothing, and this is the first fault
 abbrev pub IsGrammarFault : Tokens → GrammarFault → Type 0

@@ -15,7 +15,7 @@ use Rattle.kernel.specs.Statements.{Statements}
 use Rattle.kernel.specs.Proves.{Proves, over, all_over}
 use Rattle.kernel.specs.code.Rules.{ProveAll}
 use Rattle.kernel.specs.Rules.{ProveEach}
-use Rattle.kernel.proofs.RulesFacts.{Proves-Line, Proves-Hyp, Proves-AndI, Proves-AndE, Proves-OrI, Proves-OrE, Proves-ImpI, Proves-ImpE, Proves-NotI, Proves-NotE, Proves-Raa, Proves-IffI, Proves-IffL, Proves-IffR, Proves-AllI, Proves-AllE, Proves-ExI, Proves-ExE, Proves-Refl, Proves-Subst, Proves-Inhabit}
+use Rattle.kernel.proofs.RuleEquivalences.{Proves-Line, Proves-Hyp, Proves-AndI, Proves-AndE, Proves-OrI, Proves-OrE, Proves-ImpI, Proves-ImpE, Proves-NotI, Proves-NotE, Proves-Raa, Proves-IffI, Proves-IffL, Proves-IffR, Proves-AllI, Proves-AllE, Proves-ExI, Proves-ExE, Proves-Refl, Proves-Subst, Proves-Inhabit}
 use Rattle.kernel.specs.declared.proof.Proof.{AndI', AndE', OrI', OrE', ImpI', ImpE', NotI', NotE', Raa', IffI', IffL', IffR', AllI', AllE', ExI', ExE', Refl, Subst', Inhabit', end_of-Proof, more_of-Proof, Proof, Line, Hyp, AndI, AndE, OrI, OrE, ImpI, ImpE, NotI, NotE, Raa, IffI, IffL, IffR, AllI, AllE, ExI, ExE, Subst, Inhabit}
 
 -- what is shown is well-sorted

@@ -9,7 +9,7 @@ use Rattle.fof_terms.proofs.Moved.{closed_anywhere}
 use Rattle.fof_terms.proofs.Trees.{And-injective, Not-injective, Imp-injective, Iff-injective}
 use Rattle.kernel.specs.Statements.{Statements}
 use Rattle.kernel.specs.Proves.{Proves}
-use Rattle.kernel.proofs.RulesFacts.{Proves-Line, Proves-Hyp, Proves-AndE, Proves-OrI, Proves-ImpI, Proves-ImpE, Proves-NotI, Proves-NotE, Proves-IffI, Proves-IffL, Proves-IffR}
+use Rattle.kernel.proofs.RuleEquivalences.{Proves-Line, Proves-Hyp, Proves-AndE, Proves-OrI, Proves-ImpI, Proves-ImpE, Proves-NotI, Proves-NotE, Proves-IffI, Proves-IffL, Proves-IffR}
 use Rattle.kernel.proofs.Building.{by_line, by_hyp, by_and_e, by_or_i, by_imp_i, by_imp_e, by_not_i, by_not_e, by_iff_i, by_iff_l, by_iff_r}
 use Rattle.kernel.specs.Concludes.{Concludes}
 use Rattle.kernel.specs.code.Concludes.{ConcludesUnder}

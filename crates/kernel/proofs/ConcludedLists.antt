@@ -15,7 +15,7 @@ use Rattle.kernel.specs.Statements.{Statements}
 use Rattle.kernel.specs.Proves.{Proves, all_over}
 use Rattle.kernel.specs.code.Rules.{ProveAll}
 use Rattle.kernel.specs.Rules.{ProveEach}
-use Rattle.kernel.proofs.RulesFacts.{Proves-AndI, Proves-OrE, Proves-Raa}
+use Rattle.kernel.proofs.RuleEquivalences.{Proves-AndI, Proves-OrE, Proves-Raa}
 use Rattle.kernel.proofs.Building.{shown_sorted, by_and_i, by_or_e, by_raa}
 use Rattle.kernel.specs.Concludes.{Concludes, IsContext}
 use Rattle.kernel.specs.code.Concludes.{ConcludesUnder, Kept, EachUnder, IsReach}

@@ -12,7 +12,7 @@ use Rattle.fof_terms.proofs.MoreReaches.{instance_reach_fits}
 use Rattle.fof_terms.proofs.Trees.{All-injective, Ex-injective, Eq-injective}
 use Rattle.kernel.specs.Statements.{Statements}
 use Rattle.kernel.specs.Proves.{Proves, over, all_over}
-use Rattle.kernel.proofs.RulesFacts.{Proves-AllI, Proves-AllE, Proves-ExI, Proves-ExE, Proves-Refl, Proves-Subst, Proves-Inhabit}
+use Rattle.kernel.proofs.RuleEquivalences.{Proves-AllI, Proves-AllE, Proves-ExI, Proves-ExE, Proves-Refl, Proves-Subst, Proves-Inhabit}
 use Rattle.kernel.proofs.Building.{shown_sorted, by_all_i, by_all_e, by_ex_e, by_refl, by_subst, by_inhabit}
 use Rattle.kernel.specs.Concludes.{Concludes}
 use Rattle.kernel.specs.code.Concludes.{ConcludesUnder}

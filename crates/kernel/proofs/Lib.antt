@@ -8,5 +8,5 @@ pub mod OneFormula
 pub mod Building
 pub mod EntryLaws
 pub mod HypothesesFacts
-pub mod RulesFacts
+pub mod RuleEquivalences
 pub mod Weakening

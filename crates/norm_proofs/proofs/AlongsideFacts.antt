@@ -16,9 +16,9 @@ use Rattle.clause_form.specs.declared.clause.AtomOf.{AtomOf}
 use Rattle.clause_form.specs.declared.clause.AtomOf.TheVariants.{Pred, Eq as Equation, True, False}
 use Rattle.clause_form.specs.declared.clause.Lit.{Lit}
 use Rattle.clause_form.specs.declared.clause.Clause.{Clause}
-use Rattle.clause_form.specs.ClauseView.{form_of_atom, signed_form, form_of_lit, form_of_lits, closed_by, closed, within}
+use Rattle.clause_form.specs.ClauseView.{form_of_atom, form_of_lit, form_of_lits, closed_by, closed, within}
 use Rattle.clause_form.specs.Covers.{in_lit}
-use Rattle.clause_form.specs.Norm.{alone}
+use Rattle.clause_form.specs.Norm.{alone, signed}
 use Rattle.clause_form.specs.code.Beside.{moved}
 use Rattle.clause_form.specs.Beside.{all_sorts}
 use Rattle.clause_form.proofs.BesideFacts.{Rest, part_lits}
@@ -49,7 +49,7 @@ no_binder (Equation l r) = binder_depth-Eq l r
 no_binder True = binder_depth-And []
 no_binder False = binder_depth-Or []
 
-no_binders : (g : Bool) (a : AtomOf) → binder_depth (signed_form g (form_of_atom a)) ≡ 0
+no_binders : (g : Bool) (a : AtomOf) → binder_depth (signed g (form_of_atom a)) ≡ 0
 no_binders true a = no_binder a
 no_binders false a = binder_depth-Not (form_of_atom a) ∙ no_binder a
 

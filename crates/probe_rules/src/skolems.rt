@@ -4,7 +4,8 @@ ghost use Rattle.derive_kit.specs.Derived.{IsDerivedFrom};
 ghost use Rattle.fof_terms.specs.Sorts.{SortedTo};
 ghost use Rattle.skolem_fresh.specs.ChoiceRule.{IsChoiceStep};
 ghost use Rattle.skolem_fresh.specs.Justified.{ShowsChoice, ShowsSkolem};
-ghost use Rattle.skolem_fresh.specs.SkolemRule.{IsSkolemStep, forms_of};
+ghost use Rattle.clause_form.specs.Paths.{forms_of};
+ghost use Rattle.skolem_fresh.specs.SkolemRule.{IsSkolemStep};
 ghost use Rattle.std.specs.List.{All as Each};
 ghost use Rattle.std.specs.Prelude.{IfOk, List as Listed, MatchOption, [], ℕ};
 

@@ -4,7 +4,8 @@ ghost use Rattle.derive_kit.specs.Derived.{AreOfTheory, IsDerivedFrom, numbers_o
 ghost use Rattle.split_defs.specs.DefinitionRule.{Defines};
 ghost use Rattle.split_defs.specs.DefinitionSearch.{IsFoundDefinition};
 ghost use Rattle.split_defs.specs.SplitRule.{IsSplitStep};
-ghost use Rattle.split_defs.specs.SplitSearch.{ShowsSplit, forms_of};
+ghost use Rattle.clause_form.specs.Paths.{forms_of};
+ghost use Rattle.split_defs.specs.SplitSearch.{ShowsSplit};
 ghost use Rattle.std.specs.Prelude.{IfOk, MatchOption, []};
 
 use crate::{Control, Probe};

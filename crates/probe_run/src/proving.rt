@@ -11,7 +11,7 @@ ghost use Rattle.clause_proofs.specs.Refuting.{theory_of};
 ghost use Rattle.rule_proofs.specs.ByRule.{AreAlike, IsByRule};
 ghost use Rattle.derive_kit.specs.Derived.{AreOfTheory, IsDerivedFrom, numbers_of};
 ghost use Rattle.skolem_fresh.specs.Justified.{ShowsSkolem};
-ghost use Rattle.skolem_fresh.specs.SkolemRule.{forms_of};
+ghost use Rattle.clause_form.specs.Paths.{forms_of};
 ghost use Rattle.skolem_proofs.specs.Choosing.{ChooseAndEnd};
 
 use crate::{Control, Probe};

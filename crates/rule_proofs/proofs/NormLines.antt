@@ -5,8 +5,8 @@ use Rattle.fof_terms.specs.declared.form.Form.{Form, Imp}
 use Rattle.fof_terms.specs.Vocabulary.{Vocabulary}
 use Rattle.fof_terms.specs.Sorts.{Sorted}
 use Rattle.clause_form.specs.declared.path.Parent.{Parent}
-use Rattle.clause_form.specs.Norm.{norm_of}
-use Rattle.clause_rules.specs.NormRule.{HasNorm, HasLinesNorm}
+use Rattle.clause_form.specs.Norm.{norm_of, HasNorm}
+use Rattle.clause_rules.specs.NormRule.{HasLinesNorm}
 use Rattle.clause_rules.specs.Answers.{IsAnswer, norm}
 use Rattle.clause_rules.specs.declared.just.Just.{Just}
 use Rattle.clause_rules.specs.declared.just.Just.TheVariants.{Norm}

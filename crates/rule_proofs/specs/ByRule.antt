@@ -4,7 +4,7 @@ use Rattle.fof_terms.specs.declared.form.Form.{Form}
 use Rattle.fof_terms.specs.Vocabulary.{Vocabulary}
 use Rattle.clause_form.specs.declared.path.Parent.{Parent}
 use Rattle.clause_rules.specs.Answers.{ShapeRule as Word, Holds as Gives}
-use Rattle.clause_rules.specs.NormRule.{HasNorm}
+use Rattle.clause_form.specs.Norm.{HasNorm}
 use Rattle.kernel.specs.declared.proof.Proof.{Proof}
 use Rattle.clause_proofs.specs.Shown.{ShowsLine}
 

@@ -15,7 +15,7 @@ use Rattle.clause_form.specs.ClauseView.{clause_of}
 use Rattle.clause_form.specs.Covers.{lit_image, scope_of, IsCovered, CoversBy, AreSorted}
 use Rattle.clause_form.specs.Found.{IsRoomy}
 use Rattle.clause_form.specs.Images.{IsImages}
-use Rattle.clause_form.specs.Norm.{norm_of}
+use Rattle.clause_form.specs.Norm.{norm_of, HasNorm}
 use Rattle.clause_form.proofs.NormSize.{norm_small}
 use Rattle.clause_form.specs.Paths.{reached}
 use Rattle.clause_form.specs.Sizes.{norm_size_of}
@@ -31,7 +31,6 @@ use Rattle.clause_rules.specs.Answers.{IsAnswer, cover, rule_of}
 use Rattle.rule_steps.specs.code.CoverFound.{NoCover, FoundCover, FoundInForm, NoCoverAt, ShowsCover, ShowsCoverAt, FoundCoverAmong, SettlesReached}
 use Rattle.clause_rules.specs.JointClauses.{IsJoinedOne}
 use Rattle.clause_rules.specs.Justified.{Shows}
-use Rattle.clause_rules.specs.NormRule.{HasNorm}
 use Rattle.clause_rules.specs.Settled.{IsFit, Settles}
 use Rattle.substitution_search.specs.Settled.{IsGuessed, IsSolution}
 use Rattle.clause_rules.specs.Steps.{AreCovered, instances}
@@ -42,7 +41,7 @@ use Rattle.rule_steps.proofs.Factoring.{get_of_map, no_lits}
 use Rattle.clause_rules.proofs.Firsts.{one_at, ok_map}
 use Rattle.clause_rules.proofs.JointImages.{sorted_further}
 use Rattle.substitution_search.proofs.NeedSorts.{all_cover_fits, goal_fits}
-use Rattle.rule_steps.proofs.NormFits.{norm_fits}
+use Rattle.clause_form.proofs.NormFits.{norm_fits}
 use Rattle.rule_steps.proofs.ReachedFits.{reached_fits}
 use Rattle.rule_steps.proofs.ResolvedAt.{parents_fit}
 use Rattle.rule_steps.proofs.Settling.{settled_by, settles_like}

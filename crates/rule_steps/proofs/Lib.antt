@@ -12,7 +12,6 @@ pub mod GoalSorts
 pub mod Indexed
 pub mod LeftOver
 pub mod Named
-pub mod NormFits
 pub mod NormSteps
 pub mod ParamodulatedAt
 pub mod ParamodulationCode

@@ -4,7 +4,8 @@ use Rattle.std.proofs.Common.{sym, subst, ◌∙◌, arith}
 use Rattle.std.proofs.lemmas.Option.{slice_get_within}
 use Rattle.fof_terms.specs.declared.form.Form.{Form}
 use Rattle.clause_form.specs.declared.path.Parent.{Parent}
-use Rattle.clause_rules.specs.NormRule.{HasNorm, NormsAlike, IsFirstNorm, IsNormStep}
+use Rattle.clause_form.specs.Norm.{HasNorm}
+use Rattle.clause_rules.specs.NormRule.{NormsAlike, IsFirstNorm, IsNormStep}
 use Rattle.rule_steps.specs.code.NormRule.{IsFirstAlike}
 use Rattle.clause_rules.proofs.Firsts.{untrue, holds, one_at}
 

@@ -1,13 +1,12 @@
 ghost use Rattle.std.specs.Prelude.{◌≡◌, ◌≤◌, ◌<◌, true, [], Some, IfOk, IfSome, MatchOption};
 ghost use Rattle.fof_terms.specs.Sorts.{is_sorted};
 ghost use Rattle.clause_form.specs.Covers.{scope_of, CoversBy};
-ghost use Rattle.clause_form.specs.Norm.{norm_of};
+ghost use Rattle.clause_form.specs.Norm.{norm_of, HasNorm};
 ghost use Rattle.clause_form.specs.Sizes.{norm_size_of};
 ghost use Rattle.clause_rules.specs.declared.just.Just.TheVariants.{Cover};
 ghost use Rattle.clause_rules.specs.Answers.{IsAnswer, cover};
 ghost use Rattle.rule_steps.specs.code.CoverFound.{FoundCover, FoundInForm, FoundCoverAmong, SettlesReached};
 ghost use Rattle.rule_steps.specs.code.CoverFound.{ShowsCover};
-ghost use Rattle.clause_rules.specs.NormRule.{HasNorm};
 ghost use Rattle.clause_rules.specs.Settled.{IsFit, Settles};
 ghost use Rattle.clause_rules.specs.Steps.{AreReady, IsReady};
 

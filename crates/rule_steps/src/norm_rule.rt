@@ -1,7 +1,8 @@
 ghost use Rattle.std.specs.Prelude.{IfOk, MatchOption, IsTrue, ◌↔◌, ◌<◌, ℕ};
 ghost use Rattle.clause_form.specs.Sizes.{norm_size_of};
 ghost use Rattle.clause_rules.specs.Answers.{IsAnswer, norm as by_norm};
-ghost use Rattle.clause_rules.specs.NormRule.{HasNorm, IsFirstNorm, IsNormStep, NormsAlike};
+ghost use Rattle.clause_form.specs.Norm.{HasNorm};
+ghost use Rattle.clause_rules.specs.NormRule.{IsFirstNorm, IsNormStep, NormsAlike};
 ghost use Rattle.rule_steps.specs.code.NormRule.{IsFirstAlike};
 
 use clause_form::{FormFault, Parent, norm};

@@ -26,7 +26,8 @@ use Rattle.kernel.specs.Entries.{for_all, variables, choice, IsFresh, MayChoose,
 use Rattle.kernel.specs.declared.entry.Entry.{Entry}
 use Rattle.kernel.specs.declared.entry.Entry.TheVariants.{Declare, Lemma, Name, Choice}
 use Rattle.skolem_fresh.specs.declared.just.Use.{Use}
-use Rattle.skolem_fresh.specs.code.Only.{is_among, only_has}
+use Rattle.fof_terms.specs.Standing.{is_listed}
+use Rattle.skolem_fresh.specs.code.Only.{only_has}
 use Rattle.skolem_fresh.specs.Renamed.{place_of, renamed, renamed_term}
 use Rattle.skolem_fresh.proofs.RenamedFacts.{renamed_term-Var}
 use Rattle.skolem_fresh.specs.Uses.{value, value_of, functions_of, Fits}
@@ -119,7 +120,7 @@ module _ (w : Statements) (scope : List ℕ) (s : ℕ) (body : Form) (u : Use) (
   told_depth : binder_depth (renamed u.variables 1 body) ≡ binder_depth body
   told_depth = same_depth (renamed_term u.variables) (renamed u.variables) (renaming u.variables) body 1
 
-  places : (k : ℕ) → is_among u.variables k ≡ true → slice_get (reverse symbol.args) (place_of u.variables k) ≡ slice_get scope k
+  places : (k : ℕ) → is_listed u.variables k ≡ true → slice_get (reverse symbol.args) (place_of u.variables k) ≡ slice_get scope k
   places k h = subst (λ (sc : List ℕ). slice_get sc (place_of u.variables k) ≡ slice_get scope k) turned_args (place_sort w.vocabulary scope u.variables symbol.args [] k its_args h)
 
   told_sorted : SortedTo 1000000000 w.vocabulary (symbol.result ∷ reverse symbol.args) (renamed u.variables 1 body)

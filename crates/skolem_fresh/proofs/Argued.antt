@@ -20,7 +20,8 @@ use Rattle.fof_terms.proofs.SortsFacts.{sort_of_term-Var, sort_of_term-App, is_s
 use Rattle.fof_terms.proofs.Walks.{TermWalk, FormWalk, staying, staying_term, placing, placing_term, both_walks, both_terms}
 use Rattle.kernel.specs.Entries.{for_all, variables}
 use Rattle.derive_kit.specs.Instances.{IsInstance}
-use Rattle.skolem_fresh.specs.code.Only.{is_among, only_in_term, only_has}
+use Rattle.fof_terms.specs.Standing.{is_listed}
+use Rattle.skolem_fresh.specs.code.Only.{only_in_term, only_has}
 use Rattle.skolem_fresh.proofs.OnlyFacts.{only_in_term-Var, only_in_term-App, only_has-Atom, only_has-Eq, only_has-Not, only_has-And, only_has-Or, only_has-Imp, only_has-Iff, only_has-All, only_has-Ex}
 use Rattle.skolem_fresh.specs.Renamed.{place_of, renamed_term, renamed}
 use Rattle.skolem_fresh.proofs.RenamedFacts.{renamed_term-Var, renamed_term-App, renamed-Atom, renamed-Eq, renamed-Not, renamed-And, renamed-Or, renamed-Imp, renamed-Iff, renamed-All, renamed-Ex}
@@ -86,7 +87,7 @@ module _ (v : Vocabulary) (old : List ℕ) where
   args_length (x ∷ xs) (s ∷ args) e = let rest = args_length xs args (both (is_sort (sort_of_term v old (Var x)) s) (are_sorts (sorts_at xs) args) e).1 in omega arith
 
   -- the place of a variable among the arguments has its sort
-  pub place_sort : (xs args back : List ℕ) (k : ℕ) → are_sorts (sorts_at xs) args ≡ true → is_among xs k ≡ true → slice_get (reverse args ++ back) (place_of xs k) ≡ slice_get old k
+  pub place_sort : (xs args back : List ℕ) (k : ℕ) → are_sorts (sorts_at xs) args ≡ true → is_listed xs k ≡ true → slice_get (reverse args ++ back) (place_of xs k) ≡ slice_get old k
   place_sort [] args back k e h = cc
   place_sort (x ∷ xs) [] back k e h = cc
   place_sort (x ∷ xs) (s ∷ args) back k e h =
@@ -99,7 +100,7 @@ module _ (v : Vocabulary) (old : List ℕ) where
             let many = args_length xs args parts.1 in
             rw (turned, on_, sym many, sym same, sort) (at_turn args back s)
         | inr off ↦
-            let there : is_among xs k ≡ true = only_there (x == k) (is_among xs k) off h in
+            let there : is_listed xs k ≡ true = only_there (x == k) (is_listed xs k) off h in
             rw (turned, off) (place_sort xs args (s ∷ back) k parts.1 there)
       ]
 
@@ -135,15 +136,15 @@ all_where : {X : Type 0} (f g p : X → Bool) (ys : List X) → AllByRecursion (
 all_where f g p [] e h = refl
 all_where f g p (y ∷ ys) e h = let parts = both (p y) (list_all p ys) h in rw (e.0 parts.0, all_where f g p ys e.1 parts.1) refl
 
-module _ (v : Vocabulary) (xs old new : List ℕ) (places : (k : ℕ) → is_among xs k ≡ true → slice_get new (place_of xs k) ≡ slice_get old k) where
-  renamed_var : (front : List ℕ) (k : ℕ) → (nat_lt k (length front) || is_among xs (k - length front)) ≡ true
+module _ (v : Vocabulary) (xs old new : List ℕ) (places : (k : ℕ) → is_listed xs k ≡ true → slice_get new (place_of xs k) ≡ slice_get old k) where
+  renamed_var : (front : List ℕ) (k : ℕ) → (nat_lt k (length front) || is_listed xs (k - length front)) ≡ true
       → sort_of_term v (front ++ new) (renamed_term xs (length front) (Var k)) ≡ sort_of_term v (front ++ old) (Var k)
   renamed_var front k h =
       elim (below_or_above k (length front)) [
         | inl near ↦ rw (renamed_term-Var, lt-ltb k (length front) near, sort_of_term-Var, sort_of_term-Var) (place_before front new old k near)
         | inr far ↦
             let off : nat_lt k (length front) ≡ false = le-ltb k (length front) far in
-            let there : is_among xs (k - length front) ≡ true = only_there (nat_lt k (length front)) (is_among xs (k - length front)) off h in
+            let there : is_listed xs (k - length front) ≡ true = only_there (nat_lt k (length front)) (is_listed xs (k - length front)) off h in
             rw (renamed_term-Var, off, sort_of_term-Var, sort_of_term-Var)
             (place_behind front new (place_of xs (k - length front)) (place_of xs (k - length front) + length front) (omega arith)
             ∙ places (k - length front) there
@@ -212,15 +213,15 @@ put_far (x ∷ xs) d k =
     let less : k + suc (length xs) + d - 1 ≡ k + length xs + d = omega arith in
     rw (greater (Var x) (length xs + d) (k + suc (length xs) + d) (omega arith), less) (put_far xs d k)
 
-place_less : (xs : List ℕ) (k : ℕ) → is_among xs k ≡ true → place_of xs k < length xs
+place_less : (xs : List ℕ) (k : ℕ) → is_listed xs k ≡ true → place_of xs k < length xs
 place_less [] k h = cc
 place_less (x ∷ xs) k h =
     elim (either (x == k)) [
       | inl on_ ↦ rw on_ (omega arith)
-      | inr off ↦ let less = place_less xs k (only_there (x == k) (is_among xs k) off h) in rw off (omega arith)
+      | inr off ↦ let less = place_less xs k (only_there (x == k) (is_listed xs k) off h) in rw off (omega arith)
     ]
 
-put_place : (xs : List ℕ) (d k : ℕ) → is_among xs k ≡ true → put_term xs d (Var (place_of xs k + d)) ≡ Var (k + d)
+put_place : (xs : List ℕ) (d k : ℕ) → is_listed xs k ≡ true → put_term xs d (Var (place_of xs k + d)) ≡ Var (k + d)
 put_place [] d k h = cc
 put_place (x ∷ xs) d k h =
     elim (either (x == k)) [
@@ -229,18 +230,18 @@ put_place (x ∷ xs) d k h =
           let moved : x + (length xs + d) ≡ k + length xs + d = omega arith in
           rw (on_, here (Var x) (length xs + d) (length xs + d) refl, moves (length xs + d) 0 x (omega arith), moved) (put_far xs d k)
       | inr off ↦
-          let there : is_among xs k ≡ true = only_there (x == k) (is_among xs k) off h in
+          let there : is_listed xs k ≡ true = only_there (x == k) (is_listed xs k) off h in
           let less = place_less xs k there in
           rw (off, smaller (Var x) (length xs + d) (place_of xs k + d) (omega arith)) (put_place xs d k there)
     ]
 
-back_var : (xs : List ℕ) (d k : ℕ) → (nat_lt k d || is_among xs (k - d)) ≡ true → put_term xs d (renamed_term xs d (Var k)) ≡ Var k
+back_var : (xs : List ℕ) (d k : ℕ) → (nat_lt k d || is_listed xs (k - d)) ≡ true → put_term xs d (renamed_term xs d (Var k)) ≡ Var k
 back_var xs d k h =
     elim (below_or_above k d) [
       | inl near ↦ rw (renamed_term-Var, lt-ltb k d near) (put_near xs d k near)
       | inr far ↦
           let off : nat_lt k d ≡ false = le-ltb k d far in
-          let there : is_among xs (k - d) ≡ true = only_there (nat_lt k d) (is_among xs (k - d)) off h in
+          let there : is_listed xs (k - d) ≡ true = only_there (nat_lt k d) (is_listed xs (k - d)) off h in
           let same : k - d + d ≡ k = omega arith in
           rw (renamed_term-Var, off) (put_place xs d (k - d) there ∙ ap Var same)
     ]

@@ -20,7 +20,8 @@ use Rattle.skolem_fresh.specs.declared.just.Use.{Use}
 use Rattle.skolem_fresh.specs.declared.leaves.Leaf.{Leaf}
 use Rattle.skolem_fresh.specs.code.Leaves.{leaf, leaves_of}
 use Rattle.skolem_fresh.proofs.LeavesFacts.{leaves_of-Ex}
-use Rattle.skolem_fresh.specs.code.Reading.{found_in, found_term, all_there, variable_of, use_of, used, read, read_or, or_else}
+use Rattle.clause_form.specs.ClauseView.{all_there}
+use Rattle.skolem_fresh.specs.code.Reading.{found_in, found_term, variable_of, use_of, used, read, read_or, or_else}
 use Rattle.skolem_fresh.proofs.ReadingFacts.{found_term-Var, found_term-App-App, variable_of-Var, use_of-App}
 use Rattle.skolem_fresh.specs.Uses.{value, value_of}
 use Rattle.skolem_fresh.specs.ChoiceRule.{IsOpened}

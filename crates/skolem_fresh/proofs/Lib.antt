@@ -9,7 +9,6 @@ pub mod Freely
 pub mod LeafLaws
 pub mod Leading
 pub mod LoopsRead
-pub mod NormFits
 pub mod Normed
 pub mod Occurring
 pub mod OnlyLaws

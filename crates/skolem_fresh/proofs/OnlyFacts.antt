@@ -8,12 +8,13 @@ use Rattle.fof_terms.specs.declared.term.Term.{Term, Var, App}
 use Rattle.fof_terms.specs.declared.term.Term.TheFolds.{fold-Term}
 use Rattle.fof_terms.specs.declared.form.Form.{Form, Atom, Eq, Not, And, Or, Imp, Iff, All, Ex}
 use Rattle.fof_terms.specs.declared.form.Form.TheFolds.{fold-Form}
-use Rattle.skolem_fresh.specs.code.Only.{is_among, only_term_step, only_in_term, only_step, only_has}
+use Rattle.fof_terms.specs.Standing.{is_listed}
+use Rattle.skolem_fresh.specs.code.Only.{only_term_step, only_in_term, only_step, only_has}
 use Rattle.fof_terms.specs.declared.term.Term.TheOpen as term
 use Rattle.fof_terms.specs.declared.form.Form.TheOpen as form
 
 -- The equations of these words.
-pub only_in_term-Var : (xs : List ℕ) (depth k : ℕ) → only_in_term xs depth (Var k) ≡ (nat_lt k depth || is_among xs (k - depth))
+pub only_in_term-Var : (xs : List ℕ) (depth k : ℕ) → only_in_term xs depth (Var k) ≡ (nat_lt k depth || is_listed xs (k - depth))
 unfolding only_in_term
 only_in_term-Var xs depth k = fold-Var Bool (only_term_step xs depth) k
 

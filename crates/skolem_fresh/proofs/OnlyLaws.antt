@@ -15,7 +15,8 @@ use Rattle.fof_terms.specs.Instance.{instance_term, instance_at, instance_of}
 use Rattle.fof_terms.proofs.InstanceFacts.{instance_term-App, instance_at-Atom, instance_at-Eq, instance_at-Not, instance_at-And, instance_at-Or, instance_at-Imp, instance_at-Iff, instance_at-All, instance_at-Ex}
 use Rattle.fof_terms.proofs.Unused.{unused_back}
 use Rattle.fof_terms.specs.Variables.{has_variable}
-use Rattle.skolem_fresh.specs.code.Only.{is_among, only_in_term, only_has}
+use Rattle.fof_terms.specs.Standing.{is_listed}
+use Rattle.skolem_fresh.specs.code.Only.{only_in_term, only_has}
 use Rattle.skolem_fresh.proofs.OnlyFacts.{only_in_term-Var, only_in_term-App, only_has-Atom, only_has-Eq, only_has-Not, only_has-And, only_has-Or, only_has-Imp, only_has-Iff, only_has-All, only_has-Ex}
 use Rattle.skolem_fresh.specs.Uses.{value}
 use Rattle.skolem_fresh.proofs.Freely.{at, each}
@@ -40,14 +41,14 @@ all_still p q f [] all h = refl
 all_still p q f (y ∷ ys) all h = let parts = both (p y) (list_all p ys) h in and_true (q (f y)) (list_all q (map f ys)) (all.0 parts.0) (all_still p q f ys all.1 parts.1)
 
 module _ (xs : List ℕ) where
-  among_lifted : (d j : ℕ) → is_among xs j ≡ true → (nat_lt (j + d) d || is_among xs (j + d - d)) ≡ true
-  among_lifted d j h = let same : j + d - d ≡ j = omega arith in rw same (or_right (nat_lt (j + d) d) (is_among xs j) h)
+  among_lifted : (d j : ℕ) → is_listed xs j ≡ true → (nat_lt (j + d) d || is_listed xs (j + d - d)) ≡ true
+  among_lifted d j h = let same : j + d - d ≡ j = omega arith in rw same (or_right (nat_lt (j + d) d) (is_listed xs j) h)
 
-  at_top : (j : ℕ) → (nat_lt j 0 || is_among xs (j - 0)) ≡ true → is_among xs j ≡ true
+  at_top : (j : ℕ) → (nat_lt j 0 || is_listed xs (j - 0)) ≡ true → is_listed xs j ≡ true
   at_top j h =
       let off : nat_lt j 0 ≡ false = le-ltb j 0 (omega arith) in
       let same : j - 0 ≡ j = omega arith in
-      let h' : is_among xs (j - 0) ≡ true = only_there (nat_lt j 0) (is_among xs (j - 0)) off h in
+      let h' : is_listed xs (j - 0) ≡ true = only_there (nat_lt j 0) (is_listed xs (j - 0)) off h in
       rw same at h'
 
   only_lifted_up : (d : ℕ) (t : Term) → only_in_term xs 0 t ≡ true → only_in_term xs d (lifted_term d 0 t) ≡ true
@@ -57,17 +58,17 @@ module _ (xs : List ℕ) where
   })
 
   module _ (x : Term) (only : only_in_term xs 0 x ≡ true) where
-    only_var : (d j : ℕ) → (nat_lt j (d + 1) || is_among xs (j - (d + 1))) ≡ true → only_in_term xs d (instance_term x d (Var j)) ≡ true
+    only_var : (d j : ℕ) → (nat_lt j (d + 1) || is_listed xs (j - (d + 1))) ≡ true → only_in_term xs d (instance_term x d (Var j)) ≡ true
     only_var d j h =
         elim (below_or_above j d) [
-          | inl near ↦ rw (smaller x d j near, only_in_term-Var) (or_left (nat_lt j d) (is_among xs (j - d)) (lt-ltb j d near))
+          | inl near ↦ rw (smaller x d j near, only_in_term-Var) (or_left (nat_lt j d) (is_listed xs (j - d)) (lt-ltb j d near))
           | inr far ↦
               elim (below_or_above d j) [
                 | inl past ↦
                     let off : nat_lt j (d + 1) ≡ false = le-ltb j (d + 1) (omega arith) in
-                    let there : is_among xs (j - (d + 1)) ≡ true = only_there (nat_lt j (d + 1)) (is_among xs (j - (d + 1))) off h in
+                    let there : is_listed xs (j - (d + 1)) ≡ true = only_there (nat_lt j (d + 1)) (is_listed xs (j - (d + 1))) off h in
                     let same : j - 1 - d ≡ j - (d + 1) = omega arith in
-                    rw (greater x d j past, only_in_term-Var, same) (or_right (nat_lt (j - 1) d) (is_among xs (j - (d + 1))) there)
+                    rw (greater x d j past, only_in_term-Var, same) (or_right (nat_lt (j - 1) d) (is_listed xs (j - (d + 1))) there)
                 | inr at ↦ rw (here x d j (omega arith)) (only_lifted_up d x only)
               ]
         ]
@@ -101,16 +102,16 @@ module _ (xs : List ℕ) where
     })
 
   -- over one variable more
-  lifted_var : (d j : ℕ) → only_in_term xs (d + 1) (lifted_term 1 d (Var j)) ≡ true → (nat_lt j d || is_among xs (j - d)) ≡ true
+  lifted_var : (d j : ℕ) → only_in_term xs (d + 1) (lifted_term 1 d (Var j)) ≡ true → (nat_lt j d || is_listed xs (j - d)) ≡ true
   lifted_var d j h =
       elim (below_or_above j d) [
-        | inl near ↦ or_left (nat_lt j d) (is_among xs (j - d)) (lt-ltb j d near)
+        | inl near ↦ or_left (nat_lt j d) (is_listed xs (j - d)) (lt-ltb j d near)
         | inr far ↦
-            let h' : (nat_lt (j + 1) (d + 1) || is_among xs (j + 1 - (d + 1))) ≡ true = rw (moves 1 d j far, only_in_term-Var) at h in
+            let h' : (nat_lt (j + 1) (d + 1) || is_listed xs (j + 1 - (d + 1))) ≡ true = rw (moves 1 d j far, only_in_term-Var) at h in
             let off : nat_lt (j + 1) (d + 1) ≡ false = le-ltb (j + 1) (d + 1) (omega arith) in
             let same : j + 1 - (d + 1) ≡ j - d = omega arith in
-            let there : is_among xs (j + 1 - (d + 1)) ≡ true = only_there (nat_lt (j + 1) (d + 1)) (is_among xs (j + 1 - (d + 1))) off h' in
-            or_right (nat_lt j d) (is_among xs (j - d)) (rw same at there)
+            let there : is_listed xs (j + 1 - (d + 1)) ≡ true = only_there (nat_lt (j + 1) (d + 1)) (is_listed xs (j + 1 - (d + 1))) off h' in
+            or_right (nat_lt j d) (is_listed xs (j - d)) (rw same at there)
       ]
 
   all_back : {X : Type 0} (p q : X → Bool) (f : X → X) (ys : List X) → AllByRecursion (λ y. q (f y) ≡ true → p y ≡ true) ys → list_all q (map f ys) ≡ true → list_all p ys ≡ true
@@ -155,14 +156,14 @@ module _ (xs : List ℕ) where
   only_value s f body o h = let h' : only_has xs (0 + 1) body ≡ true = rw only_has-Ex at h in only_instance (value f xs) o body 0 h'
 
 -- the value speaks of its variables
-all_among : (xs ys : List ℕ) → ((k : ℕ) → is_among ys k ≡ true → is_among xs k ≡ true) → list_all (only_in_term xs 0) (map Var ys) ≡ true
+all_among : (xs ys : List ℕ) → ((k : ℕ) → is_listed ys k ≡ true → is_listed xs k ≡ true) → list_all (only_in_term xs 0) (map Var ys) ≡ true
 all_among xs [] h = refl
 all_among xs (y ∷ ys) h =
     let same : y - 0 ≡ y = omega arith in
     let itself : (y == y) ≡ true = grind (arith, nat_tests) in
-    let first : is_among xs y ≡ true = h y (or_left (y == y) (is_among ys y) itself) in
-    let first' : only_in_term xs 0 (Var y) ≡ true = rw (only_in_term-Var, same) (or_right (nat_lt y 0) (is_among xs y) first) in
-    and_true (only_in_term xs 0 (Var y)) (list_all (only_in_term xs 0) (map Var ys)) first' (all_among xs ys (λ k e. h k (or_right (y == k) (is_among ys k) e)))
+    let first : is_listed xs y ≡ true = h y (or_left (y == y) (is_listed ys y) itself) in
+    let first' : only_in_term xs 0 (Var y) ≡ true = rw (only_in_term-Var, same) (or_right (nat_lt y 0) (is_listed xs y) first) in
+    and_true (only_in_term xs 0 (Var y)) (list_all (only_in_term xs 0) (map Var ys)) first' (all_among xs ys (λ k e. h k (or_right (y == k) (is_listed ys k) e)))
 
 pub value_only : (f : ℕ) (xs : List ℕ) → only_in_term xs 0 (value f xs) ≡ true
 value_only f xs = only_in_term-App xs 0 f (map Var xs) ∙ all_among xs xs (λ k e. e)

@@ -25,7 +25,8 @@ use Rattle.skolem_fresh.specs.declared.leaves.Leaf.{Leaf}
 use Rattle.skolem_fresh.specs.code.Leaves.{leaves_of}
 use Rattle.skolem_fresh.specs.code.Leading.{leading}
 use Rattle.skolem_fresh.proofs.LeadingFacts.{leading-Atom, leading-Eq, leading-Not, leading-And, leading-Or, leading-Imp, leading-Iff, leading-All, leading-Ex}
-use Rattle.skolem_fresh.specs.code.Reading.{read, read_or, found_term, use_of, use_in, used, all_there, variable_of}
+use Rattle.clause_form.specs.ClauseView.{all_there}
+use Rattle.skolem_fresh.specs.code.Reading.{read, read_or, found_term, use_of, use_in, used, variable_of}
 use Rattle.skolem_fresh.specs.Uses.{value_of, Fits}
 use Rattle.skolem_fresh.specs.ChoiceRule.{IsOpened}
 use Rattle.skolem_fresh.specs.Choosing.{IsWithin}

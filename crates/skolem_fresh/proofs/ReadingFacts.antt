@@ -9,7 +9,8 @@ use Rattle.fof_terms.specs.declared.term.Term.TheFolds.{fold-Term}
 use Rattle.skolem_fresh.specs.declared.just.Use.{Use}
 use Rattle.skolem_fresh.specs.declared.leaves.Leaf.{Leaf}
 use Rattle.skolem_fresh.specs.code.Leaves.{leaf}
-use Rattle.skolem_fresh.specs.code.Reading.{args_in, found_in, found_step, found_term, all_there, variable_in, variable_of, used, use_in, use_of}
+use Rattle.clause_form.specs.ClauseView.{all_there}
+use Rattle.skolem_fresh.specs.code.Reading.{args_in, found_in, found_step, found_term, variable_in, variable_of, used, use_in, use_of}
 use Rattle.fof_terms.specs.declared.term.Term.TheOpen as term
 
 -- The equations of these words.

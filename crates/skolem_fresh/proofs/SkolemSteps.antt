@@ -10,7 +10,7 @@ use Rattle.fof_terms.specs.declared.form.Form.{Form}
 use Rattle.fof_terms.specs.Occurs.{occurs_in}
 use Rattle.fof_terms.specs.Sorts.{SortedTo, binder_depth}
 use Rattle.fof_terms.specs.Vocabulary.{Vocabulary}
-use Rattle.clause_form.specs.Norm.{node, norm_of}
+use Rattle.clause_form.specs.Norm.{node, norm_of, HasNorm}
 use Rattle.clause_form.proofs.NormSorts.{norm_depth}
 use Rattle.clause_form.specs.Sizes.{norm_size_of}
 use Rattle.clause_form.specs.declared.path.Parent.{Parent}
@@ -23,13 +23,14 @@ use Rattle.skolem_fresh.specs.declared.leaves.Leaf.{Leaf}
 use Rattle.skolem_fresh.specs.Choosing.{IsWithin}
 use Rattle.skolem_fresh.specs.Justified.{ShowsSkolem}
 use Rattle.skolem_fresh.specs.code.Leaves.{leaves_of}
-use Rattle.skolem_fresh.specs.SkolemRule.{HasNorm, IsSkolemized, Skolemizes, IsSkolemOf, IsSkolemStep, forms_of}
+use Rattle.clause_form.specs.Paths.{forms_of}
+use Rattle.skolem_fresh.specs.SkolemRule.{IsSkolemized, Skolemizes, IsSkolemOf, IsSkolemStep}
 use Rattle.skolem_fresh.specs.code.Skolemizing.{IsWalked, IsWalkedTo, Gives, IsGiven}
 use Rattle.skolem_fresh.specs.code.Solid.{IsSolid}
 use Rattle.skolem_fresh.specs.Uses.{AreNew}
 use Rattle.skolem_fresh.proofs.Chosen.{not_true, is_true}
 use Rattle.skolem_fresh.proofs.LoopsRead.{has_none}
-use Rattle.skolem_fresh.proofs.NormFits.{norm_fits}
+use Rattle.clause_form.proofs.NormFits.{norm_fits}
 use Rattle.skolem_fresh.proofs.Normed.{norm_done, norm_stays}
 use Rattle.skolem_fresh.proofs.Skolemized.{solid_kept, depth_kept}
 use Rattle.skolem_fresh.proofs.WalkCode.{each_at}

@@ -29,7 +29,8 @@ use Rattle.skolem_fresh.specs.declared.just.SkolemJust.{SkolemJust}
 use Rattle.skolem_fresh.specs.declared.just.SkolemJust.TheVariants.{Skolem, Choice}
 use Rattle.skolem_fresh.specs.Justified.{ShowsChoice}
 use Rattle.skolem_fresh.specs.code.Leading.{leading}
-use Rattle.skolem_fresh.specs.code.Only.{is_among, only_has}
+use Rattle.fof_terms.specs.Standing.{is_listed}
+use Rattle.skolem_fresh.specs.code.Only.{only_has}
 use Rattle.skolem_fresh.specs.Uses.{Fits, AreArguments}
 use Rattle.skolem_fresh.specs.ChoiceRule.{IsOpened, MayChooseFor, Chooses}
 use Rattle.skolem_fresh.specs.Choosing.{IsWithin}
@@ -74,13 +75,13 @@ one_of : (a b : Bool) → (a || b) ≡ true → (a ≡ true) ⊎ (b ≡ true)
 one_of true b e = inl refl
 one_of false b e = inr e
 
-variables_below : (v : Vocabulary) (scope xs args : List ℕ) → are_sorts (sorts_at v scope xs) args ≡ true → (q : ℕ) → is_among xs q ≡ true → q < length scope
+variables_below : (v : Vocabulary) (scope xs args : List ℕ) → are_sorts (sorts_at v scope xs) args ≡ true → (q : ℕ) → is_listed xs q ≡ true → q < length scope
 variables_below v scope [] args e q h = cc
 variables_below v scope (x ∷ xs) [] e q h = cc
 variables_below v scope (x ∷ xs) (s ∷ args) e q h =
     let parts = both (is_sort (sort_of_term v scope (Var x)) s) (are_sorts (sorts_at v scope xs) args) e in
     let at : slice_get scope x ≡ Some s = sym (sort_of_term-Var v scope x) ∙ sort_is (sort_of_term v scope (Var x)) s parts.0 in
-    elim (one_of (x == q) (is_among xs q) h) [
+    elim (one_of (x == q) (is_listed xs q) h) [
       | inl here ↦ let same : x ≡ q = grind (arith, nat_tests) in subst (λ n. n < length scope) same (slice_get_within scope x s at)
       | inr there ↦ variables_below v scope xs args parts.1 q there
     ]

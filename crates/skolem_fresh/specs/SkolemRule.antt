@@ -1,21 +1,14 @@
 -- The rule `skolem`: the line is, by its normal form, a parent's normal form with new functions in place of its
 -- existential variables. A formula whose norm size is over 100,000 has no normal form here.
-use Rattle.std.specs.Prelude.{ℕ, ◌≡◌, ◌<◌, ◌≤◌, true, List, [], ◌∷◌, ◌++◌, length, map, Some, slice_get}
+use Rattle.std.specs.Prelude.{ℕ, ◌≡◌, ◌<◌, true, List, [], ◌∷◌, ◌++◌, length, Some, slice_get}
 use Rattle.fof_terms.specs.declared.term.Term.{Term}
 use Rattle.fof_terms.specs.declared.form.Form.{Form, Atom, Eq, Not, And, Or, All, Ex}
 use Rattle.fof_terms.specs.Instance.{instance_of}
 use Rattle.fof_terms.specs.Vocabulary.{Vocabulary}
-use Rattle.clause_form.specs.declared.path.Parent.{Parent}
-use Rattle.clause_form.specs.Norm.{norm_of}
-use Rattle.clause_form.specs.Sizes.{norm_size_of}
+use Rattle.clause_form.specs.Norm.{norm_of, HasNorm}
 use Rattle.kernel.specs.Statements.{Statements}
 use Rattle.skolem_fresh.specs.declared.just.Use.{Use}
 use Rattle.skolem_fresh.specs.Uses.{value_of, Fits, AreArguments, AreNew}
-
--- the formula has this normal form
-pub record HasNorm (a made : Form) : Type 0 where
-  pub small : norm_size_of a ≤ 100000
-  pub same : norm_of true a ≡ made
 
 -- The function may take the place of the variable of this existential formula, which stands under universal quantifiers
 -- over these sorts: its arguments are distinct variables of these, all that stand free in the formula among them.
@@ -58,6 +51,3 @@ IsSkolemOf t parents line i = (parent norm result : Form) × (uses : List Use) �
 
 abbrev pub IsSkolemStep : Statements → List Form → Form → Type 0
 IsSkolemStep t parents line = (i : ℕ) × IsSkolemOf t parents line i
-
-abbrev pub forms_of : List Parent → List Form
-forms_of parents = map (λ (p : Parent). p.form) parents

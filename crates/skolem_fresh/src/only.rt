@@ -3,7 +3,8 @@ ghost use Rattle.std.specs.Prelude.{◌≡◌, ◌+◌, ◌<◌, ◌^◌, map};
 ghost use Rattle.std.specs.List.{list_all};
 ghost use Rattle.fof_terms.specs.Lift.{greatest};
 ghost use Rattle.fof_terms.specs.Sorts.{binder_depth};
-ghost use Rattle.skolem_fresh.specs.code.Only.{is_among as among, only_in_term as only_term, only_has as only_of};
+ghost use Rattle.fof_terms.specs.Standing.{is_listed as among};
+ghost use Rattle.skolem_fresh.specs.code.Only.{only_in_term as only_term, only_has as only_of};
 
 use fof_terms::{Form, Term};
 

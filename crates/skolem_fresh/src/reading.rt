@@ -1,6 +1,7 @@
 // What stands in one formula for the variables of another of the same build.
 ghost use Rattle.std.specs.Prelude.{◌≡◌, ℕ, IfOk, map};
-ghost use Rattle.skolem_fresh.specs.code.Reading.{found_term, found_in, all_there, variable_of as variable_in};
+ghost use Rattle.clause_form.specs.ClauseView.{all_there};
+ghost use Rattle.skolem_fresh.specs.code.Reading.{found_term, found_in, variable_of as variable_in};
 ghost use Rattle.skolem_fresh.specs.code.Reading.{use_of as use_in, read as read_in, read_from as read_from_in};
 
 use crate::just::Use;

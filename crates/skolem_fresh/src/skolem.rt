@@ -8,7 +8,9 @@ ghost use Rattle.kernel.specs.Entries.{IsFresh};
 ghost use Rattle.skolem_fresh.specs.declared.just.Use.{Use as Used};
 ghost use Rattle.skolem_fresh.specs.Justified.{ShowsSkolem};
 ghost use Rattle.skolem_fresh.specs.code.Leaves.{leaves_of};
-ghost use Rattle.skolem_fresh.specs.SkolemRule.{HasNorm, IsSkolemStep, forms_of};
+ghost use Rattle.clause_form.specs.Norm.{HasNorm};
+ghost use Rattle.clause_form.specs.Paths.{forms_of};
+ghost use Rattle.skolem_fresh.specs.SkolemRule.{IsSkolemStep};
 ghost use Rattle.skolem_fresh.specs.code.Skolemizing.{IsGiven};
 ghost use Rattle.skolem_fresh.specs.Uses.{AreNew};
 

@@ -11,7 +11,7 @@ use Rattle.fof_terms.specs.Sorts.{SortedTo, Sorted}
 use Rattle.fof_terms.proofs.Scoped.{raised}
 use Rattle.fof_terms.specs.Vocabulary.{Vocabulary}
 use Rattle.clause_form.specs.declared.path.Parent.{Parent}
-use Rattle.clause_form.specs.Norm.{norm_of}
+use Rattle.clause_form.specs.Norm.{norm_of, HasNorm}
 use Rattle.clause_form.proofs.NormSize.{norm_small}
 use Rattle.clause_form.specs.Sizes.{norm_size_of}
 use Rattle.kernel.specs.Statements.{Statements}
@@ -30,7 +30,8 @@ use Rattle.skolem_fresh.specs.declared.just.SkolemJust.TheVariants.{Skolem, Choi
 use Rattle.skolem_fresh.specs.Choosing.{IsWithin}
 use Rattle.skolem_fresh.specs.Entered.{formulas_told}
 use Rattle.skolem_fresh.specs.Justified.{ShowsSkolem}
-use Rattle.skolem_fresh.specs.SkolemRule.{HasNorm, IsSkolemized, Skolemizes, forms_of}
+use Rattle.clause_form.specs.Paths.{forms_of}
+use Rattle.skolem_fresh.specs.SkolemRule.{IsSkolemized, Skolemizes}
 use Rattle.skolem_fresh.specs.Uses.{AreNew}
 use Rattle.skolem_fresh.proofs.Skolemized.{depth_kept}
 use Rattle.skolem_fresh.proofs.SkolemSteps.{norm_within}

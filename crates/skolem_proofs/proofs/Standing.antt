@@ -16,7 +16,7 @@ use Rattle.fof_terms.proofs.LiftingLaws.{both}
 use Rattle.fof_terms.specs.Sorts.{is_sorted}
 use Rattle.fof_terms.proofs.SortsFacts.{is_sorted-And, is_sorted-Or, is_sorted-All, is_sorted-Ex}
 use Rattle.fof_terms.proofs.Walks.{placing, instance_fits}
-use Rattle.clause_form.specs.Norm.{norm_of}
+use Rattle.clause_form.specs.Norm.{norm_of, HasNorm}
 use Rattle.clause_form.proofs.SizeLaws.{sum_cons}
 use Rattle.clause_form.specs.Sizes.{norm_size_of}
 use Rattle.clause_form.proofs.SizesFacts.{norm_size_of-And, norm_size_of-Or, norm_size_of-All, norm_size_of-Ex}
@@ -24,7 +24,7 @@ use Rattle.skolem_fresh.specs.declared.just.Use.{Use}
 use Rattle.skolem_fresh.specs.declared.leaves.Leaf.{Leaf}
 use Rattle.skolem_fresh.specs.code.Leaves.{leaf, leaves_of}
 use Rattle.skolem_fresh.proofs.LeavesFacts.{leaves_of-Atom, leaves_of-Eq, leaves_of-Not, leaves_of-And, leaves_of-Or, leaves_of-Imp, leaves_of-Iff, leaves_of-All, leaves_of-Ex}
-use Rattle.skolem_fresh.specs.SkolemRule.{HasNorm, IsSkolemized, AreSkolemized, an_atom, an_equation, a_negation, a_conjunction, a_disjunction, for_each, for_some, none, more}
+use Rattle.skolem_fresh.specs.SkolemRule.{IsSkolemized, AreSkolemized, an_atom, an_equation, a_negation, a_conjunction, a_disjunction, for_each, for_some, none, more}
 use Rattle.skolem_fresh.specs.code.Solid.{IsSolid, AreSolid}
 use Rattle.skolem_fresh.specs.Uses.{value_of}
 use Rattle.skolem_fresh.proofs.Entering.{neither, both_false, value_occurs}

@@ -7,7 +7,7 @@ ghost use Rattle.clause_form.specs.Sizes.{norm_size_of};
 ghost use Rattle.derive_kit.specs.Derived.{AreOfTheory, IsDerivedFrom, numbers_of};
 ghost use Rattle.norm_proofs.specs.Placed.{SortedSomewhere};
 ghost use Rattle.skolem_fresh.specs.Justified.{ShowsSkolem};
-ghost use Rattle.skolem_fresh.specs.SkolemRule.{forms_of};
+ghost use Rattle.clause_form.specs.Paths.{forms_of};
 ghost use Rattle.skolem_proofs.specs.Choosing.{ChooseAndEnd};
 ghost use Rattle.skolem_proofs.specs.code.Leading.{LeadsToLine};
 

@@ -31,7 +31,8 @@ use Rattle.sort_check.specs.Bringing.{IsNamed, Brings}
 use Rattle.sort_check.specs.Outcomes.{Outcome, and_then, mapped, each}
 use Rattle.sort_check.specs.Symbols.{Text, named_sort, with_name}
 use Rattle.sort_check.specs.Denotation.{Setting, State, denoted_form, closed, clause_scope, without_count, sentence, clause, formula}
-use Rattle.sort_check.specs.Texts.{Declared, sort_at, declared_sort, symbol_named, symbol_of, result_named, result_kind, differs, found_or_added, declared_symbol, typed, typed_body, is_type, at_line, type_item, type_lines, Reading, is_conjecture, is_single, line_of, reading, body_form, line_form, line, line_item, with_line, lines_from, only_vocabulary, denoted}
+use Rattle.sort_check.specs.Texts.{Declared, sort_at, declared_sort, symbol_named, symbol_of, result_named, result_kind, differs, found_or_added, declared_symbol, typed, typed_body, at_line, type_item, type_lines, Reading, is_conjecture, is_single, line_of, reading, body_form, line_form, line, line_item, with_line, lines_from, only_vocabulary, denoted}
+use Rattle.tptp_base.specs.Roles.{is_typing}
 use Rattle.sort_check.proofs.Stepping.{at_ok, then_ok, mapped_ok}
 use Rattle.sort_check.proofs.Bringing.{brings_nothing, brings_on, brings_sort, with_symbol_brings, forms_bring}
 use Rattle.sort_check.proofs.LineSorts.{counted_ok, reading_ok, at_line_ok, symbol_same, declaring_ok, only_ok}
@@ -74,7 +75,7 @@ line_form_brings kind names l s t a quotable e = by (is_single kind && (is_conje
     by false k = body_brings names l l.body s.vocabulary t.vocabulary a quotable (reading_ok (is_conjecture l.role || s.conjectured) (body_form names l l.body s.vocabulary) a t k)
 
 line_brings : (kind : TextKind) (names : List Text) (number : ℕ) (l : Annotated) (s t : Reading) (found : Option Line) → AreQuotable (names_of_body l.body) → line kind names number l s ≡ Ok (found, t) → Brings s.vocabulary t.vocabulary
-line_brings kind names number l s t found quotable e = by (is_type l.role) e
+line_brings kind names number l s t found quotable e = by (is_typing l.role) e
   where
     by : (b : Bool) → ◌≡◌ {A = Outcome SortFault Reading (Option Line)} (cond b (Ok (None, s)) (at_line l (mapped (λ form. Some (line_of number l form)) (line_form kind names l s)))) (Ok (found, t)) → Brings s.vocabulary t.vocabulary
     by true k = at_ok {E = SortFault} (λ (x : Option Line) (u : Reading). Brings s.vocabulary u.vocabulary) None found s t k (brings_nothing s.vocabulary)
@@ -145,7 +146,7 @@ typed_body_brings (body.Logic f) d e done quotable k = absurd (cc)
 type_item_brings : (i : Item) (d e : Declared) (done : Unit {0}) → AreQuotable (names_of_item i) → type_item i d ≡ Ok (done, e) → Brings d.vocabulary e.vocabulary
 type_item_brings (it.Comment text) d e done quotable k = at_ok {E = SortFault} (λ (u : Unit {0}) (f : Declared). Brings d.vocabulary f.vocabulary) tt done d e k (brings_nothing d.vocabulary)
 type_item_brings (it.Include i) d e done quotable k = at_ok {E = SortFault} (λ (u : Unit {0}) (f : Declared). Brings d.vocabulary f.vocabulary) tt done d e k (brings_nothing d.vocabulary)
-type_item_brings (it.Formula l) d e done quotable k = by (is_type l.role) k
+type_item_brings (it.Formula l) d e done quotable k = by (is_typing l.role) k
   where
     by : (b : Bool) → ◌≡◌ {A = Outcome SortFault Declared (Unit {0})} (cond b (at_line l (typed_body l.body d)) (Ok (tt, d))) (Ok (done, e)) → Brings d.vocabulary e.vocabulary
     by true m = typed_body_brings l.body d e done quotable (at_line_ok l (typed_body l.body d) done e m)

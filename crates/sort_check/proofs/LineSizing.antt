@@ -24,7 +24,8 @@ use Rattle.sort_check.specs.Laws.{size_of_line, AreNoLarger}
 use Rattle.sort_check.specs.Outcomes.{Outcome, and_then, mapped}
 use Rattle.sort_check.specs.Symbols.{Text}
 use Rattle.sort_check.specs.Denotation.{Setting, State, denoted_form, closed, clause_scope, without_count, sentence, clause, formula}
-use Rattle.sort_check.specs.Texts.{Declared, is_type, at_line, type_lines, Reading, is_conjecture, is_single, line_of, reading, body_form, line_form, line, line_item, with_line, lines_from, only_vocabulary, denoted}
+use Rattle.sort_check.specs.Texts.{Declared, at_line, type_lines, Reading, is_conjecture, is_single, line_of, reading, body_form, line_form, line, line_item, with_line, lines_from, only_vocabulary, denoted}
+use Rattle.tptp_base.specs.Roles.{is_typing}
 use Rattle.sort_check.proofs.Stepping.{at_ok, then_ok, mapped_ok}
 use Rattle.sort_check.proofs.LineSorts.{counted_ok, reading_ok, at_line_ok, only_ok}
 use Rattle.sort_check.proofs.SameVariables.{same_scope}
@@ -85,7 +86,7 @@ nothing_fits : (size : Size) → NoLarger size small
 nothing_fits size = record { longest = omega arith; variables = omega arith }
 
 line_fits : (kind : TextKind) (names : List Text) (number : ℕ) (l : Annotated) (s t : Reading) (found : Option Line) → line kind names number l s ≡ Ok (found, t) → NoLarger (size_of_item (it.Formula l)) (found_size found)
-line_fits kind names number l s t found e = by (is_type l.role) e
+line_fits kind names number l s t found e = by (is_typing l.role) e
   where
     by : (b : Bool) → ◌≡◌ {A = Outcome SortFault Reading (Option Line)} (cond b (Ok (None, s)) (at_line l (mapped (λ form. Some (line_of number l form)) (line_form kind names l s)))) (Ok (found, t)) → NoLarger (size_of_item (it.Formula l)) (found_size found)
     by true k = at_ok {E = SortFault} (λ (x : Option Line) (u : Reading). NoLarger (size_of_item (it.Formula l)) (found_size x)) None found s t k (nothing_fits (size_of_item (it.Formula l)))

@@ -31,7 +31,8 @@ use Rattle.sort_check.specs.declared.scope.Variable.{Variable}
 use Rattle.sort_check.specs.Outcomes.{Outcome, and_then, mapped, each}
 use Rattle.sort_check.specs.Symbols.{Text, named_sort, with_symbol, known, with_name}
 use Rattle.sort_check.specs.Denotation.{Setting, State, denoted_form, closed, variables_of, each_once, clause_scope, without_count, sentence, clause, formula}
-use Rattle.sort_check.specs.Texts.{Declared, sort_at, declared_sort, symbol_named, symbol_of, result_named, result_kind, differs, found_or_added, declared_symbol, declaring, typed, typed_body, is_type, at_line, type_item, type_lines, Reading, is_conjecture, is_single, line_of, reading, body_form, line_form, line, line_item, with_line, lines_from, only_vocabulary, denoted, Gives}
+use Rattle.sort_check.specs.Texts.{Declared, sort_at, declared_sort, symbol_named, symbol_of, result_named, result_kind, differs, found_or_added, declared_symbol, declaring, typed, typed_body, at_line, type_item, type_lines, Reading, is_conjecture, is_single, line_of, reading, body_form, line_form, line, line_item, with_line, lines_from, only_vocabulary, denoted, Gives}
+use Rattle.tptp_base.specs.Roles.{is_typing}
 use Rattle.sort_check.specs.Sorting.{IsSentence, AreSorted, Extends}
 use Rattle.sort_check.proofs.Stepping.{at_ok, then_ok, mapped_ok}
 use Rattle.sort_check.proofs.TermSorts.{grows_not, grows_on, sort_added, symbol_added}
@@ -140,7 +141,7 @@ at_line_ok {S = S} {A = A} l (Ok p) x t e = at_ok {E = SortFault} (λ y u. ◌�
 at_line_ok l (Err r) x t e = absurd (cc)
 
 line_fits : (kind : TextKind) (names : List Text) (number : ℕ) (l : Annotated) (s t : Reading) (found : Option Line) → 0 < length s.vocabulary.sorts → line kind names number l s ≡ Ok (found, t) → IsItemFit s.vocabulary t.vocabulary found
-line_fits kind names number l s t found some e = by (is_type l.role) e
+line_fits kind names number l s t found some e = by (is_typing l.role) e
   where
     nothing : IsItemFit s.vocabulary s.vocabulary None
     nothing = record { grows = grows_not s.vocabulary; fits = tt }
@@ -299,7 +300,7 @@ body_grows (body.Logic f) d e done k = absurd (cc)
 type_item_grows : (i : Item) (d e : Declared) (done : Unit {0}) → type_item i d ≡ Ok (done, e) → Extends d.vocabulary e.vocabulary
 type_item_grows (it.Comment text) d e done k = at_ok {E = SortFault} (λ (u : Unit {0}) (f : Declared). Extends d.vocabulary f.vocabulary) tt done d e k (grows_not d.vocabulary)
 type_item_grows (it.Include i) d e done k = at_ok {E = SortFault} (λ (u : Unit {0}) (f : Declared). Extends d.vocabulary f.vocabulary) tt done d e k (grows_not d.vocabulary)
-type_item_grows (it.Formula l) d e done k = by (is_type l.role) k
+type_item_grows (it.Formula l) d e done k = by (is_typing l.role) k
   where
     by : (b : Bool) → ◌≡◌ {A = Outcome SortFault Declared (Unit {0})} (cond b (at_line l (typed_body l.body d)) (Ok (tt, d))) (Ok (done, e)) → Extends d.vocabulary e.vocabulary
     by true m = body_grows l.body d e done (at_line_ok l (typed_body l.body d) done e m)

@@ -13,7 +13,8 @@ use Rattle.sort_check.specs.declared.line.TextKind.{TextKind}
 use Rattle.sort_check.specs.Outcomes.{Outcome, and_then, mapped}
 use Rattle.sort_check.specs.Symbols.{Text}
 use Rattle.sort_check.specs.Laws.{Answer, IsOne, HaveAnswer}
-use Rattle.sort_check.specs.Texts.{Declared, Reading, Gives, at_line, is_type, type_item, type_lines, typed_body, line_form, line_of, line_item, lines_from, with_line, only_vocabulary, denoted}
+use Rattle.sort_check.specs.Texts.{Declared, Reading, Gives, at_line, type_item, type_lines, typed_body, line_form, line_of, line_item, lines_from, with_line, only_vocabulary, denoted}
+use Rattle.tptp_base.specs.Roles.{is_typing}
 
 -- ---- there is one
 
@@ -42,7 +43,7 @@ told_if true first second h k = h
 told_if false first second h k = k
 
 told_type : (i : Item) (d : Declared) → IsTold (type_item i d)
-told_type (it.Formula a) d = told_if (is_type a.role) (at_line a (typed_body a.body d)) (Ok (tt, d)) (told_line a (typed_body a.body d)) tt
+told_type (it.Formula a) d = told_if (is_typing a.role) (at_line a (typed_body a.body d)) (Ok (tt, d)) (told_line a (typed_body a.body d)) tt
 told_type (it.Comment text) d = tt
 told_type (it.Include i) d = tt
 
@@ -53,7 +54,7 @@ told_types (i ∷ is) d = told_then (type_item i d) (λ done e. type_lines is e)
 told_item : (kind : TextKind) (names : List Text) (number : ℕ) (i : Item) (s : Reading) → IsTold (line_item kind names number i s)
 told_item kind names number (it.Formula a) s =
     let found : Outcome SortRule Reading (Option Line) = mapped (λ (form : Form). Some (line_of number a form)) (line_form kind names a s) in
-    told_if (is_type a.role) (Ok (None, s)) (at_line a found) tt (told_line a found)
+    told_if (is_typing a.role) (Ok (None, s)) (at_line a found) tt (told_line a found)
 told_item kind names number (it.Comment text) s = tt
 told_item kind names number (it.Include i) s = tt
 

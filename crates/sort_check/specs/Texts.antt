@@ -7,6 +7,7 @@ use Rattle.std.specs.Str.{bytes_eq}
 use Rattle.std.specs.Cmp.Lexicographic.{pointwise}
 use Rattle.tptp_base.specs.declared.limit.LimitName.TheVariants.{Sorts}
 use Rattle.tptp_base.specs.declared.surface.SortName.{SortName}
+use Rattle.tptp_base.specs.Roles.{is_typing}
 use Rattle.tptp_base.specs.declared.item.Role.{Role}
 use Rattle.tptp_base.specs.declared.item.Shape.{Shape}
 use Rattle.tptp_base.specs.declared.item.Body.{Body}
@@ -92,17 +93,13 @@ abbrev pub typed_body : Body → Declared → Outcome SortRule Declared (Unit {0
 typed_body (body.Typing t) d = typed t.name t.shape d
 typed_body (body.Logic a) d = Err NotTyped
 
-abbrev pub is_type : Role → Bool
-is_type role.Typing = true
-is_type _ = false
-
 -- a fault with the place and the name of its line
 abbrev pub at_line : {S A : Type 0} → Annotated → Outcome SortRule S A → Outcome SortFault S A
 at_line a (Ok p) = Ok p
 at_line a (Err rule) = Err (fault.Line rule a.place a.name)
 
 abbrev pub type_line : Annotated → Declared → Outcome SortFault Declared (Unit {0})
-type_line a d = if is_type a.role then at_line a (typed_body a.body d) else Ok (tt, d)
+type_line a d = if is_typing a.role then at_line a (typed_body a.body d) else Ok (tt, d)
 
 abbrev pub type_item : Item → Declared → Outcome SortFault Declared (Unit {0})
 type_item (it.Formula a) d = type_line a d
@@ -146,7 +143,7 @@ line_form kind names a s =
     else reading (is_conjecture a.role || s.conjectured) (body_form names a a.body s.vocabulary)
 
 abbrev pub line : TextKind → List Text → ℕ → Annotated → Reading → Outcome SortFault Reading (Option Line)
-line kind names item a s = if is_type a.role then Ok (None, s) else at_line a (mapped (λ form. Some (line_of item a form)) (line_form kind names a s))
+line kind names item a s = if is_typing a.role then Ok (None, s) else at_line a (mapped (λ form. Some (line_of item a form)) (line_form kind names a s))
 
 abbrev pub line_item : TextKind → List Text → ℕ → Item → Reading → Outcome SortFault Reading (Option Line)
 line_item kind names item (it.Formula a) s = line kind names item a s

@@ -5,6 +5,7 @@ ghost use Rattle.sort_check.specs.code.Outcomes.{Answers};
 ghost use Rattle.sort_check.specs.Sorting.{AreSorted, Extends};
 ghost use Rattle.sort_check.specs.Texts as spec;
 ghost use Rattle.sort_check.specs.code.Texts as spec_code;
+ghost use Rattle.tptp_base.specs.Roles.{is_typing};
 
 use crate::clauses::denote_formula;
 use crate::declarations::declare;
@@ -280,7 +281,7 @@ fn fault_at(alloc: Global, line: &Annotated, stop: Stop) -> SortFault
 }
 
 fn is_type(role: Role) -> bool
-    ensures { result ≡ spec.is_type role }
+    ensures { result ≡ is_typing role }
 {
     matches!(role, Role::Typing)
 }

@@ -28,7 +28,8 @@ use Rattle.derive_kit.specs.Instances.{IsInstance}
 use Rattle.split_defs.specs.DefinitionRule.{IsMeaning, IsValue, Relates, Equates}
 use Rattle.split_defs.specs.code.DefinitionSearch.{Heads, Values, IsBody, FactOf, RelatesBy}
 use Rattle.split_defs.specs.code.Renaming.{renamed, renamed_term}
-use Rattle.split_defs.specs.code.Trees.{all_tree, is_value, valued_tree}
+use Rattle.clause_proofs.specs.Closed.{all_tree}
+use Rattle.split_defs.specs.code.Trees.{is_value, valued_tree}
 use Rattle.split_defs.proofs.Choosing.{chosen, chosen_absent, function_sorts, value_sort, head_sort, is_value_sorted, choice_fits, choosing_is, may_choose, valued_shows}
 use Rattle.split_defs.proofs.Filling.{filled, form_back}
 use Rattle.split_defs.proofs.Headings.{Atom-injective, App-injective}

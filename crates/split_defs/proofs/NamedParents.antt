@@ -20,7 +20,7 @@ use Rattle.rule_steps.proofs.ResolutionLoops.{form_fits}
 use Rattle.split_defs.specs.declared.names.Named.{Named}
 use Rattle.split_defs.specs.SplitRule.{Names, AllName}
 use Rattle.split_defs.specs.code.SplitSearch.{IsNamed}
-use Rattle.split_defs.specs.SplitSearch.{forms_of}
+use Rattle.clause_form.specs.Paths.{forms_of}
 
 -- one clause is named
 same_clause : (e d f : Clause) (a b : Form) → a ≡ b → Names e a d → Names e b f → d ≡ f

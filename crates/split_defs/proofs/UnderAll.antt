@@ -20,7 +20,7 @@ use Rattle.kernel.specs.declared.proof.Proof.{Proof, AllI}
 use Rattle.derive_kit.proofs.Built.{ok_map}
 use Rattle.derive_kit.specs.Instances.{IsInstance}
 use Rattle.split_defs.specs.code.DefinitionSearch.{IsBody}
-use Rattle.split_defs.specs.code.Trees.{all_tree}
+use Rattle.clause_proofs.specs.Closed.{all_tree}
 use Rattle.split_defs.proofs.Filling.{filled}
 
 pub turn : {X : Type 0} (x : X) (xs : List X) → reverse (x ∷ xs) ≡ reverse xs ++ x ∷ []

@@ -30,7 +30,7 @@ use Rattle.clause_proofs.proofs.ReadyParents.{parent_ready}
 use Rattle.split_defs.specs.declared.stages.Stage.{Stage}
 use Rattle.split_defs.specs.code.SplitProof.{AreNamed, stage_clauses}
 use Rattle.split_defs.specs.SplitRule.{Names, SplitsAt, together, unfolded}
-use Rattle.split_defs.specs.SplitSearch.{forms_of}
+use Rattle.clause_form.specs.Paths.{forms_of}
 use Rattle.split_defs.proofs.Contraries.{are_named, named_at}
 use Rattle.split_defs.proofs.NamedParents.{as_many, form_at, form_back}
 use Rattle.split_defs.proofs.OneClause.{at_start, past_all}

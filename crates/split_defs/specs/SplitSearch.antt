@@ -1,18 +1,13 @@
 -- How far the search for a split has come: at the names, and at the parent that is covered.
-use Rattle.std.specs.Prelude.{List, map}
+use Rattle.std.specs.Prelude.{List}
 use Rattle.fof_terms.specs.declared.form.Form.{Form}
 use Rattle.fof_terms.specs.Vocabulary.{Vocabulary}
 use Rattle.clause_form.specs.declared.clause.Clause.{Clause}
-use Rattle.clause_form.specs.declared.path.Parent.{Parent}
 use Rattle.clause_form.specs.Covers.{scope_of}
 use Rattle.clause_rules.specs.Steps.{IsJoint, images_of_parents}
 use Rattle.split_defs.specs.declared.just.SplitJust.{SplitJust}
 use Rattle.split_defs.specs.declared.just.SplitJust.TheVariants.{Definition, Split}
 use Rattle.split_defs.specs.SplitRule.{unfolded, SplitsAt}
-
--- the formulas of the parents
-abbrev pub forms_of : List Parent → List Form
-forms_of parents = map (λ (p : Parent). p.form) parents
 
 -- the justification shows that the line is a split of a parent
 abbrev pub ShowsSplit : Vocabulary → List Form → Form → SplitJust → Type 0

@@ -3,7 +3,7 @@ ghost use Rattle.std.specs.Prelude.{IfOk};
 ghost use Rattle.clause_rules.specs.Settled.{IsFit};
 ghost use Rattle.clause_rules.specs.Steps.{AreReady, IsReady};
 ghost use Rattle.split_defs.specs.code.SplitSearch.{IsCoveredAmong, IsCovering};
-ghost use Rattle.split_defs.specs.SplitSearch.{forms_of};
+ghost use Rattle.clause_form.specs.Paths.{forms_of};
 
 use clause_form::{Clause, Parent, as_clause};
 use fof_terms::{Form, Signature};

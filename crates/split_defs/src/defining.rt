@@ -9,7 +9,8 @@ ghost use Rattle.derive_kit.specs.Derived.{IsDerivedFrom};
 ghost use Rattle.split_defs.specs.DefinitionRule.{IsMeaning, Relates};
 ghost use Rattle.split_defs.specs.code.DefinitionSearch.{Heads, IsBody, FactOf, RelatesBy};
 ghost use Rattle.split_defs.specs.code.Renaming.{renamed};
-ghost use Rattle.split_defs.specs.code.Trees.{all_tree, turned_tree, forth_tree, back_tree, under_fact};
+ghost use Rattle.clause_proofs.specs.Closed.{all_tree};
+ghost use Rattle.split_defs.specs.code.Trees.{turned_tree, forth_tree, back_tree, under_fact};
 
 use crate::arguments::names_of;
 use crate::renaming::rename;

@@ -3,7 +3,7 @@ ghost use Rattle.std.specs.Prelude.{◌≡◌, ◌↔◌, ◌+◌, ◌<◌, ◌+
 ghost use Rattle.fof_terms.specs.declared.form.Form.{Atom as Stated};
 ghost use Rattle.split_defs.specs.SplitRule.{name_lit, AllName, HasName};
 ghost use Rattle.split_defs.specs.code.SplitSearch.{IsNamed, IsPlaceOfName};
-ghost use Rattle.split_defs.specs.SplitSearch.{forms_of};
+ghost use Rattle.clause_form.specs.Paths.{forms_of};
 
 use clause_form::{AtomOf, Clause, Lit, Parent, as_clause};
 use fof_terms::{Form, SymId};

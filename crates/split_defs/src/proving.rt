@@ -17,7 +17,8 @@ ghost use Rattle.split_defs.specs.declared.just.SplitJust.TheVariants.{Split};
 ghost use Rattle.split_defs.specs.code.SplitProof.{AreGoals, AreStages, DeniedAt, enclosed_tree, nest_tree};
 ghost use Rattle.split_defs.specs.code.SplitProof.{stage_clauses, stage_tree};
 ghost use Rattle.split_defs.specs.SplitRule.{together as clauses_together};
-ghost use Rattle.split_defs.specs.SplitSearch.{ShowsSplit, forms_of};
+ghost use Rattle.clause_form.specs.Paths.{forms_of};
+ghost use Rattle.split_defs.specs.SplitSearch.{ShowsSplit};
 
 use crate::arms::all_arms;
 use crate::just::SplitJust;

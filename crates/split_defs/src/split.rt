@@ -5,7 +5,8 @@ ghost use Rattle.clause_rules.specs.Settled.{IsFit};
 ghost use Rattle.clause_rules.specs.Steps.{AreReady, IsReady};
 ghost use Rattle.split_defs.specs.SplitRule.{IsSplitStep, unfolded as unfolded_line};
 ghost use Rattle.split_defs.specs.code.SplitSearch.{IsFoundFor};
-ghost use Rattle.split_defs.specs.SplitSearch.{ShowsSplit, forms_of};
+ghost use Rattle.clause_form.specs.Paths.{forms_of};
+ghost use Rattle.split_defs.specs.SplitSearch.{ShowsSplit};
 
 use crate::covering::{Covered, covered_among};
 use crate::just::SplitJust;

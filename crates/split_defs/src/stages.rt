@@ -7,7 +7,7 @@ ghost use Rattle.clause_proofs.specs.code.Bodies.{IsReadyClause};
 ghost use Rattle.clause_rules.specs.Steps.{AreReady, IsReady};
 ghost use Rattle.split_defs.specs.code.SplitProof.{AreNamed, AreStages, IsStage, name_tree, stage_clauses};
 ghost use Rattle.split_defs.specs.SplitRule.{HasName, Names, name_lit};
-ghost use Rattle.split_defs.specs.SplitSearch.{forms_of};
+ghost use Rattle.clause_form.specs.Paths.{forms_of};
 
 use crate::names::place_of_name;
 use clause_form::Parent;

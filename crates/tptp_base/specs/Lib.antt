@@ -1,9 +1,11 @@
 pub mod Calls
 pub mod Count
 pub mod Names
+pub mod Numerals
 pub mod Place
 pub mod Quotable
 pub mod Read
+pub mod Roles
 pub mod Sink
 pub mod Steady
 pub mod Sizes

@@ -30,7 +30,8 @@ use Rattle.tptp_grammar.specs.code.ReadTypes.{typing}
 use Rattle.tptp_grammar.specs.code.ReadFormulas.{formula}
 use Rattle.tptp_grammar.specs.code.ReadClauses.{clause}
 use Rattle.tptp_grammar.specs.code.ReadGeneral.{general, nesting}
-use Rattle.tptp_grammar.specs.code.ReadItems.{is_typing, body_of, body, ended, Annotations, info_at, info, no_info, with_info, sourced_at, sourced, no_annotations, annotations_at, annotations}
+use Rattle.tptp_grammar.specs.code.ReadItems.{body_of, body, ended, Annotations, info_at, info, no_info, with_info, sourced_at, sourced, no_annotations, annotations_at, annotations}
+use Rattle.tptp_base.specs.Roles.{is_typing}
 use Rattle.tptp_grammar.proofs.Marks.{is_kind, ends_literals, ends_formula, good_behind}
 use Rattle.tptp_grammar.proofs.ExactTypings.{ends_shape, good_typing}
 use Rattle.tptp_grammar.proofs.ExactFormulas.{good_formula}

@@ -15,7 +15,8 @@ use Rattle.tptp_base.specs.declared.item.Role.{Role}
 use Rattle.tptp_base.specs.declared.item.Role.TheVariants as rl
 use Rattle.tptp_grammar.specs.Tokens.{Text, Tokens, word, role_text}
 use Rattle.tptp_grammar.specs.Items as g
-use Rattle.tptp_grammar.specs.Items.{is_integer, IsName}
+use Rattle.tptp_grammar.specs.Items.{IsName}
+use Rattle.tptp_base.specs.Numerals.{is_integer}
 use Rattle.tptp_grammar.specs.code.ReadItems.{name_at, name, all_roles, role_among, role_of, given_role, role_at, role}
 use Rattle.tptp_grammar.proofs.Marks.{text_is}
 

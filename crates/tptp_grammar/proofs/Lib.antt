@@ -21,7 +21,6 @@ pub mod AmongComments
 pub mod FirstFaults
 pub mod Nests
 pub mod Whole
-pub mod Digits
 pub mod Refusals
 pub mod Stuck
 pub mod OneAnswer

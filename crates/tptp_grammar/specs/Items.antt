@@ -1,11 +1,9 @@
 -- The productions of annotated formulas and includes.
-use Rattle.std.specs.Prelude.{◌≡◌, ◌==◌, ◌||◌, if◌then◌else◌, Bool, true, false, List, [], ◌∷◌, Option, Some, None}
-use Rattle.std.specs.Prelude.{codes}
-use Rattle.std.specs.List.{list_all}
-use Rattle.std.specs.Char.{is_ascii_digit}
+use Rattle.std.specs.Prelude.{◌≡◌, true, false, List, [], ◌∷◌, Option, Some, None, codes}
 use Rattle.first_fault.specs.Rules.{Listed}
 use Rattle.tptp_lexer.specs.declared.token.Token.{Token}
 use Rattle.tptp_lexer.specs.declared.token.Token.TheVariants.{Lower, Quoted, Number, Mark as Sign}
+use Rattle.tptp_base.specs.Numerals.{is_integer}
 use Rattle.tptp_base.specs.declared.place.Place.{Place}
 use Rattle.tptp_base.specs.declared.surface.Surface.{Surface}
 use Rattle.tptp_base.specs.declared.name.Name.{Name}
@@ -26,15 +24,6 @@ use Rattle.tptp_base.specs.declared.item.Lang.TheVariants as lang
 use Rattle.tptp_base.specs.declared.item.Role.TheVariants as role
 use Rattle.tptp_base.specs.declared.item.Body.TheVariants as body
 use Rattle.tptp_base.specs.declared.item.Item.TheVariants as item
-
-abbrev pub are_digits : Text → Bool
-are_digits [] = false
-are_digits (b ∷ bs) = list_all is_ascii_digit (b ∷ bs)
-
--- <integer> ::= <signed_integer> | <unsigned_integer>: of the numbers those of a sign and digits alone
-abbrev pub is_integer : Text → Bool
-is_integer [] = false
-is_integer (b ∷ bs) = if b == 43 || b == 45 then are_digits bs else are_digits (b ∷ bs)
 
 -- <name> ::= <atomic_word> | <integer>
 pub data IsName : Name → Tokens → Tokens → Type 0 where

@@ -9,5 +9,6 @@ pub mod Files
 pub mod Solid
 pub mod Faults
 pub mod Answers
+pub mod Texts
 pub mod Laws
 pub mod code

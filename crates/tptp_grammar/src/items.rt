@@ -1,6 +1,7 @@
 // The productions of annotated formulas and includes, one function for each. `room` is the nesting that is left.
 ghost use Rattle.std.specs.Prelude.{◌≡◌};
 ghost use Rattle.first_fault.specs.code.Reading.{separated, opened, expect};
+ghost use Rattle.tptp_base.specs.Roles.{is_typing};
 ghost use Rattle.tptp_grammar.specs.Items as items;
 ghost use Rattle.tptp_grammar.specs.code.ReadTerms.{is_mark};
 ghost use Rattle.tptp_grammar.specs.code.ReadItems as spec;
@@ -65,7 +66,7 @@ fn role(tokens: &mut Cursor<'_>) -> Result<Role, Stop>
 
 // The body of a typed formula or a type line.
 fn typed_body(alloc: Global, tokens: &mut Cursor<'_>, role: Role, room: usize) -> Result<Body, Stop>
-    ensures { Reads (spec.body_of Lang.Tff (spec.is_typing role) room tokens.old) result tokens.new }
+    ensures { Reads (spec.body_of Lang.Tff (is_typing role) room tokens.old) result tokens.new }
 {
     match role {
         Role::Typing => Ok(Body::Typing(typing(alloc, tokens, room)?)),

@@ -2,14 +2,14 @@
 ghost use Rattle.std.specs.Prelude.{◌≡◌};
 ghost use Rattle.std.specs.Char.{is_ascii_digit};
 ghost use Rattle.std.specs.List.{list_all};
-ghost use Rattle.tptp_grammar.specs.Items as items;
+ghost use Rattle.tptp_base.specs.Numerals.{are_digits, is_integer};
 ghost use Rattle.tptp_grammar.specs.code.ReadItems as spec;
 
 use tptp_base::{Lang, Role};
 
 /// Whether a number is a sign and digits alone.
 pub fn is_integer(text: &[u8]) -> bool
-    ensures { result ≡ items.is_integer text.now }
+    ensures { result ≡ is_integer text.now }
 {
     match text {
         [sign, digits @ ..] => {
@@ -24,7 +24,7 @@ pub fn is_integer(text: &[u8]) -> bool
 }
 
 fn are_digits(text: &[u8]) -> bool
-    ensures { result ≡ items.are_digits text.now }
+    ensures { result ≡ are_digits text.now }
 {
     !text.is_empty() && all_digits(text)
 }

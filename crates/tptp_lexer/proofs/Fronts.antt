@@ -15,7 +15,8 @@ use Rattle.tptp_lexer.specs.declared.token.Mark.{Mark}
 use Rattle.tptp_lexer.specs.declared.token.Mark.TheVariants as m
 use Rattle.tptp_lexer.specs.declared.token.Token.{Token}
 use Rattle.tptp_lexer.specs.declared.token.Token.TheVariants as t
-use Rattle.tptp_lexer.specs.Bytes.{Text, is_blank, is_lower_alpha, is_upper_alpha, is_numeric, is_alpha_numeric, is_in_line}
+use Rattle.tptp_lexer.specs.Bytes.{Text, is_blank, is_lower_alpha, is_upper_alpha, is_numeric, is_alpha_numeric}
+use Rattle.tptp_base.specs.Place.{is_no_line_feed}
 use Rattle.tptp_lexer.specs.Comments.{begins_comment}
 use Rattle.tptp_lexer.specs.Marks.{mark_text}
 use Rattle.tptp_lexer.specs.Numbers.{is_sign, IsNumber}
@@ -112,17 +113,17 @@ module _ (style : Style) (text : Text) where
   unfolding front_of behind_words
   front-slash = cond-false (begins_comment style 47) _ _ (no_comment style 47 refl refl)
 
-  front-percent : begins_comment style 37 ≡ true → front_of style (37 ∷ text) ≡ Found k.Comment (prefix_len is_in_line (37 ∷ text))
+  front-percent : begins_comment style 37 ≡ true → front_of style (37 ∷ text) ≡ Found k.Comment (prefix_len is_no_line_feed (37 ∷ text))
   unfolding front_of behind_words
   front-percent h = cond-true (begins_comment style 37) _ _ h
 
-  front-number_sign : begins_comment style 35 ≡ true → front_of style (35 ∷ text) ≡ Found k.Comment (prefix_len is_in_line (35 ∷ text))
+  front-number_sign : begins_comment style 35 ≡ true → front_of style (35 ∷ text) ≡ Found k.Comment (prefix_len is_no_line_feed (35 ∷ text))
   unfolding front_of behind_words
   front-number_sign h = cond-true (begins_comment style 35) _ _ h
 
-pub front-line : (style : Style) (byte : ℕ) (text : Text) → begins_comment style byte ≡ true → front_of style (byte ∷ text) ≡ Found k.Comment (prefix_len is_in_line (byte ∷ text))
+pub front-line : (style : Style) (byte : ℕ) (text : Text) → begins_comment style byte ≡ true → front_of style (byte ∷ text) ≡ Found k.Comment (prefix_len is_no_line_feed (byte ∷ text))
 front-line style byte text h =
-    let P : ℕ → Type 0 = λ b. begins_comment style b ≡ true → front_of style (b ∷ text) ≡ Found k.Comment (prefix_len is_in_line (b ∷ text)) in
+    let P : ℕ → Type 0 = λ b. begins_comment style b ≡ true → front_of style (b ∷ text) ≡ Found k.Comment (prefix_len is_no_line_feed (b ∷ text)) in
     elim (comment_byte style byte h) [
       | inl e ↦ subst P (sym e) (front-percent style text) h
       | inr e ↦ subst P (sym e) (front-number_sign style text) h
@@ -209,7 +210,7 @@ mark_reached sign (Some found) covers = (covers.0, λ e. ap t.Mark (covers.1 e))
 run_reached : (kind : Kind) (p : ℕ → Bool) (token : Token) (spelling rest : Text) → list_all p spelling ≡ true → token_of kind spelling ≡ token → Reached token spelling (Found kind (prefix_len p (spelling ++ rest)))
 run_reached kind p token spelling rest h is = (passes_most p spelling rest h, λ e. is)
 
-pub in_line_first : (style : Style) (byte : ℕ) → begins_comment style byte ≡ true → is_in_line byte ≡ true
+pub in_line_first : (style : Style) (byte : ℕ) → begins_comment style byte ≡ true → is_no_line_feed byte ≡ true
 in_line_first style byte h = elim (comment_byte style byte h) [ inl e ↦ rw e refl | inr e ↦ rw e refl ]
 
 pub lower_first : (byte : ℕ) → is_lower_alpha byte ≡ true → is_alpha_numeric byte ≡ true
@@ -242,7 +243,7 @@ reached {style} (distinct_object {chars = chars} {written = written} w) rest =
 reached {style} (number {text = digits} h) rest = number_reached style digits rest h (number_begins h)
 reached {style} (comment_line {first = first} {line = line} h all) rest =
     subst (Reached (t.Comment (first ∷ line)) (first ∷ line)) (sym (front-line style first (line ++ rest) h))
-    (run_reached k.Comment is_in_line (t.Comment (first ∷ line)) (first ∷ line) rest (and_from _ _ (in_line_first style first h) all) refl)
+    (run_reached k.Comment is_no_line_feed (t.Comment (first ∷ line)) (first ∷ line) rest (and_from _ _ (in_line_first style first h) all) refl)
 reached {style} (comment_block body clean) rest =
     let spelling = 47 ∷ 42 ∷ (body ++ 42 ∷ 47 ∷ []) in
     let found : front_of style (spelling ++ rest) ≡ Found k.Comment (length body + 4) =

@@ -9,7 +9,7 @@ use Rattle.std.proofs.Math.Seq.{take-add}
 use Rattle.memchr.specs.Find.{IsLastByte, is_byte}
 use Rattle.tptp_base.specs.declared.place.Place.{Place}
 use Rattle.tptp_base.specs.Place.{place_of, is_line_feed, is_no_line_feed}
-use Rattle.tptp_lexer.specs.Bytes.{Text, is_in_line}
+use Rattle.tptp_lexer.specs.Bytes.{Text}
 use Rattle.tptp_lexer.specs.code.Step.{IsOneLine}
 use Rattle.tptp_lexer.proofs.Runs.{not_true}
 
@@ -36,15 +36,15 @@ count_none (byte ∷ piece) h =
     rw other (omega arith)
 
 -- the line goes on through what stands before its line feed
-pub line_goes_on : (text : Text) (from to : ℕ) → IsOneLine text from (from + prefix_len is_in_line (slice_range text from to))
+pub line_goes_on : (text : Text) (from to : ℕ) → IsOneLine text from (from + prefix_len is_no_line_feed (slice_range text from to))
 line_goes_on text from to offset low high feed =
     let piece = slice_range text from to in
     let k = offset - from in
-    let short : k < prefix_len is_in_line piece = omega arith in
-    let passes : is_in_line (get_or piece k 0) ≡ true = prefix_len_passes is_in_line piece k 0 short in
-    let within : k < to - from = omega (arith, prefix_len-le-length is_in_line piece, length-take (to - from) (drop from text)) in
+    let short : k < prefix_len is_no_line_feed piece = omega arith in
+    let passes : is_no_line_feed (get_or piece k 0) ≡ true = prefix_len_passes is_no_line_feed piece k 0 short in
+    let within : k < to - from = omega (arith, prefix_len-le-length is_no_line_feed piece, length-take (to - from) (drop from text)) in
     let same : get_or piece k 0 ≡ get_or text offset 0 = get_or-take (to - from) (drop from text) k 0 within ∙ get_or-drop from text k 0 ∙ (let e : from + k ≡ offset = omega arith in ap (λ n. get_or text n 0) e) in
-    let other : not (is_line_feed (get_or text offset 0)) ≡ true = ap is_in_line (sym same) ∙ passes in
+    let other : not (is_line_feed (get_or text offset 0)) ≡ true = ap is_no_line_feed (sym same) ∙ passes in
     absurd (true_not _ feed other)
 
 -- ---- a piece behind a text

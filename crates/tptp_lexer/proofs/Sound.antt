@@ -17,7 +17,8 @@ use Rattle.tptp_lexer.specs.declared.token.Mark.TheVariants as m
 use Rattle.tptp_lexer.specs.declared.token.Token.{Token}
 use Rattle.tptp_lexer.specs.declared.token.Token.TheVariants as t
 use Rattle.tptp_lexer.specs.Answer.{IsOpen, BeginsNothing}
-use Rattle.tptp_lexer.specs.Bytes.{Text, is_blank, is_lower_alpha, is_upper_alpha, is_numeric, is_alpha_numeric, is_in_line}
+use Rattle.tptp_lexer.specs.Bytes.{Text, is_blank, is_lower_alpha, is_upper_alpha, is_numeric, is_alpha_numeric}
+use Rattle.tptp_base.specs.Place.{is_no_line_feed}
 use Rattle.tptp_lexer.specs.Comments.{begins_comment}
 use Rattle.tptp_lexer.specs.Marks.{mark_text}
 use Rattle.tptp_lexer.specs.Numbers.{is_sign}
@@ -142,7 +143,7 @@ words_say style byte text =
     by_test style z (byte == 36) _ _ (λ e. at_byte 36 (dollar text) e (dollar_says style text)) (λ n.
     by_test style z (byte == 39) _ _ (λ e. at_byte 39 (quoted k.Quoted 1 (quote_end 39 false 0 text)) e (quoted_by style k.Quoted 1 39 text (single_spells style) inl _ (end_says 39 false 0 text))) (λ n.
     by_test style z (byte == 34) _ _ (λ e. at_byte 34 (quoted k.Distinct 0 (quote_end 34 false 0 text)) e (quoted_by style k.Distinct 0 34 text (double_spells style) (λ o. inr (inl o)) _ (end_says 34 false 0 text))) (λ n.
-    by_test style z (begins_comment style byte) _ _ (λ h. run_says style k.Comment is_in_line byte text (in_line_first style byte h) (comment_line h (prefix_passes is_in_line text))) (λ n.
+    by_test style z (begins_comment style byte) _ _ (λ h. run_says style k.Comment is_no_line_feed byte text (in_line_first style byte h) (comment_line h (prefix_passes is_no_line_feed text))) (λ n.
     by_test style z (byte == 47) _ _ (λ e. at_byte 47 (block text) e (block_says style text)) (λ n. mark_by style z (mark_of z) (mark_is byte text))))))
   where
     at_byte : (literal : ℕ) (front : Front) → byte == literal ≡ true → SaysFront style (literal ∷ text) front → SaysFront style (byte ∷ text) front

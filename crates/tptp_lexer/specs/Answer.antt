@@ -31,6 +31,10 @@ pub record BeginsNothing (style : Style) (text : Text) : Type 0 where
   pub no_token : BeginsToken style text → ⊥
   pub no_open : IsOpen text → ⊥
 
+-- a text as a region of itself
+abbrev pub whole : Text → Region
+whole text = record { start = 0; end = length text }
+
 -- the bytes of a part of a text
 abbrev pub part : Text → Region → Text
 part text region = slice_range text region.start region.end

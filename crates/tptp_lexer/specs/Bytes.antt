@@ -1,5 +1,5 @@
 -- The classes of bytes of which tokens are made.
-use Rattle.std.specs.Prelude.{ℕ, Bool, ◌||◌, ◌&&◌, ◌==◌, not, nat_le, List}
+use Rattle.std.specs.Prelude.{ℕ, Bool, ◌||◌, ◌&&◌, ◌==◌, nat_le, List}
 use Rattle.std.specs.Char.{is_ascii_lowercase, is_ascii_uppercase, is_ascii_digit}
 
 abbrev pub Text : Type 0
@@ -24,7 +24,3 @@ is_numeric byte = is_ascii_digit byte
 -- <alpha_numeric>: a letter, a digit or `_`
 abbrev pub is_alpha_numeric : ℕ → Bool
 is_alpha_numeric byte = (is_lower_alpha byte || is_upper_alpha byte) || (is_numeric byte || byte == 95)
-
--- what a line has before its line feed
-abbrev pub is_in_line : ℕ → Bool
-is_in_line byte = not (byte == 10)

@@ -6,7 +6,8 @@ use Rattle.tptp_lexer.specs.declared.token.Mark.{Mark as Sign}
 use Rattle.tptp_lexer.specs.declared.token.Token.{Token}
 use Rattle.tptp_lexer.specs.declared.token.Token.TheVariants.{Lower, Quoted, Upper, Dollar, System, Number, Distinct}
 use Rattle.tptp_lexer.specs.declared.token.Token.TheVariants.{Comment, Mark}
-use Rattle.tptp_lexer.specs.Bytes.{Text, is_lower_alpha, is_upper_alpha, is_alpha_numeric, is_in_line}
+use Rattle.tptp_lexer.specs.Bytes.{Text, is_lower_alpha, is_upper_alpha, is_alpha_numeric}
+use Rattle.tptp_base.specs.Place.{is_no_line_feed}
 use Rattle.tptp_lexer.specs.Comments.{begins_comment, HasNoEnd}
 use Rattle.tptp_lexer.specs.Marks.{mark_text}
 use Rattle.tptp_lexer.specs.Numbers.{IsNumber}
@@ -28,7 +29,7 @@ pub data Spelled (style : Style) : Token → Text → Type 0 where
   -- <number>
   number : {text : Text} → IsNumber text → Spelled style (Number text) text
   -- <comment_line>
-  comment_line : {first : ℕ} {line : Text} → IsTrue (begins_comment style first) → IsTrue (list_all is_in_line line) → Spelled style (Comment (first ∷ line)) (first ∷ line)
+  comment_line : {first : ℕ} {line : Text} → IsTrue (begins_comment style first) → IsTrue (list_all is_no_line_feed line) → Spelled style (Comment (first ∷ line)) (first ∷ line)
   -- <comment_block>: through the first `*/` behind `/*`
   comment_block : (body : Text) → HasNoEnd (body ++ codes "*") → Spelled style (Comment (codes "/*" ++ (body ++ codes "*/"))) (codes "/*" ++ (body ++ codes "*/"))
   -- the punctuation and the connectives

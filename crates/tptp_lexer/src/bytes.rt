@@ -1,6 +1,7 @@
 //! The classes of bytes, and the runs of them that a text begins with.
 ghost use Rattle.std.specs.Prelude.{◌≡◌, ◌≢◌, ◌<◌, ◌≤◌, length, slice_index};
 ghost use Rattle.std.specs.List.{prefix_len};
+ghost use Rattle.tptp_base.specs.Place.{is_no_line_feed};
 ghost use Rattle.tptp_lexer.specs.Bytes as spec;
 
 use memchr::memchr;
@@ -56,7 +57,7 @@ pub fn digits_len(text: &[u8]) -> usize
 
 /// How many bytes stand before the line's end.
 pub fn line_len(text: &[u8]) -> usize
-    ensures value { result ≡ prefix_len spec.is_in_line text.now }
+    ensures value { result ≡ prefix_len is_no_line_feed text.now }
     ensures within { result ≤ length text.now }
 {
     match memchr(b'\n', text) {

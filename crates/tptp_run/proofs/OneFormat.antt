@@ -20,7 +20,8 @@ use Rattle.tptp_grammar.specs.Laws as parser
 use Rattle.tptp_grammar.proofs.OneAnswer as parsing
 use Rattle.tptp_run.specs.Ending.{Ending, says, AfterFile}
 use Rattle.tptp_run.specs.Formatted.{SaysText, EndsFormat}
-use Rattle.tptp_run.specs.Spelled.{IsLexed, IsParsed, SpellsItems, IsTextRefusal, SaysLexFault, SaysGrammarFault}
+use Rattle.tptp_grammar.specs.Texts.{IsParsed}
+use Rattle.tptp_run.specs.Spelled.{IsLexed, SpellsItems, IsTextRefusal, SaysLexFault, SaysGrammarFault}
 use Rattle.tptp_run.specs.declared.run.TheConstants.{TOTAL_SIZE}
 use Rattle.tptp_run.proofs.OneEnding.{one_lex_said, one_grammar_said}
 

@@ -1,17 +1,13 @@
 -- How the command `parse` ends: the first fault of the problem is said, with all that it includes, or how many formulas
 -- it has.
-use Rattle.std.specs.Prelude.{◌≡◌, ℕ, Bool, true, false, List, ◌++◌, codes, decimal, count_by}
+use Rattle.std.specs.Prelude.{◌≡◌, ℕ, List, ◌++◌, codes, decimal, count_by}
 use Rattle.std.specs.declared.option.Option.{Option}
 use Rattle.tptp_base.specs.declared.item.Item.{Item}
-use Rattle.tptp_base.specs.declared.item.Item.TheVariants.{Formula}
 use Rattle.tptp_base.specs.Store.{Files}
+use Rattle.tstp_graph.specs.Lines.{is_formula}
 use Rattle.tptp_run.specs.Denoted.{AfterResolved, AfterDenoted}
 use Rattle.tptp_run.specs.Ending.{Ending, says}
 use Rattle.szs_report.specs.Report.{text_line}
-
-abbrev pub is_formula : Item → Bool
-is_formula (Formula formula) = true
-is_formula other = false
 
 -- all annotated formulas, type lines included
 abbrev pub formula_count : List Item → ℕ

@@ -1,18 +1,18 @@
 -- What a text in the TPTP language spells, or what is said of the first fault in it.
-use Rattle.std.specs.Prelude.{◌≡◌, ◌⊎◌, ℕ, List, ◌++◌, length, codes, decimal, Result, Ok, Err}
+use Rattle.std.specs.Prelude.{◌≡◌, ◌⊎◌, ℕ, List, ◌++◌, codes, decimal, Result, Ok, Err}
 use Rattle.tptp_base.specs.declared.item.Item.{Item}
 use Rattle.tptp_base.specs.declared.place.Place.{Place}
-use Rattle.tptp_base.specs.declared.place.Region.{Region}
 use Rattle.tptp_lexer.specs.declared.fault.LexFault.{LexFault}
 use Rattle.tptp_lexer.specs.declared.style.Style.TheVariants.{Problem}
 use Rattle.tptp_lexer.specs.declared.token.Tokens.{Tokens}
+use Rattle.tptp_lexer.specs.Answer.{whole}
 use Rattle.tptp_grammar.specs.declared.fault.GrammarFault.{GrammarFault}
+use Rattle.tptp_grammar.specs.Texts.{IsParsed, SpellsText}
 use Rattle.tptp_run.specs.Ending.{Ending, says, over_limit}
 use Rattle.szs_report.specs.Report.{text_line}
 use Rattle.tptp_lexer.specs.declared.fault.LexFault.TheVariants as lexed
 use Rattle.tptp_lexer.specs.Answer as lexer
 use Rattle.tptp_grammar.specs.declared.fault.GrammarFault.TheVariants as parsed
-use Rattle.tptp_grammar.specs.Answers as grammar
 
 -- the line and the column of a place, both from 1 and in bytes
 abbrev pub place_text : Place → List ℕ
@@ -39,17 +39,11 @@ SaysGrammarFault name parsed.Memory ending = ⊥
 
 -- the whole text of a problem has these tokens, or the lexer's first fault
 abbrev pub IsLexed : List ℕ → Result Tokens LexFault → Type 0
-IsLexed text answer = lexer.Answers 0 text (record { start = 0; end = length text }) Problem answer
+IsLexed text answer = lexer.Answers 0 text (whole text) Problem answer
 
--- the tokens spell these items, or they have the parser's first fault
-abbrev pub IsParsed : Tokens → Result (List Item) GrammarFault → Type 0
-IsParsed tokens answer = grammar.Answers tokens.items tokens.end answer
-
--- The text spells the items, nested no deeper than the limit.
-pub record SpellsItems (text : List ℕ) (items : List Item) : Type 0 where
-  pub tokens : Tokens
-  pub lexed : IsLexed text (Ok tokens)
-  pub parsed : IsParsed tokens (Ok items)
+-- the whole text of a problem spells the items, nested no deeper than the limit
+abbrev pub SpellsItems : List ℕ → List Item → Type 0
+SpellsItems text items = SpellsText 0 text (whole text) Problem items
 
 -- The first fault of a text is said: that of its tokens, or else that of its items.
 abbrev pub IsTextRefusal : List ℕ → List ℕ → Ending → Type 0

@@ -2,6 +2,7 @@
 ghost use Rattle.std.specs.Prelude.{◌≡◌, ◌⊎◌, IfOk, IfSome};
 ghost use Rattle.std.specs.Option.{option_copied};
 ghost use Rattle.tptp_base.specs.Count.{Rose};
+ghost use Rattle.tstp_graph.specs.Lines.{is_formula};
 ghost use Rattle.tptp_run.specs.code.Answer.{ending_of};
 ghost use Rattle.tptp_run.specs.OtherFaults.{SaysProblemFault};
 ghost use Rattle.tptp_run.specs.Outcome.{IsAnswer};
@@ -52,7 +53,7 @@ fn formula_count(items: &[Item]) -> usize
 
 // Whether the item is a formula.
 fn is_formula(item: &Item) -> bool
-    ensures { result ≡ spec.is_formula item.now }
+    ensures { result ≡ is_formula item.now }
 {
     matches!(item, Item::Formula(_))
 }

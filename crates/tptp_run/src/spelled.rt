@@ -1,7 +1,7 @@
 // What the text of a problem spells, and what is said of its first fault.
 ghost use Rattle.std.specs.Prelude.{◌≡◌, ◌⊎◌, Ok, Err, IfOk, IfErr};
 ghost use Rattle.tptp_run.specs.code.Answer.{ending_of};
-ghost use Rattle.tptp_run.specs.Spelled.{IsLexed, IsParsed, SpellsItems, IsTextRefusal, SaysLexFault, SaysGrammarFault};
+ghost use Rattle.tptp_run.specs.Spelled.{IsLexed, SpellsItems, IsTextRefusal, SaysLexFault, SaysGrammarFault};
 ghost use Rattle.tptp_run.specs.code.Stop.{HasCause, IfRefused, IfStopped};
 ghost use Rattle.tptp_lexer.specs.declared.fault.LexFault.{LexFault as lex_fault};
 

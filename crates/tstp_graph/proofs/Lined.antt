@@ -9,7 +9,7 @@ use Rattle.tstp_graph.specs.declared.shape.Node.{Node}
 use Rattle.tstp_graph.specs.declared.cite.Reading.{Reading}
 use Rattle.tstp_graph.specs.declared.fault.GraphFault.{GraphFault}
 use Rattle.tstp_graph.specs.declared.fault.GraphFault.TheVariants.{DuplicateLine, BadSource}
-use Rattle.tstp_graph.specs.Lines.{is_typing}
+use Rattle.tptp_base.specs.Roles.{is_typing}
 use Rattle.tstp_graph.specs.Meaning.{Means}
 use Rattle.tstp_graph.specs.code.Meaning.{resolved}
 use Rattle.tstp_graph.specs.code.Sources.{source_of}

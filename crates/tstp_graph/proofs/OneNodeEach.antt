@@ -6,7 +6,8 @@ use Rattle.tptp_base.specs.declared.item.Item.{Item}
 use Rattle.tptp_base.specs.declared.item.Item.TheVariants as item
 use Rattle.tstp_graph.specs.declared.shape.Node.{Node}
 use Rattle.tstp_graph.specs.declared.fault.GraphFault.{GraphFault}
-use Rattle.tstp_graph.specs.Lines.{is_typing, with_formula_name, names_in}
+use Rattle.tstp_graph.specs.Lines.{with_formula_name, names_in}
+use Rattle.tptp_base.specs.Roles.{is_typing}
 use Rattle.tstp_graph.specs.Meaning.{Means}
 use Rattle.tstp_graph.specs.Nodes.{line_answer, before, nodes_from}
 

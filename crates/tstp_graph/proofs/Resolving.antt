@@ -19,7 +19,7 @@ use Rattle.tstp_graph.specs.code.Nodes.{is_first, resolved_line, read_line, line
 use Rattle.tstp_graph.specs.code.Nodes.{IsStep}
 use Rattle.tstp_graph.specs.code.Outcomes.{Yields}
 use Rattle.tstp_graph.specs.code.Sources.{source_of}
-use Rattle.tstp_graph.specs.Lines.{is_typing}
+use Rattle.tptp_base.specs.Roles.{is_typing}
 use Rattle.tstp_graph.specs.declared.cite.Reading.{Reading}
 use Rattle.tstp_graph.specs.declared.fault.GraphFault.TheVariants.{DuplicateLine, BadSource}
 use Rattle.tptp_base.specs.declared.item.Item.TheVariants as item

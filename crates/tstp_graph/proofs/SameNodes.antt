@@ -16,7 +16,8 @@ use Rattle.tstp_graph.specs.declared.cite.Cite.{Cite}
 use Rattle.tstp_graph.specs.declared.cite.Reading.{Reading}
 use Rattle.tstp_graph.specs.declared.fault.GraphFault.{GraphFault}
 use Rattle.tstp_graph.specs.declared.fault.GraphFault.TheVariants.{DuplicateLine, BadSource}
-use Rattle.tstp_graph.specs.Lines.{is_typing, with_formula_name, names_in}
+use Rattle.tstp_graph.specs.Lines.{with_formula_name, names_in}
+use Rattle.tptp_base.specs.Roles.{is_typing}
 use Rattle.tstp_graph.specs.Meaning.{Means, means_of, meaning, is_known, cite_name, with_ref, with_refs, parents, first_unknown}
 use Rattle.tstp_graph.specs.Nodes.{node_of, known_line, read_line, line_answer, before, nodes_from, nodes_of}
 use Rattle.tstp_graph.specs.Sources.{Source, source_of}

@@ -17,7 +17,8 @@ use Rattle.tstp_graph.specs.declared.cite.Reading.{Reading}
 use Rattle.tstp_graph.specs.declared.word.RecordKind.{RecordKind}
 use Rattle.tstp_graph.specs.declared.word.RecordKind.TheVariants.{Inference, Introduced, File, Theory, Other}
 use Rattle.tstp_graph.specs.Sources.{name_of, cited, is_list, both, member, members, listed, of_record, is_step_record, Source, source_of}
-use Rattle.tstp_graph.specs.Words.{is_unknown, is_integer, record_kind}
+use Rattle.tstp_graph.specs.Words.{is_unknown, record_kind}
+use Rattle.tptp_base.specs.Numerals.{is_integer}
 use Rattle.tstp_graph.specs.code.Sources.{nothing, named, word_reading, number_reading, list_reading, pair_reading, record_reading, filed, reading}
 use Rattle.tptp_base.specs.declared.item.GTerm.TheVariants as term
 use Rattle.tptp_base.specs.declared.item.GTerm.TheOpen as open_term

@@ -2,16 +2,11 @@
 use Rattle.std.specs.Prelude.{◌<◌, Bool, true, false, List, [], ◌∷◌, count_by, Option, None, Some, if◌then◌else◌}
 use Rattle.std.specs.Bool.{beq}
 use Rattle.tptp_base.specs.declared.name.Name.{Name}
-use Rattle.tptp_base.specs.declared.item.Role.{Role}
-use Rattle.tptp_base.specs.declared.item.Role.TheVariants.{Typing}
+use Rattle.tptp_base.specs.Roles.{is_typing}
 use Rattle.tptp_base.specs.declared.item.Annotated.{Annotated}
 use Rattle.tptp_base.specs.declared.item.Item.{Item}
 use Rattle.tptp_base.specs.declared.item.Item.TheVariants.{Comment, Formula, Include}
 use Rattle.tstp_graph.specs.declared.lines.TheConstants.{MOST_FORMULAS}
-
-abbrev pub is_typing : Role → Bool
-is_typing Typing = true
-is_typing _ = false
 
 abbrev pub is_formula : Item → Bool
 is_formula (Formula formula) = true

@@ -9,7 +9,7 @@ use Rattle.tstp_graph.specs.declared.shape.Ref.{Ref}
 use Rattle.tstp_graph.specs.declared.shape.Node.{Node}
 use Rattle.tstp_graph.specs.declared.fault.GraphFault.{GraphFault}
 use Rattle.tstp_graph.specs.declared.fault.GraphFault.TheVariants.{UnknownParent, DuplicateLine, BadSource, Include}
-use Rattle.tstp_graph.specs.Lines.{is_typing}
+use Rattle.tptp_base.specs.Roles.{is_typing}
 use Rattle.tstp_graph.specs.Meaning.{Means, parents, first_unknown, is_some_ref}
 use Rattle.tstp_graph.specs.Sources.{Source, source_of}
 use Rattle.tstp_graph.specs.Tables.{same_name}

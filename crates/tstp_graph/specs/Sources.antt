@@ -11,7 +11,8 @@ use Rattle.tstp_graph.specs.declared.word.RecordKind.{RecordKind}
 use Rattle.tstp_graph.specs.declared.word.RecordKind.TheVariants.{Inference, Introduced, File, Theory, Other}
 use Rattle.tstp_graph.specs.declared.cite.Cite.{Cite}
 use Rattle.tstp_graph.specs.declared.cite.Cite.TheVariants.{Named, Filed}
-use Rattle.tstp_graph.specs.Words.{is_unknown, is_integer, record_kind}
+use Rattle.tstp_graph.specs.Words.{is_unknown, record_kind}
+use Rattle.tptp_base.specs.Numerals.{is_integer}
 use Rattle.tptp_base.specs.declared.name.Name.TheVariants as name
 
 -- the name that a term is, if it is one: a word or an integer

@@ -1,6 +1,7 @@
 // The lines among items.
 ghost use Rattle.std.specs.Prelude.{◌≡◌, ◌<◌, ◌≤◌, ◌^◌, length, map, count_by};
 ghost use Rattle.std.specs.Option.{option_copied};
+ghost use Rattle.tptp_base.specs.Roles.{is_typing};
 ghost use Rattle.tstp_graph.specs.Lines;
 ghost use Rattle.tstp_graph.specs.Lines.{formula_of};
 
@@ -29,7 +30,7 @@ pub fn formula_of(item: &Item, is_type: bool) -> Option<&Annotated>
 
 /// Whether it is role type.
 pub fn is_typing(role: Role) -> bool
-    ensures { result ≡ Lines.is_typing role }
+    ensures { result ≡ is_typing role }
 {
     matches!(role, Role::Typing)
 }

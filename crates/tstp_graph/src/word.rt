@@ -1,6 +1,8 @@
 // The words of sources.
 ghost use Rattle.std.specs.Prelude.{◌≡◌};
+ghost use Rattle.std.specs.Char.{is_ascii_digit};
 ghost use Rattle.std.specs.List.{list_all};
+ghost use Rattle.tptp_base.specs.Numerals.{are_digits, is_integer};
 ghost use Rattle.tstp_graph.specs.Words;
 
 /// What a word with arguments is as a source.
@@ -40,7 +42,7 @@ pub fn is_unknown(word: &[u8]) -> bool
 
 /// Whether a number is an integer: digits, perhaps behind a sign.
 pub fn is_integer(number: &[u8]) -> bool
-    ensures { result ≡ Words.is_integer number.now }
+    ensures { result ≡ is_integer number.now }
 {
     match number {
         [b'+' | b'-', rest @ ..] => are_digits(rest),
@@ -50,14 +52,14 @@ pub fn is_integer(number: &[u8]) -> bool
 
 // Whether there are digits, and nothing else.
 fn are_digits(text: &[u8]) -> bool
-    ensures { result ≡ Words.are_digits text.now }
+    ensures { result ≡ are_digits text.now }
 {
     !text.is_empty() && all_digits(text)
 }
 
 // Whether all are digits.
 fn all_digits(text: &[u8]) -> bool
-    ensures { result ≡ list_all Words.is_digit text.now }
+    ensures { result ≡ list_all is_ascii_digit text.now }
 {
     text.iter().all(|byte| byte.is_ascii_digit())
 }

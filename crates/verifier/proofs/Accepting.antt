@@ -1,8 +1,9 @@
 -- A derivation whose lines are all accepted is good: so the premise that it is good asks no more than is found.
-use Rattle.std.proofs.Common.{◌≡◌, ℕ, ◌≤◌, Bool, true, false, List, [], ◌∷◌, ◌++◌, length, map, Option, None, Some, slice_get, refl, sym, ◌∙◌, ap, subst}
+use Rattle.std.proofs.Common.{◌≡◌, ℕ, ◌≤◌, Bool, true, false, List, [], ◌∷◌, ◌++◌, length, Option, None, Some, slice_get, refl, sym, ◌∙◌, ap, subst}
 use Rattle.std.proofs.lemmas.Option.{slice_get_within}
 use Rattle.fof_terms.specs.Vocabulary.{Vocabulary}
 use Rattle.fof_terms.specs.declared.form.Form.{Form}
+use Rattle.clause_form.specs.Paths.{forms_of}
 use Rattle.clause_form.specs.declared.path.Parent.{Parent}
 use Rattle.kernel.specs.Statements.{Statements}
 use Rattle.kernel.specs.declared.entry.Entry.{Entry}
@@ -28,32 +29,28 @@ use Rattle.verifier.proofs.Numbers.{IsNumbered, answer_numbered, begun_numbered}
 use Rattle.verifier.proofs.Renumbering.{first_alike_rule, alone_alike_rule}
 use Rattle.verifier.proofs.Symbols.{SameSymbols, other_way}
 
--- the formulas of parents
-abbrev forms_in : List Parent → List Form
-forms_in parents = map (λ (p : Parent). p.form) parents
-
 parent_form : (d : Derivation) (numbers : List (Option ℕ)) (r : Ref) (q : Parent) → parent_of d.given d.forms numbers r ≡ Some q → cited_form d.given d.forms r ≡ Some q.form
 parent_form d numbers (ref.Given place) q is = (with_number_is place (slice_get d.given place) q is).0
 parent_form d numbers (ref.Line place) q is = (accepted_is (slice_get numbers place) (slice_get d.forms place) q is).1
 
-parents_forms : (d : Derivation) (numbers : List (Option ℕ)) (rs : List Ref) (qs : List Parent) → parents_of d.given d.forms numbers rs ≡ Some qs → cited_forms d.given d.forms rs ≡ Some (forms_in qs)
-parents_forms d numbers [] qs is = let none : qs ≡ [] = cc in ap (λ (ps : List Parent). Some (forms_in ps)) (sym none)
+parents_forms : (d : Derivation) (numbers : List (Option ℕ)) (rs : List Ref) (qs : List Parent) → parents_of d.given d.forms numbers rs ≡ Some qs → cited_forms d.given d.forms rs ≡ Some (forms_of qs)
+parents_forms d numbers [] qs is = let none : qs ≡ [] = cc in ap (λ (ps : List Parent). Some (forms_of ps)) (sym none)
 parents_forms d numbers (r ∷ rs) qs is =
     let parts = both_is (parent_of d.given d.forms numbers r) (parents_of d.given d.forms numbers rs) qs is in
-    rw (parent_form d numbers r parts.0 parts.2, parents_forms d numbers rs parts.1 parts.3) (ap (λ (ps : List Parent). Some (forms_in ps)) (sym parts.4))
+    rw (parent_form d numbers r parts.0 parts.2, parents_forms d numbers rs parts.1 parts.3) (ap (λ (ps : List Parent). Some (forms_of ps)) (sym parts.4))
 
 -- what an accepted line cites by its text, and that it follows so
 pub kind_follows : (is_leaf : Bool) (t u : Statements) (given : List Form) (cited : Bool) (refs : List Ref) (parents : List Parent) (form : Form) (rule : Rule) (cites : List ℕ) (entries : List Entry) → SameSymbols t u → AnswersKind is_leaf t given cited parents form (step.Accepted rule cites entries)
-    → (own : List Ref) × FollowsAs is_leaf u given cited refs (forms_in parents) form own
+    → (own : List Ref) × FollowsAs is_leaf u given cited refs (forms_of parents) form own
 kind_follows false t u given cited refs parents form rule cites entries same (by, cites_are, derived) =
-    (refs, (rule, first_alike_rule rules t u form rule parents (without_numbers (forms_in parents)) same (sym (forms_without_numbers (forms_in parents))) by, refl))
+    (refs, (rule, first_alike_rule rules t u form rule parents (without_numbers (forms_of parents)) same (sym (forms_without_numbers (forms_of parents))) by, refl))
 kind_follows true t u given cited refs parents form rule cites entries same (i, c, there, leaf, cites_are, derived) = (
   cited_by_leaf cited refs i,
   (
     rule,
     i,
-    alone_alike_rule leaf_rules t u form rule i (candidates_of given cited parents) (candidates_of given cited (without_numbers (forms_in parents))) same
-        (candidates_alike given cited parents (without_numbers (forms_in parents)) (sym (forms_without_numbers (forms_in parents)))) leaf,
+    alone_alike_rule leaf_rules t u form rule i (candidates_of given cited parents) (candidates_of given cited (without_numbers (forms_of parents))) same
+        (candidates_alike given cited parents (without_numbers (forms_of parents)) (sym (forms_without_numbers (forms_of parents)))) leaf,
     refl,
   ),
 )
@@ -72,7 +69,7 @@ module _ (v : Vocabulary) (d : Derivation) (taken : List ℕ) (earlier : List Fo
   answer_follows None (Accepted rule cites) known good is = absurd is
   answer_follows (Some parents) (Accepted rule cites) known good is =
       let u = so_far v d.given earlier in
-      let forms = forms_in parents in
+      let forms = forms_of parents in
       let follows = kind_follows line.node.leaf old.theory u d.given line.node.cited line.node.parents parents line.form rule cites entries sound.same is.0 in
       record {
         cites = follows.0;

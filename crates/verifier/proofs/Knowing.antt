@@ -15,7 +15,8 @@ use Rattle.derive_kit.specs.Derived.{AreOfTheory}
 use Rattle.tstp_graph.specs.declared.shape.Ref.{Ref}
 use Rattle.tstp_graph.specs.declared.shape.Ref.TheVariants as ref
 use Rattle.verifier.specs.Lines.{Derivation, numbered, given_from, with_number, accepted, parent_of, both, parents_of}
-use Rattle.verifier.specs.code.Numbered.{Knows, IsOver, AreNumbered, forms_in, progress_of, derivation_in}
+use Rattle.clause_form.specs.Paths.{forms_of}
+use Rattle.verifier.specs.code.Numbered.{Knows, IsOver, AreNumbered, progress_of, derivation_in}
 use Rattle.verifier.specs.declared.lines.Lines.{Lines}
 use Rattle.verifier.specs.Run.{Progress, begun, with_answered}
 use Rattle.verifier.specs.Symbols.{IsAbsent}
@@ -148,21 +149,21 @@ knows_none t d same count given_ready lines_ready = record {
     no_number k n at = let e : Some n ≡ None = in_replicate (length d.nodes) k None (Some n) at in cc
 
 -- the given formulas, by their numbers
-pub forms_of_given : (number : ℕ) (forms : List Form) → forms_in (given_from number forms) ≡ forms
+pub forms_of_given : (number : ℕ) (forms : List Form) → forms_of (given_from number forms) ≡ forms
 forms_of_given number [] = refl
 forms_of_given number (form ∷ forms) = ap (λ (fs : List Form). form ∷ fs) (forms_of_given (number + 1) forms)
 
 -- ---- the lines in memory
 
 pub numbered_of_theory : (lines : Lines) (t : Statements) (numbers : List (Option ℕ)) → AreNumbered lines.given.now → Knows (derivation_in lines) (progress_of t numbers) → AreOfTheory t lines.given.now
-numbered_of_theory lines t numbers numbered knows = subst (AreOfTheory t) (sym numbered) (of_theory t (given_from 0 (forms_in lines.given.now)) (given_stand (derivation_in lines) (progress_of t numbers) knows))
+numbered_of_theory lines t numbers numbered knows = subst (AreOfTheory t) (sym numbered) (of_theory t (given_from 0 (forms_of lines.given.now)) (given_stand (derivation_in lines) (progress_of t numbers) knows))
 
 pub numbered_ready : (lines : Lines) (t : Statements) (numbers : List (Option ℕ)) → AreNumbered lines.given.now → Knows (derivation_in lines) (progress_of t numbers) → AreReady t.vocabulary lines.given.now
-numbered_ready lines t numbers numbered knows = subst (AreReady t.vocabulary) (sym numbered) (are_ready t (given_from 0 (forms_in lines.given.now)) (given_stand (derivation_in lines) (progress_of t numbers) knows))
+numbered_ready lines t numbers numbered knows = subst (AreReady t.vocabulary) (sym numbered) (are_ready t (given_from 0 (forms_of lines.given.now)) (given_stand (derivation_in lines) (progress_of t numbers) knows))
 
 -- what is made of the formulas of a theory has these formulas
-pub given_forms : (given : List Parent) (forms : List Form) → given ≡ given_from 0 forms → forms_in given ≡ forms
-given_forms given forms is = ap forms_in is ∙ forms_of_given 0 forms
+pub given_forms : (given : List Parent) (forms : List Form) → given ≡ given_from 0 forms → forms_of given ≡ forms
+given_forms given forms is = ap forms_of is ∙ forms_of_given 0 forms
 
 pub over_numbered : (t : Statements) (lines : Lines) → IsOver t lines → AreNumbered lines.given.now
 over_numbered t lines over = over.given ∙ ap (given_from 0) (sym (given_forms lines.given.now t.formulas over.given))

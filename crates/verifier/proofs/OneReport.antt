@@ -24,7 +24,7 @@ use Rattle.verifier.specs.Report.{said_of}
 use Rattle.verifier.specs.Run.{Progress, AnswersKind, AnswersPlace, AreAnswered, IsAnswered, IsRun, begun, with_answered}
 use Rattle.verifier.specs.declared.answer.LineAnswer.{LineAnswer}
 use Rattle.verifier.specs.declared.answer.LineAnswer.TheVariants.{Accepted, Unverified, Skipped}
-use Rattle.verifier.specs.code.Numbered.{forms_in}
+use Rattle.clause_form.specs.Paths.{forms_of}
 use Rattle.verifier.proofs.Accepting.{kind_follows}
 use Rattle.verifier.proofs.Derived.{accepted_theory}
 use Rattle.verifier.proofs.Goodness.{candidates_alike, never_unverified, same_line}
@@ -72,7 +72,7 @@ module _ (given : List Form) (cited : Bool) (form : Form) (t u : Statements) (ps
   not_apart : (is_leaf : Bool) (refs : List Ref) (r : Rule) (cites : List ℕ) (entries : List Entry) (reason : Reason) → AnswersKind is_leaf t given cited ps form (step.Accepted r cites entries) → AnswersKind is_leaf u given cited qs form (step.Unverified reason) → ⊥
   not_apart is_leaf refs r cites entries reason answers none =
       let follows = kind_follows is_leaf t t given cited refs ps form r cites entries (same_symbols t) answers in
-      never_unverified is_leaf u t given cited refs follows.0 qs (forms_in ps) form reason same (sym alike) follows.1 none
+      never_unverified is_leaf u t given cited refs follows.0 qs (forms_of ps) form reason same (sym alike) follows.1 none
 
 -- ---- two runs of the same lines
 
@@ -195,8 +195,8 @@ module _ (d : Derivation) (p q : Progress) (place : ℕ) (line : Line) (within :
         alike = record {
           said = ap (λ (x : Rule). said_of (Accepted x cites)) rule;
           marked = λ marks short.
-              answered_marked marks d p place line p.theory follows.0 ps (forms_in ps) (Accepted r cites) entries v short first (same_symbols p.theory) refl known follows.1 tt here
-              ∙ sym (answered_marked marks d q place line p.theory follows.0 qs (forms_in ps) (Accepted s others) more w short second level.same (sym alike) also follows.1 tt there);
+              answered_marked marks d p place line p.theory follows.0 ps (forms_of ps) (Accepted r cites) entries v short first (same_symbols p.theory) refl known follows.1 tt here
+              ∙ sym (answered_marked marks d q place line p.theory follows.0 qs (forms_of ps) (Accepted s others) more w short second level.same (sym alike) also follows.1 tt there);
         };
         level = subst (λ (x : Progress). AreLevel x w) (sym here.1.2) (subst (λ (x : Progress). AreLevel (with_answered p place here.1.0) x) (sym there.1.2)
             (placed_level p q place here.1.0 there.1.0 (omega (arith, within, first.count)) (omega (arith, within, second.count)) level

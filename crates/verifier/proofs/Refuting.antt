@@ -8,7 +8,7 @@ use Rattle.kernel.specs.Statements.{Statements}
 use Rattle.kernel.specs.Entries.{Admits, Refutes, with_formula}
 use Rattle.kernel.proofs.EntryLaws.{admits_append, admits_more}
 use Rattle.kernel.specs.Proves.{Proves}
-use Rattle.kernel.proofs.RulesFacts.{Proves-Line}
+use Rattle.kernel.proofs.RuleEquivalences.{Proves-Line}
 use Rattle.kernel.specs.declared.proof.Proof.{Line as Cited}
 use Rattle.kernel.specs.declared.entry.Entry.{Entry}
 use Rattle.kernel.specs.declared.entry.Entry.TheVariants.{Lemma}

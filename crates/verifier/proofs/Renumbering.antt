@@ -7,14 +7,14 @@ use Rattle.clause_form.specs.ClauseView.{clause_of}
 use Rattle.clause_form.specs.declared.clause.Clause.{Clause}
 use Rattle.clause_form.specs.declared.path.Parent.{Parent}
 use Rattle.clause_rules.specs.Answers.{ShapeRule as Word, norm, cover, tautology, resolution, paramodulation, eqfactor, rewrite, Holds as Gives}
-use Rattle.clause_rules.specs.NormRule.{HasNorm}
+use Rattle.clause_form.specs.Norm.{HasNorm}
 use Rattle.clause_rules.specs.Steps.{IsClauseAt, clauses_of}
 use Rattle.kernel.specs.Statements.{Statements}
 use Rattle.skolem_fresh.proofs.Alike.{choice_alike, skolem_alike}
 use Rattle.skolem_fresh.specs.SkolemRule.{IsSkolemStep}
 use Rattle.split_defs.proofs.DefinitionRuleFacts.{definition_alike}
 use Rattle.split_defs.specs.SplitRule.{IsSplitStep}
-use Rattle.split_defs.specs.SplitSearch.{forms_of}
+use Rattle.clause_form.specs.Paths.{forms_of}
 use Rattle.elaborate.specs.ByRule.{Applies, IsFirst, GivesAlone, GivesNowhere, IsFirstAlone}
 use Rattle.elaborate.specs.declared.answer.Rule.{Rule}
 use Rattle.elaborate.specs.declared.answer.Rule.TheVariants.{Norm, Cover, Tautology, Resolution, Paramodulation, EqFactor, Rewrite, Split, Skolem, Definition, Choice}

@@ -5,7 +5,8 @@ ghost use Rattle.clause_rules.specs.Steps.{AreReady, IsReady};
 ghost use Rattle.derive_kit.specs.Derived.{AreOfTheory};
 ghost use Rattle.verifier.specs.Faults.{HasCause};
 ghost use Rattle.verifier.specs.Logged.{LeadTo, LogsSome};
-ghost use Rattle.verifier.specs.code.Numbered.{forms_in, AreNumbered, progress_of, derivation_in, Knows};
+ghost use Rattle.clause_form.specs.Paths.{forms_of};
+ghost use Rattle.verifier.specs.code.Numbered.{AreNumbered, progress_of, derivation_in, Knows};
 ghost use Rattle.verifier.specs.code.Taking.{CanTake, TakesAnswer, RunsLine};
 ghost use Rattle.verifier.specs.Run as spec;
 
@@ -72,7 +73,7 @@ fn answer_line(
     requires line { IsReady theory.now.vocabulary form.now }
     requires numbered { AreNumbered given.now }
     ensures { IfOk result
-        (spec.AnswersKind node.now.leaf theory.now (forms_in given.now) node.now.cited parents.now form.now) }
+        (spec.AnswersKind node.now.leaf theory.now (forms_of given.now) node.now.cited parents.now form.now) }
 {
     if !node.leaf {
         return step(alloc, theory, parents, form);

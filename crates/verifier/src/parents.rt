@@ -2,7 +2,7 @@
 ghost use Rattle.std.specs.Prelude.{◌≡◌, [], slice_get, IfOk};
 ghost use Rattle.verifier.specs.Lines;
 ghost use Rattle.verifier.specs.code.Numbered;
-ghost use Rattle.verifier.specs.code.Numbered.{forms_in};
+ghost use Rattle.clause_form.specs.Paths.{forms_of};
 
 use clause_form::Parent;
 use fof_terms::Form;
@@ -34,7 +34,7 @@ pub fn parents_of(
     numbers: &[Option<u64>],
     refs: &[Ref],
 ) -> Result<Option<List<Parent>>, Memory>
-    ensures { IfOk result (λ parents. parents ≡ Lines.parents_of (forms_in given.now) forms.now numbers.now refs.now) }
+    ensures { IfOk result (λ parents. parents ≡ Lines.parents_of (forms_of given.now) forms.now numbers.now refs.now) }
 {
     let mut parents = List::new(alloc);
     for parent in refs {
@@ -54,7 +54,7 @@ fn parent_of(
     numbers: &[Option<u64>],
     parent: Ref,
 ) -> Result<Option<Parent>, Memory>
-    ensures { IfOk result (λ found. found ≡ Lines.parent_of (forms_in given.now) forms.now numbers.now parent) }
+    ensures { IfOk result (λ found. found ≡ Lines.parent_of (forms_of given.now) forms.now numbers.now parent) }
 {
     match parent {
         Ref::Given(place) => given_parent(alloc, given, place),
@@ -64,7 +64,7 @@ fn parent_of(
 
 // The given formula of this number.
 fn given_parent(alloc: Global, given: &[Parent], place: u32) -> Result<Option<Parent>, Memory>
-    ensures { IfOk result (λ found. found ≡ Lines.parent_of (forms_in given.now) [] [] (Ref.Given place)) }
+    ensures { IfOk result (λ found. found ≡ Lines.parent_of (forms_of given.now) [] [] (Ref.Given place)) }
 {
     match at(given, place as usize) {
         Some(parent) => Ok(Some(numbered(alloc, u64::from(place), &parent.form)?)),

@@ -1,6 +1,7 @@
 -- Whether a formula speaks only of some of the variables around it.
-use Rattle.std.specs.Prelude.{ℕ, ◌+◌, ◌-◌, ◌==◌, ◌||◌, ◌&&◌, nat_lt, Bool, List}
-use Rattle.std.specs.List.{list_any, list_all}
+use Rattle.std.specs.Prelude.{ℕ, ◌+◌, ◌-◌, ◌||◌, ◌&&◌, nat_lt, Bool, List}
+use Rattle.std.specs.List.{list_all}
+use Rattle.fof_terms.specs.Standing.{is_listed}
 use Rattle.fof_terms.specs.declared.term.Term.{Term, Var, App}
 use Rattle.fof_terms.specs.declared.term.Term.TheFolds.{fold-Term}
 use Rattle.fof_terms.specs.declared.form.Form.{Form, Atom, Eq, Not, And, Or, Imp, Iff, All, Ex}
@@ -8,12 +9,8 @@ use Rattle.fof_terms.specs.declared.form.Form.TheFolds.{fold-Form}
 use Rattle.fof_terms.specs.declared.term.Term.TheOpen as term
 use Rattle.fof_terms.specs.declared.form.Form.TheOpen as form
 
--- the variable is in the list
-abbrev pub is_among : List ℕ → ℕ → Bool
-is_among xs k = list_any (λ x. x == k) xs
-
 abbrev pub only_term_step : List ℕ → ℕ → term.Term-F Bool → Bool
-only_term_step xs depth (term.Var k) = nat_lt k depth || is_among xs (k - depth)
+only_term_step xs depth (term.Var k) = nat_lt k depth || is_listed xs (k - depth)
 only_term_step xs depth (term.App f each) = list_all (λ b. b) each
 
 -- each variable of the term is one of these, so many quantifiers further out, or that of one of these quantifiers

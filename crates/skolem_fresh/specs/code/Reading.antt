@@ -4,6 +4,7 @@ use Rattle.std.specs.Option.{option_map}
 use Rattle.fof_terms.specs.declared.term.Term.{Term, Var, App}
 use Rattle.fof_terms.specs.declared.term.Term.TheViews.{out-Term}
 use Rattle.fof_terms.specs.declared.term.Term.TheFolds.{fold-Term}
+use Rattle.clause_form.specs.ClauseView.{all_there}
 use Rattle.skolem_fresh.specs.declared.just.Use.{Use}
 use Rattle.skolem_fresh.specs.declared.leaves.Leaf.{Leaf}
 use Rattle.skolem_fresh.specs.code.Leaves.{leaf}
@@ -31,12 +32,6 @@ found_step n (term.App f finds) u = found_in finds (args_in (out-Term u))
 -- the term that stands in the second where the variable stands first in the first
 unfoldable pub found_term : ℕ → Term → Term → Option Term
 found_term n t u = fold-Term (Term → Option Term) (found_step n) t u
-
--- each that is there, where each is
-abbrev pub all_there : {X : Type 0} → List (Option X) → Option (List X)
-all_there [] = Some []
-all_there (None ∷ xs) = None
-all_there (Some x ∷ xs) = option_map (λ ys. x ∷ ys) (all_there xs)
 
 abbrev pub variable_in : ℕ → term.Term-F Term → Option ℕ
 variable_in depth (term.Var k) = if nat_lt k depth then None else Some (k - depth)

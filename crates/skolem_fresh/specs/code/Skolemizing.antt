@@ -4,13 +4,13 @@ use Rattle.fof_terms.specs.declared.form.Form.{Form}
 use Rattle.fof_terms.specs.Instance.{instance_of}
 use Rattle.fof_terms.specs.Variables.{has_variable}
 use Rattle.fof_terms.specs.Vocabulary.{Vocabulary}
-use Rattle.clause_form.specs.Norm.{norm_of}
+use Rattle.clause_form.specs.Norm.{norm_of, HasNorm}
 use Rattle.kernel.specs.Statements.{Statements}
 use Rattle.skolem_fresh.specs.declared.just.Use.{Use}
 use Rattle.skolem_fresh.specs.declared.leaves.Leaf.{Leaf}
 use Rattle.skolem_fresh.specs.code.Leaves.{leaves_of}
 use Rattle.skolem_fresh.specs.code.Reading.{read_from}
-use Rattle.skolem_fresh.specs.SkolemRule.{HasNorm, MayReplace, IsSkolemized, AreSkolemized}
+use Rattle.skolem_fresh.specs.SkolemRule.{MayReplace, IsSkolemized, AreSkolemized}
 use Rattle.skolem_fresh.specs.code.Solid.{IsSolid, AreSolid}
 use Rattle.skolem_fresh.specs.Uses.{value_of, AreNew}
 

@@ -1,14 +1,9 @@
 -- Proofs that entries have.
-use Rattle.std.specs.Prelude.{ℕ, Bool, true, false, List, [], ◌∷◌}
+use Rattle.std.specs.Prelude.{ℕ, Bool, true, false}
 use Rattle.fof_terms.specs.Lift.{lifted_term}
 use Rattle.fof_terms.specs.declared.term.Term.{Term, Var}
 use Rattle.fof_terms.specs.declared.form.Form.{Form, Eq, Iff}
-use Rattle.kernel.specs.declared.proof.Proof.{Proof, Hyp, ImpI, ImpE, IffI, IffL, IffR, AllI, ExI, Refl, Subst}
-
--- for all of the sorts, the first outermost
-abbrev pub all_tree : List ℕ → Proof → Proof
-all_tree [] p = p
-all_tree (s ∷ sorts) p = AllI s (all_tree sorts p)
+use Rattle.kernel.specs.declared.proof.Proof.{Proof, Hyp, ImpI, ImpE, IffI, IffL, IffR, ExI, Refl, Subst}
 
 -- what a proof shows under the fact, by the fact
 abbrev pub under_fact : Form → Proof → Proof → Proof

@@ -13,7 +13,8 @@ use Rattle.tptp_base.specs.declared.item.Body.{Body}
 use Rattle.tptp_base.specs.declared.item.GTerm.{GTerm}
 use Rattle.tptp_base.specs.declared.item.Item.{Item}
 use Rattle.tptp_grammar.specs.Tokens.{Text, lang_text, role_text}
-use Rattle.tptp_grammar.specs.Items.{is_integer}
+use Rattle.tptp_base.specs.Numerals.{is_integer}
+use Rattle.tptp_base.specs.Roles.{is_typing}
 use Rattle.tptp_grammar.specs.code.ReadTerms.{is_mark}
 use Rattle.tptp_grammar.specs.code.ReadTypes.{typing}
 use Rattle.tptp_grammar.specs.code.ReadFormulas.{formula}
@@ -70,10 +71,6 @@ unfoldable pub lang_of : Text → Option Lang
 lang_of w = if bytes_eq w (lang_text lang.Cnf) then Some lang.Cnf else if bytes_eq w (lang_text lang.Fof) then Some lang.Fof else if bytes_eq w (lang_text lang.Tff) then Some lang.Tff else None
 
 -- ---- what stands behind the role
-
-abbrev pub is_typing : Role → Bool
-is_typing rl.Typing = true
-is_typing _ = false
 
 abbrev pub body_of : Lang → Bool → ℕ → Reader Token Body
 body_of lang.Cnf b room ts = mapped bd.Logic (clause room ts)

@@ -14,7 +14,7 @@ use Rattle.tptp_lexer.specs.declared.style.Style.{Style}
 use Rattle.tptp_lexer.specs.declared.token.Mark.{Mark}
 use Rattle.tptp_lexer.specs.declared.token.Token.{Token}
 use Rattle.tptp_lexer.specs.Bytes.{Text, is_blank, is_lower_alpha, is_upper_alpha, is_numeric, is_alpha_numeric}
-use Rattle.tptp_lexer.specs.Bytes.{is_in_line}
+use Rattle.tptp_base.specs.Place.{is_no_line_feed}
 use Rattle.tptp_lexer.specs.Comments.{begins_comment}
 use Rattle.tptp_lexer.specs.Numbers.{is_sign, is_exponent}
 use Rattle.tptp_lexer.specs.Quotes.{is_plain, is_escaped}
@@ -173,7 +173,7 @@ behind_words style text =
     if first == 36 then dollar (drop 1 text)
     else (if first == 39 then quoted k.Quoted 1 (quote_end 39 false 0 (drop 1 text))
     else (if first == 34 then quoted k.Distinct 0 (quote_end 34 false 0 (drop 1 text))
-    else (if begins_comment style first then Found k.Comment (prefix_len is_in_line text)
+    else (if begins_comment style first then Found k.Comment (prefix_len is_no_line_feed text)
     else (if first == 47 then block (drop 1 text)
     else marked (mark_at first (slice_index text 1) (slice_index text 2))))))
 

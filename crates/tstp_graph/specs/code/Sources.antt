@@ -13,7 +13,8 @@ use Rattle.tstp_graph.specs.declared.cite.Cite.{Cite}
 use Rattle.tstp_graph.specs.declared.cite.Cite.TheVariants.{Named, Filed}
 use Rattle.tstp_graph.specs.declared.cite.Reading.{Reading}
 use Rattle.tstp_graph.specs.Sources.{is_step_record}
-use Rattle.tstp_graph.specs.Words.{is_unknown, is_integer, record_kind}
+use Rattle.tstp_graph.specs.Words.{is_unknown, record_kind}
+use Rattle.tptp_base.specs.Numerals.{is_integer}
 use Rattle.tptp_base.specs.declared.item.GTerm.TheOpen as term
 
 -- a term that gives nothing, and makes a leaf that is not cited

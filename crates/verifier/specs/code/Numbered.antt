@@ -1,7 +1,8 @@
 -- What the code that runs lines keeps: the given formulas with their numbers, and what it knows of the theory so far.
-use Rattle.std.specs.Prelude.{ℕ, ◌≡◌, ◌↔◌, List, length, map, Option, None, Some, slice_get}
+use Rattle.std.specs.Prelude.{ℕ, ◌≡◌, ◌↔◌, List, length, Option, None, Some, slice_get}
 use Rattle.std.specs.List.{All}
 use Rattle.fof_terms.specs.declared.form.Form.{Form}
+use Rattle.clause_form.specs.Paths.{forms_of}
 use Rattle.clause_form.specs.declared.path.Parent.{Parent}
 use Rattle.clause_rules.specs.Steps.{IsReady}
 use Rattle.kernel.specs.Statements.{Statements}
@@ -15,19 +16,16 @@ abbrev pub joined : Option (Option ℕ) → Option ℕ
 joined None = None
 joined (Some number) = number
 
-abbrev pub forms_in : List Parent → List Form
-forms_in parents = map (λ (p : Parent). p.form) parents
-
 -- each has its place as its number
 abbrev pub AreNumbered : List Parent → Type 0
-AreNumbered given = given ≡ given_from 0 (forms_in given)
+AreNumbered given = given ≡ given_from 0 (forms_of given)
 
 abbrev pub progress_of : Statements → List (Option ℕ) → Progress
 progress_of theory numbers = record { theory = theory; numbers = numbers }
 
 -- the derivation that lines in memory are
 abbrev pub derivation_in : Lines → Derivation
-derivation_in lines = record { given = forms_in lines.given.now; nodes = lines.nodes.now; forms = lines.forms.now }
+derivation_in lines = record { given = forms_of lines.given.now; nodes = lines.nodes.now; forms = lines.forms.now }
 
 -- The theory begins with the given formulas, and has that of each line which is accepted so far, at the line's number.
 -- It speaks of no symbols but those of these formulas. The rules may be asked about all of them, and about those of the

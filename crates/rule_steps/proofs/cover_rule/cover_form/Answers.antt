@@ -1,4 +1,4 @@
-use Rattle.clause_rules.specs.NormRule.{HasNorm}
+use Rattle.clause_form.specs.Norm.{HasNorm}
 use Rattle.rule_steps.proofs.CoverEnds.{norm_is_small, norm_is_sorted, found_in_form}
 use Rattle.clause_rules.proofs.Firsts.{ok_map}
 use Rattle.rule_steps.proofs.cover_rule.cover_form.Goals as goal

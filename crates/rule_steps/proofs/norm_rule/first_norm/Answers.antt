@@ -1,5 +1,5 @@
 use Rattle.std.proofs.Common.{subst, sym}
-use Rattle.clause_rules.specs.NormRule.{HasNorm}
+use Rattle.clause_form.specs.Norm.{HasNorm}
 use Rattle.rule_steps.proofs.NormSteps.{first_norm_of}
 use Rattle.clause_rules.proofs.Firsts.{ok_map}
 use Rattle.rule_steps.proofs.norm_rule.first_norm.Goals as goal

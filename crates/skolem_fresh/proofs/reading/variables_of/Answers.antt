@@ -1,6 +1,6 @@
 use Rattle.std.proofs.Common.{sym, ◌∙◌}
 use Rattle.skolem_fresh.specs.code.Reading.{variable_of}
-use Rattle.skolem_fresh.proofs.LoopsRead.{more_there, not_all_there}
+use Rattle.clause_form.proofs.Views.{more_there, not_all_there}
 use Rattle.skolem_fresh.proofs.reading.variables_of.Goals as goal
 
 pub returns-in-None : goal.returns-in-None

@@ -1,5 +1,6 @@
 use Rattle.std.proofs.Common.{◌≡◌, take, map, Some}
-use Rattle.skolem_fresh.specs.code.Reading.{variable_of, all_there}
+use Rattle.clause_form.specs.ClauseView.{all_there}
+use Rattle.skolem_fresh.specs.code.Reading.{variable_of}
 use Rattle.skolem_fresh.proofs.reading.variables_of.Given as goal
 
 abbrev pub invariant-loop-term : goal.invariant-loop-term

@@ -1,5 +1,6 @@
 use Rattle.std.proofs.Common.{ℕ, ◌<◌}
-use Rattle.skolem_fresh.specs.SkolemRule.{IsSkolemOf, forms_of}
+use Rattle.clause_form.specs.Paths.{forms_of}
+use Rattle.skolem_fresh.specs.SkolemRule.{IsSkolemOf}
 use Rattle.skolem_fresh.proofs.skolem.skolem_step.Given as goal
 
 abbrev pub invariant-loop-i : goal.invariant-loop-i

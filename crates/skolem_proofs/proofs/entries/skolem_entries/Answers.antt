@@ -1,7 +1,7 @@
 use Rattle.std.proofs.Common.{sym, ap, ◌∙◌, ◌++◌, ◌∷◌, []}
 use Rattle.kernel.specs.declared.entry.Entry.TheVariants.{Lemma}
 use Rattle.skolem_fresh.specs.declared.just.SkolemJust.TheVariants.{Skolem}
-use Rattle.skolem_fresh.specs.SkolemRule.{forms_of}
+use Rattle.clause_form.specs.Paths.{forms_of}
 use Rattle.skolem_fresh.proofs.SkolemSteps.{parent_at}
 use Rattle.skolem_proofs.proofs.Lines.{somewhere, is_skolem, shown_by, there, parent_small, small, fits, result_small, result_somewhere, form_made, choose_and_end, derived}
 use Rattle.skolem_proofs.proofs.entries.skolem_entries.Goals as goal

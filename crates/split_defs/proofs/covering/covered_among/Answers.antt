@@ -2,7 +2,7 @@ use Rattle.std.proofs.Common.{below_more, subst, sym, arith}
 use Rattle.clause_form.specs.declared.path.Parent.{Parent}
 use Rattle.clause_rules.proofs.Firsts.{there_at}
 use Rattle.split_defs.specs.code.SplitSearch.{IsCovering}
-use Rattle.split_defs.specs.SplitSearch.{forms_of}
+use Rattle.clause_form.specs.Paths.{forms_of}
 use Rattle.split_defs.proofs.NamedParents.{form_at, as_many}
 use Rattle.split_defs.proofs.SplitEnds.{none_covered_at, none_covered}
 use Rattle.split_defs.proofs.covering.covered_among.Goals as goal

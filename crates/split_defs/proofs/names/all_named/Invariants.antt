@@ -1,5 +1,5 @@
 use Rattle.split_defs.specs.SplitRule.{AllName}
-use Rattle.split_defs.specs.SplitSearch.{forms_of}
+use Rattle.clause_form.specs.Paths.{forms_of}
 use Rattle.split_defs.proofs.names.all_named.Given as goal
 
 abbrev pub invariant-loop-i : goal.invariant-loop-i

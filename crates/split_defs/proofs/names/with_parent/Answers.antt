@@ -3,7 +3,7 @@ use Rattle.clause_form.specs.declared.path.Parent.{Parent}
 use Rattle.derive_kit.proofs.Built.{ok_map}
 use Rattle.clause_rules.proofs.Firsts.{there_at}
 use Rattle.split_defs.specs.code.SplitSearch.{IsNamed}
-use Rattle.split_defs.specs.SplitSearch.{forms_of}
+use Rattle.clause_form.specs.Paths.{forms_of}
 use Rattle.split_defs.proofs.NamedParents.{form_at, parent_named, parent_unnamed}
 use Rattle.split_defs.proofs.names.with_parent.Goals as goal
 

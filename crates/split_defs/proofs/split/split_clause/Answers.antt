@@ -1,7 +1,7 @@
 use Rattle.std.proofs.Common.{None, sym, subst, ℕ, length}
 use Rattle.split_defs.specs.SplitRule.{AllName}
 use Rattle.split_defs.specs.code.SplitSearch.{IsCoveredAmong}
-use Rattle.split_defs.specs.SplitSearch.{forms_of}
+use Rattle.clause_form.specs.Paths.{forms_of}
 use Rattle.split_defs.proofs.NamedParents.{all_ready, as_many, named_fit}
 use Rattle.split_defs.proofs.SplitEnds.{no_split_unnamed, no_split}
 use Rattle.split_defs.proofs.split.split_clause.Goals as goal

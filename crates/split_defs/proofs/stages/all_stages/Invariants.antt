@@ -2,7 +2,7 @@ use Rattle.std.proofs.Common.{◌≡◌, ◌+◌, ◌<◌, ◌++◌, ◌∷◌, 
 use Rattle.std.specs.Prelude.{◌^◌}
 use Rattle.clause_form.specs.declared.clause.Clause.{Clause}
 use Rattle.split_defs.specs.code.SplitProof.{AreNamed, AreStages, stage_clauses}
-use Rattle.split_defs.specs.SplitSearch.{forms_of}
+use Rattle.clause_form.specs.Paths.{forms_of}
 use Rattle.split_defs.proofs.stages.all_stages.Given as goal
 
 abbrev pub invariant-loop-i : goal.invariant-loop-i

@@ -1,6 +1,6 @@
 use Rattle.std.specs.Prelude.{count_by, drop}
 use Rattle.std.proofs.Common.{◌≡◌, ◌+◌}
-use Rattle.tptp_run.specs.Parsed.{is_formula}
+use Rattle.tstp_graph.specs.Lines.{is_formula}
 use Rattle.tptp_run.proofs.parse.formula_count.Given as goal
 
 -- the formulas so far, and those that are left, are all

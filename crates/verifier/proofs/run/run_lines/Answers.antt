@@ -1,9 +1,9 @@
 use Rattle.std.proofs.Common.{◌∙◌}
-use Rattle.verifier.specs.code.Numbered.{forms_in}
+use Rattle.clause_form.specs.Paths.{forms_of}
 use Rattle.verifier.proofs.Knowing.{given_forms}
 use Rattle.verifier.proofs.Running.{ran_over}
 use Rattle.verifier.proofs.run.run_lines.Goals as goal
 
 pub returns-clause-ran : goal.returns-clause-ran
 returns-clause-ran g c =
-    ran_over c.run_in_order.result c.args.theory.now c.run_in_order.new.theory _ _ (forms_in c.as_slice.result.now) c.args.theory.now.formulas _ _ c.args.forms.now _ _ (given_forms c.as_slice.result.now c.args.theory.now.formulas (c.as_slice.ensures ∙ c.in_ok-given.ensures)) c.as_slice-2.ensures c.as_slice-3.ensures c.run_in_order.ensures.ran
+    ran_over c.run_in_order.result c.args.theory.now c.run_in_order.new.theory _ _ (forms_of c.as_slice.result.now) c.args.theory.now.formulas _ _ c.args.forms.now _ _ (given_forms c.as_slice.result.now c.args.theory.now.formulas (c.as_slice.ensures ∙ c.in_ok-given.ensures)) c.as_slice-2.ensures c.as_slice-3.ensures c.run_in_order.ensures.ran

@@ -1,4 +1,4 @@
--- Lemmas on what specs/Rules defines.
+-- What each kind of node shows, one equivalence each: the relation of specs/Proves without its encoding of rows.
 use Rattle.std.specs.Prelude.{ℕ, ◌≡◌, ◌↔◌, List, [], ◌∷◌, slice_get, Some}
 use Rattle.std.proofs.Common.{subst}
 use Rattle.fof_terms.specs.declared.term.Term.{Term}
