@@ -19,6 +19,7 @@ pub fn line(alloc: Global, number: u64) -> Result<Part, Memory>
 pub fn refl(alloc: Global, term: Term) -> Result<Part, Memory>
     ensures { IfOk result (λ node. node ≡ Refl term) }
 {
+    let term = Boxed::new(alloc, term)?;
     Ok(Boxed::new(alloc, Proof::Refl(term))?)
 }
 

@@ -42,6 +42,7 @@ pub fn or_i(alloc: Global, members: List<Form>, number: u32, part: Part) -> Resu
 pub fn or_e(alloc: Global, goal: Form, part: Part, arms: List<Proof>) -> Result<Part, Memory>
     ensures { IfOk result (λ node. node ≡ OrE goal part arms) }
 {
+    let goal = Boxed::new(alloc, goal)?;
     Ok(Boxed::new(alloc, Proof::OrE(goal, part, arms))?)
 }
 
@@ -49,6 +50,7 @@ pub fn or_e(alloc: Global, goal: Form, part: Part, arms: List<Proof>) -> Result<
 pub fn imp_i(alloc: Global, left: Form, part: Part) -> Result<Part, Memory>
     ensures { IfOk result (λ node. node ≡ ImpI left part) }
 {
+    let left = Boxed::new(alloc, left)?;
     Ok(Boxed::new(alloc, Proof::ImpI(left, part))?)
 }
 
@@ -63,6 +65,7 @@ pub fn imp_e(alloc: Global, implication: Part, left: Part) -> Result<Part, Memor
 pub fn not_i(alloc: Global, denied: Form, part: Part) -> Result<Part, Memory>
     ensures { IfOk result (λ node. node ≡ NotI denied part) }
 {
+    let denied = Boxed::new(alloc, denied)?;
     Ok(Boxed::new(alloc, Proof::NotI(denied, part))?)
 }
 
@@ -77,6 +80,7 @@ pub fn not_e(alloc: Global, negation: Part, part: Part) -> Result<Part, Memory>
 pub fn raa(alloc: Global, goal: Form, part: Part) -> Result<Part, Memory>
     ensures { IfOk result (λ node. node ≡ Raa goal part) }
 {
+    let goal = Boxed::new(alloc, goal)?;
     Ok(Boxed::new(alloc, Proof::Raa(goal, part))?)
 }
 
@@ -91,6 +95,7 @@ pub fn all_i(alloc: Global, sort: SortId, part: Part) -> Result<Part, Memory>
 pub fn all_e(alloc: Global, term: Term, part: Part) -> Result<Part, Memory>
     ensures { IfOk result (λ node. node ≡ AllE term part) }
 {
+    let term = Boxed::new(alloc, term)?;
     Ok(Boxed::new(alloc, Proof::AllE(term, part))?)
 }
 
@@ -98,6 +103,8 @@ pub fn all_e(alloc: Global, term: Term, part: Part) -> Result<Part, Memory>
 pub fn ex_i(alloc: Global, sort: SortId, body: Form, term: Term, part: Part) -> Result<Part, Memory>
     ensures { IfOk result (λ node. node ≡ ExI sort body term part) }
 {
+    let body = Boxed::new(alloc, body)?;
+    let term = Boxed::new(alloc, term)?;
     Ok(Boxed::new(alloc, Proof::ExI(sort, body, term, part))?)
 }
 
@@ -105,6 +112,7 @@ pub fn ex_i(alloc: Global, sort: SortId, body: Form, term: Term, part: Part) -> 
 pub fn ex_e(alloc: Global, goal: Form, part: Part, rest: Part) -> Result<Part, Memory>
     ensures { IfOk result (λ node. node ≡ ExE goal part rest) }
 {
+    let goal = Boxed::new(alloc, goal)?;
     Ok(Boxed::new(alloc, Proof::ExE(goal, part, rest))?)
 }
 
@@ -112,6 +120,7 @@ pub fn ex_e(alloc: Global, goal: Form, part: Part, rest: Part) -> Result<Part, M
 pub fn inhabit(alloc: Global, sort: SortId, goal: Form, part: Part) -> Result<Part, Memory>
     ensures { IfOk result (λ node. node ≡ Inhabit sort goal part) }
 {
+    let goal = Boxed::new(alloc, goal)?;
     Ok(Boxed::new(alloc, Proof::Inhabit(sort, goal, part))?)
 }
 
@@ -125,6 +134,8 @@ pub fn iff_i(
 ) -> Result<Part, Memory>
     ensures { IfOk result (λ node. node ≡ IffI left right forth back) }
 {
+    let left = Boxed::new(alloc, left)?;
+    let right = Boxed::new(alloc, right)?;
     Ok(Boxed::new(alloc, Proof::IffI(left, right, forth, back))?)
 }
 
@@ -152,5 +163,6 @@ pub fn subst(
 ) -> Result<Part, Memory>
     ensures { IfOk result (λ node. node ≡ Subst sort body equation fact) }
 {
+    let body = Boxed::new(alloc, body)?;
     Ok(Boxed::new(alloc, Proof::Subst(sort, body, equation, fact))?)
 }

@@ -83,15 +83,15 @@ fn conclude_in(
                 theory,
                 cases.as_slice(),
                 &shown,
-                goal,
+                goal.get(),
                 scope,
                 &*hyps,
                 room,
             )
         }
         Proof::ImpI(left, part) => {
-            let shown = under(alloc, theory, part.get(), left, scope, &*hyps, room)?;
-            implied(alloc, left, shown)
+            let shown = under(alloc, theory, part.get(), left.get(), scope, &*hyps, room)?;
+            implied(alloc, left.get(), shown)
         }
         Proof::ImpE(whole, part) => {
             let whole = conclude_in(alloc, theory, whole.get(), scope, &*hyps, room)?;
@@ -99,8 +99,8 @@ fn conclude_in(
             consequent(alloc, &whole, &shown)
         }
         Proof::NotI(body, part) => {
-            let shown = under(alloc, theory, part.get(), body, scope, &*hyps, room)?;
-            negated(alloc, body, &shown)
+            let shown = under(alloc, theory, part.get(), body.get(), scope, &*hyps, room)?;
+            negated(alloc, body.get(), &shown)
         }
         Proof::NotE(denial, part) => {
             let denied = conclude_in(alloc, theory, denial.get(), scope, &*hyps, room)?;
@@ -108,12 +108,12 @@ fn conclude_in(
             opposed(alloc, &denied, &shown)
         }
         Proof::Raa(goal, part) => {
-            by_contradiction(alloc, theory, part.get(), goal, scope, &*hyps, room)
+            by_contradiction(alloc, theory, part.get(), goal.get(), scope, &*hyps, room)
         }
         Proof::IffI(left, right, there, back) => {
-            let forth = under(alloc, theory, there.get(), left, scope, &*hyps, room)?;
-            let back = under(alloc, theory, back.get(), right, scope, &*hyps, room)?;
-            equivalent(alloc, left, right, &forth, &back)
+            let forth = under(alloc, theory, there.get(), left.get(), scope, &*hyps, room)?;
+            let back = under(alloc, theory, back.get(), right.get(), scope, &*hyps, room)?;
+            equivalent(alloc, left.get(), right.get(), &forth, &back)
         }
         Proof::IffL(whole, part) => {
             let whole = conclude_in(alloc, theory, whole.get(), scope, &*hyps, room)?;
@@ -131,25 +131,52 @@ fn conclude_in(
         }
         Proof::AllE(term, part) => {
             let shown = conclude_in(alloc, theory, part.get(), scope, &*hyps, room)?;
-            specialized(alloc, theory, scope, term, &shown)
+            specialized(alloc, theory, scope, term.get(), &shown)
         }
         Proof::ExI(sort, body, term, part) => {
             let shown = conclude_in(alloc, theory, part.get(), scope, &*hyps, room)?;
-            witnessed(alloc, theory, scope, room, *sort, body, term, &shown)
+            witnessed(
+                alloc,
+                theory,
+                scope,
+                room,
+                *sort,
+                body.get(),
+                term.get(),
+                &shown,
+            )
         }
         Proof::ExE(goal, part, rest) => {
             let shown = conclude_in(alloc, theory, part.get(), scope, &*hyps, room)?;
-            by_witness(alloc, theory, rest.get(), &shown, goal, scope, &*hyps, room)
+            by_witness(
+                alloc,
+                theory,
+                rest.get(),
+                &shown,
+                goal.get(),
+                scope,
+                &*hyps,
+                room,
+            )
         }
-        Proof::Refl(term) => reflexive(alloc, theory, scope, term),
+        Proof::Refl(term) => reflexive(alloc, theory, scope, term.get()),
         Proof::Subst(sort, body, equality, part) => {
             let sides = conclude_in(alloc, theory, equality.get(), scope, &*hyps, room)?;
             let shown = conclude_in(alloc, theory, part.get(), scope, &*hyps, room)?;
-            substituted(alloc, theory, scope, room, *sort, body, &sides, &shown)
+            substituted(
+                alloc,
+                theory,
+                scope,
+                room,
+                *sort,
+                body.get(),
+                &sides,
+                &shown,
+            )
         }
         Proof::Inhabit(sort, goal, part) => {
             let shown = over(alloc, theory, part.get(), *sort, scope, &*hyps, room)?;
-            same_over(alloc, theory, scope, goal, &shown)
+            same_over(alloc, theory, scope, goal.get(), &shown)
         }
     }
 }

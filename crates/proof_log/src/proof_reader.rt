@@ -143,7 +143,7 @@ fn or_elim(alloc: Global, text: &mut Cursor<'_>, room: usize) -> Result<Boxed<Pr
     let goal = form(alloc, text, room)?;
     let part = proof(alloc, text, room)?;
     let cases = proofs(alloc, text, room)?;
-    Ok(Boxed::new(alloc, Proof::OrE(goal.into_inner(), part, cases))?)
+    Ok(Boxed::new(alloc, Proof::OrE(goal, part, cases))?)
 }
 
 #[cycle(proof)]
@@ -153,7 +153,7 @@ fn implies_intro(alloc: Global, text: &mut Cursor<'_>, room: usize) -> Result<Bo
 {
     let form = form(alloc, text, room)?;
     let part = proof(alloc, text, room)?;
-    Ok(Boxed::new(alloc, Proof::ImpI(form.into_inner(), part))?)
+    Ok(Boxed::new(alloc, Proof::ImpI(form, part))?)
 }
 
 #[cycle(proof)]
@@ -173,7 +173,7 @@ fn not_intro(alloc: Global, text: &mut Cursor<'_>, room: usize) -> Result<Boxed<
 {
     let form = form(alloc, text, room)?;
     let part = proof(alloc, text, room)?;
-    Ok(Boxed::new(alloc, Proof::NotI(form.into_inner(), part))?)
+    Ok(Boxed::new(alloc, Proof::NotI(form, part))?)
 }
 
 #[cycle(proof)]
@@ -193,7 +193,7 @@ fn by_contradiction(alloc: Global, text: &mut Cursor<'_>, room: usize) -> Result
 {
     let form = form(alloc, text, room)?;
     let part = proof(alloc, text, room)?;
-    Ok(Boxed::new(alloc, Proof::Raa(form.into_inner(), part))?)
+    Ok(Boxed::new(alloc, Proof::Raa(form, part))?)
 }
 
 #[cycle(proof)]
@@ -205,10 +205,7 @@ fn iff_intro(alloc: Global, text: &mut Cursor<'_>, room: usize) -> Result<Boxed<
     let right = form(alloc, text, room)?;
     let forth = proof(alloc, text, room)?;
     let back = proof(alloc, text, room)?;
-    Ok(Boxed::new(
-        alloc,
-        Proof::IffI(left.into_inner(), right.into_inner(), forth, back),
-    )?)
+    Ok(Boxed::new(alloc, Proof::IffI(left, right, forth, back))?)
 }
 
 #[cycle(proof)]
@@ -248,7 +245,7 @@ fn all_elim(alloc: Global, text: &mut Cursor<'_>, room: usize) -> Result<Boxed<P
 {
     let term = term(alloc, text, room)?;
     let part = proof(alloc, text, room)?;
-    Ok(Boxed::new(alloc, Proof::AllE(term.into_inner(), part))?)
+    Ok(Boxed::new(alloc, Proof::AllE(term, part))?)
 }
 
 #[cycle(proof)]
@@ -260,10 +257,7 @@ fn exists_intro(alloc: Global, text: &mut Cursor<'_>, room: usize) -> Result<Box
     let form = form(alloc, text, room)?;
     let term = term(alloc, text, room)?;
     let part = proof(alloc, text, room)?;
-    Ok(Boxed::new(
-        alloc,
-        Proof::ExI(sort, form.into_inner(), term.into_inner(), part),
-    )?)
+    Ok(Boxed::new(alloc, Proof::ExI(sort, form, term, part))?)
 }
 
 #[cycle(proof)]
@@ -274,7 +268,7 @@ fn exists_elim(alloc: Global, text: &mut Cursor<'_>, room: usize) -> Result<Boxe
     let goal = form(alloc, text, room)?;
     let left = proof(alloc, text, room)?;
     let right = proof(alloc, text, room)?;
-    Ok(Boxed::new(alloc, Proof::ExE(goal.into_inner(), left, right))?)
+    Ok(Boxed::new(alloc, Proof::ExE(goal, left, right))?)
 }
 
 fn reflexivity(alloc: Global, text: &mut Cursor<'_>, room: usize) -> Result<Boxed<Proof>, Stop>
@@ -282,7 +276,7 @@ fn reflexivity(alloc: Global, text: &mut Cursor<'_>, room: usize) -> Result<Boxe
         (spec.proof room) ProofName.Refl text.old) result text.new }
 {
     let term = term(alloc, text, room)?;
-    Ok(Boxed::new(alloc, Proof::Refl(term.into_inner()))?)
+    Ok(Boxed::new(alloc, Proof::Refl(term))?)
 }
 
 #[cycle(proof)]
@@ -294,7 +288,7 @@ fn substitution(alloc: Global, text: &mut Cursor<'_>, room: usize) -> Result<Box
     let form = form(alloc, text, room)?;
     let left = proof(alloc, text, room)?;
     let right = proof(alloc, text, room)?;
-    Ok(Boxed::new(alloc, Proof::Subst(sort, form.into_inner(), left, right))?)
+    Ok(Boxed::new(alloc, Proof::Subst(sort, form, left, right))?)
 }
 
 #[cycle(proof)]
@@ -305,5 +299,5 @@ fn inhabited(alloc: Global, text: &mut Cursor<'_>, room: usize) -> Result<Boxed<
     let sort = small(text)?;
     let goal = form(alloc, text, room)?;
     let part = proof(alloc, text, room)?;
-    Ok(Boxed::new(alloc, Proof::Inhabit(sort, goal.into_inner(), part))?)
+    Ok(Boxed::new(alloc, Proof::Inhabit(sort, goal, part))?)
 }

@@ -40,13 +40,13 @@ pub fn put_proof(proof: &Proof, text: &mut Vec<u8>) -> Result<(), AllocError>
         }
         Proof::OrE(goal, part, cases) => {
             put_word(text, b"ore")?;
-            put_form(goal, text)?;
+            put_form(goal.get(), text)?;
             put_proof(part.get(), text)?;
             put_proofs(cases.as_slice(), text)
         }
         Proof::ImpI(form, part) => {
             put_word(text, b"impi")?;
-            put_form(form, text)?;
+            put_form(form.get(), text)?;
             put_proof(part.get(), text)
         }
         Proof::ImpE(left, right) => {
@@ -56,7 +56,7 @@ pub fn put_proof(proof: &Proof, text: &mut Vec<u8>) -> Result<(), AllocError>
         }
         Proof::NotI(form, part) => {
             put_word(text, b"noti")?;
-            put_form(form, text)?;
+            put_form(form.get(), text)?;
             put_proof(part.get(), text)
         }
         Proof::NotE(left, right) => {
@@ -66,13 +66,13 @@ pub fn put_proof(proof: &Proof, text: &mut Vec<u8>) -> Result<(), AllocError>
         }
         Proof::Raa(form, part) => {
             put_word(text, b"raa")?;
-            put_form(form, text)?;
+            put_form(form.get(), text)?;
             put_proof(part.get(), text)
         }
         Proof::IffI(left, right, forth, back) => {
             put_word(text, b"iffi")?;
-            put_form(left, text)?;
-            put_form(right, text)?;
+            put_form(left.get(), text)?;
+            put_form(right.get(), text)?;
             put_proof(forth.get(), text)?;
             put_proof(back.get(), text)
         }
@@ -93,37 +93,37 @@ pub fn put_proof(proof: &Proof, text: &mut Vec<u8>) -> Result<(), AllocError>
         }
         Proof::AllE(term, part) => {
             put_word(text, b"alle")?;
-            put_term(term, text)?;
+            put_term(term.get(), text)?;
             put_proof(part.get(), text)
         }
         Proof::ExI(sort, form, term, part) => {
             put_word(text, b"exi")?;
             put_small(text, *sort)?;
-            put_form(form, text)?;
-            put_term(term, text)?;
+            put_form(form.get(), text)?;
+            put_term(term.get(), text)?;
             put_proof(part.get(), text)
         }
         Proof::ExE(goal, left, right) => {
             put_word(text, b"exe")?;
-            put_form(goal, text)?;
+            put_form(goal.get(), text)?;
             put_proof(left.get(), text)?;
             put_proof(right.get(), text)
         }
         Proof::Refl(term) => {
             put_word(text, b"refl")?;
-            put_term(term, text)
+            put_term(term.get(), text)
         }
         Proof::Subst(sort, form, left, right) => {
             put_word(text, b"subst")?;
             put_small(text, *sort)?;
-            put_form(form, text)?;
+            put_form(form.get(), text)?;
             put_proof(left.get(), text)?;
             put_proof(right.get(), text)
         }
         Proof::Inhabit(sort, goal, part) => {
             put_word(text, b"inhabit")?;
             put_small(text, *sort)?;
-            put_form(goal, text)?;
+            put_form(goal.get(), text)?;
             put_proof(part.get(), text)
         }
     }

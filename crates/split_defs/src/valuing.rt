@@ -15,9 +15,10 @@ ghost use Rattle.split_defs.specs.code.Trees.{is_value, valued_tree, value_tree}
 use crate::arguments::names_of;
 use crate::defining::{at_arguments, under_all};
 use crate::renaming::rename_term;
+use clause_proofs::refl;
 use derive_kit::{Part, ex_i, imp_e, subst};
 use fof_terms::{Form, Signature, SortId, SymId, Term, lift_term};
-use kernel::{Entry, Proof, Theory};
+use kernel::{Entry, Theory};
 use std::alloc::Global;
 use tptp_base::{Boxed, List, Memory};
 
@@ -105,7 +106,7 @@ fn equated(
     if first {
         return Ok(equal);
     }
-    let itself = Boxed::new(alloc, Proof::Refl(head.copy(alloc)?))?;
+    let itself = refl(alloc, head.copy(alloc)?)?;
     subst(alloc, sort, hole(alloc, head)?.into_inner(), equal, itself)
 }
 
@@ -114,7 +115,7 @@ fn by_choice(alloc: Global, sort: SortId, value: &Term, fact: Part) -> Result<Pa
     requires { lift_term_reach 1 0 value.now < 2 ^ 32 }
     ensures { IfOk result (λ made. made ≡ value_tree sort value.now fact) }
 {
-    let itself = Boxed::new(alloc, Proof::Refl(value.copy(alloc)?))?;
+    let itself = refl(alloc, value.copy(alloc)?)?;
     let body = hole(alloc, value)?;
     let some = ex_i(alloc, sort, body.into_inner(), value.copy(alloc)?, itself)?;
     imp_e(alloc, fact, some)

@@ -28,8 +28,9 @@ pub fn predicate(alloc: Global) -> Result<Entry, Memory>
 pub fn identity(alloc: Global) -> Result<Entry, Memory>
     ensures { IfOk result (λ entry. entry ≡ Lemma (ImpI (Atom 0 []) (Hyp 0))) }
 {
+    let left = Boxed::new(alloc, atom(alloc))?;
     let part = Boxed::new(alloc, Proof::Hyp(0))?;
-    Ok(Entry::Lemma(Proof::ImpI(atom(alloc), part)))
+    Ok(Entry::Lemma(Proof::ImpI(left, part)))
 }
 
 /// The same lemma, by the formula of that number and the implication from it to itself.
@@ -38,8 +39,9 @@ pub fn implied_again(alloc: Global, number: u64) -> Result<Entry, Memory>
 {
     let left = Boxed::new(alloc, atom(alloc))?;
     let right = Boxed::new(alloc, atom(alloc))?;
+    let both = Boxed::new(alloc, Form::Imp(left, right))?;
     let same = Boxed::new(alloc, Proof::Hyp(0))?;
-    let whole = Boxed::new(alloc, Proof::ImpI(Form::Imp(left, right), same))?;
+    let whole = Boxed::new(alloc, Proof::ImpI(both, same))?;
     let part = Boxed::new(alloc, Proof::Line(number))?;
     Ok(Entry::Lemma(Proof::ImpE(whole, part)))
 }
