@@ -79,25 +79,25 @@ conclude_in-returns-in-Hyp t c = rw c.in-Hyp.is (ok_map c.hypothesis.result (λ 
 
 pub conclude_in-returns-in_ok-shown-in-ImpI : goal.conclude_in-returns-in_ok-shown-in-ImpI
 conclude_in-returns-in_ok-shown-in-ImpI t c =
-    let told : ConcludesUnder c.args.theory.now (scope_sorts c.args.scope.now) (hypotheses c.args.hyps.now) c.in-ImpI.left c.in-ImpI.part c.in_ok-shown-in-ImpI.shown = rw c.get-in-ImpI.ensures at c.in_ok-shown-in-ImpI.ensures in
-    rw c.in-ImpI.is (ok_map c.implied.result (λ r k. k c.args.theory.now (scope_sorts c.args.scope.now) (hypotheses c.args.hyps.now) c.in-ImpI.part told) c.implied.ensures)
+    let told : ConcludesUnder c.args.theory.now (scope_sorts c.args.scope.now) (hypotheses c.args.hyps.now) c.in-ImpI.left c.in-ImpI.part c.in_ok-shown-in-ImpI.shown = rw (c.get-in-ImpI.ensures, c.get-in-ImpI-2.ensures) at c.in_ok-shown-in-ImpI.ensures in
+    rw c.in-ImpI.is (ok_map c.implied.result (λ r k. k c.args.theory.now (scope_sorts c.args.scope.now) (hypotheses c.args.hyps.now) c.in-ImpI.part told) (rw c.get-in-ImpI-3.ensures at c.implied.ensures))
 
 pub conclude_in-returns-in_ok-shown-in-NotI : goal.conclude_in-returns-in_ok-shown-in-NotI
 conclude_in-returns-in_ok-shown-in-NotI t c =
-    let told : ConcludesUnder c.args.theory.now (scope_sorts c.args.scope.now) (hypotheses c.args.hyps.now) c.in-NotI.body c.in-NotI.part c.in_ok-shown-in-NotI.shown = rw c.get-in-NotI.ensures at c.in_ok-shown-in-NotI.ensures in
-    rw c.in-NotI.is (ok_map c.negated.result (λ r k. k c.args.theory.now (scope_sorts c.args.scope.now) (hypotheses c.args.hyps.now) c.in-NotI.part told) c.negated.ensures)
+    let told : ConcludesUnder c.args.theory.now (scope_sorts c.args.scope.now) (hypotheses c.args.hyps.now) c.in-NotI.body c.in-NotI.part c.in_ok-shown-in-NotI.shown = rw (c.get-in-NotI.ensures, c.get-in-NotI-2.ensures) at c.in_ok-shown-in-NotI.ensures in
+    rw c.in-NotI.is (ok_map c.negated.result (λ r k. k c.args.theory.now (scope_sorts c.args.scope.now) (hypotheses c.args.hyps.now) c.in-NotI.part told) (rw c.get-in-NotI-3.ensures at c.negated.ensures))
 
 pub conclude_in-returns-in_ok-back-in-IffI : goal.conclude_in-returns-in_ok-back-in-IffI
 conclude_in-returns-in_ok-back-in-IffI t c =
-    let forth : ConcludesUnder c.args.theory.now (scope_sorts c.args.scope.now) (hypotheses c.args.hyps.now) c.in-IffI.left c.in-IffI.there c.in_ok-forth-in-IffI.forth = rw c.get-in-IffI.ensures at c.in_ok-forth-in-IffI.ensures in
-    let back : ConcludesUnder c.args.theory.now (scope_sorts c.args.scope.now) (hypotheses c.args.hyps.now) c.in-IffI.right c.in-IffI.back c.in_ok-back-in-IffI.back = rw c.get-in-IffI-2.ensures at c.in_ok-back-in-IffI.ensures in
-    rw c.in-IffI.is (ok_map c.equivalent.result (λ r k. k c.args.theory.now (scope_sorts c.args.scope.now) (hypotheses c.args.hyps.now) c.in-IffI.there c.in-IffI.back forth back) c.equivalent.ensures)
+    let forth : ConcludesUnder c.args.theory.now (scope_sorts c.args.scope.now) (hypotheses c.args.hyps.now) c.in-IffI.left c.in-IffI.there c.in_ok-forth-in-IffI.forth = rw (c.get-in-IffI.ensures, c.get-in-IffI-2.ensures) at c.in_ok-forth-in-IffI.ensures in
+    let back : ConcludesUnder c.args.theory.now (scope_sorts c.args.scope.now) (hypotheses c.args.hyps.now) c.in-IffI.right c.in-IffI.back c.in_ok-back-in-IffI.back = rw (c.get-in-IffI-3.ensures, c.get-in-IffI-4.ensures) at c.in_ok-back-in-IffI.ensures in
+    rw c.in-IffI.is (ok_map c.equivalent.result (λ r k. k c.args.theory.now (scope_sorts c.args.scope.now) (hypotheses c.args.hyps.now) c.in-IffI.there c.in-IffI.back forth back) (rw (c.get-in-IffI-5.ensures, c.get-in-IffI-6.ensures) at c.equivalent.ensures))
 
 pub conclude_in-returns-in_ok-shown-in-Inhabit : goal.conclude_in-returns-in_ok-shown-in-Inhabit
 conclude_in-returns-in_ok-shown-in-Inhabit t c =
     let told : Concludes c.args.theory.now (c.in-Inhabit.sort ∷ scope_sorts c.args.scope.now) (all_over (hypotheses c.args.hyps.now)) c.in-Inhabit.part c.in_ok-shown-in-Inhabit.shown =
     rw c.get-in-Inhabit.ensures at c.in_ok-shown-in-Inhabit.ensures in
-    rw c.in-Inhabit.is (ok_map c.same_over.result (λ r k. inhabit_shown c.args.theory.now (scope_sorts c.args.scope.now) (hypotheses c.args.hyps.now) c.in-Inhabit.sort c.in-Inhabit.goal c.in-Inhabit.part c.in_ok-shown-in-Inhabit.shown r told k) c.same_over.ensures)
+    rw c.in-Inhabit.is (ok_map c.same_over.result (λ r k. inhabit_shown c.args.theory.now (scope_sorts c.args.scope.now) (hypotheses c.args.hyps.now) c.in-Inhabit.sort c.in-Inhabit.goal c.in-Inhabit.part c.in_ok-shown-in-Inhabit.shown r told k) (rw c.get-in-Inhabit-2.ensures at c.same_over.ensures))
 
 pub each_concluded-loop-part-init : goal.each_concluded-loop-part-init
 each_concluded-loop-part-init t c = subst (AllFound c.args.theory.now (scope_sorts c.args.scope.now) (hypotheses c.args.hyps.now) []) (sym c.new-forms.ensures) (found_none c.args.theory.now (scope_sorts c.args.scope.now) (hypotheses c.args.hyps.now))
