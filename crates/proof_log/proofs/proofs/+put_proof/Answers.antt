@@ -26,11 +26,11 @@ put_proof-returns-in_ok-put_small-in-OrI-clause-text t c =
 
 pub put_proof-returns-in_ok-put_proof-in-OrE-clause-text : goal.put_proof-returns-in_ok-put_proof-in-OrE-clause-text
 put_proof-returns-in_ok-put_proof-in-OrE-clause-text t c =
-    rw (c.in-OrE.is, proof_text-OrE) (four_pieces c.put_proofs-in-OrE.result _ _ _ _ _ _ _ _ _ c.in_ok-put_word-in-OrE.ensures c.in_ok-put_form-in-OrE.ensures.text (rw c.get-in-OrE.ensures at c.in_ok-put_proof-in-OrE.ensures.text) (rw c.as_slice-in-OrE.ensures at c.put_proofs-in-OrE.ensures.text))
+    rw (c.in-OrE.is, proof_text-OrE) (four_pieces c.put_proofs-in-OrE.result _ _ _ _ _ _ _ _ _ c.in_ok-put_word-in-OrE.ensures (rw c.get-in-OrE.ensures at c.in_ok-put_form-in-OrE.ensures.text) (rw c.get-in-OrE-2.ensures at c.in_ok-put_proof-in-OrE.ensures.text) (rw c.as_slice-in-OrE.ensures at c.put_proofs-in-OrE.ensures.text))
 
 pub put_proof-returns-in_ok-put_form-in-ImpI-clause-text : goal.put_proof-returns-in_ok-put_form-in-ImpI-clause-text
 put_proof-returns-in_ok-put_form-in-ImpI-clause-text t c =
-    rw (c.in-ImpI.is, proof_text-ImpI) (three_pieces c.put_proof-in-ImpI.result _ _ _ _ _ _ _ c.in_ok-put_word-in-ImpI.ensures c.in_ok-put_form-in-ImpI.ensures.text (rw c.get-in-ImpI.ensures at c.put_proof-in-ImpI.ensures.text))
+    rw (c.in-ImpI.is, proof_text-ImpI) (three_pieces c.put_proof-in-ImpI.result _ _ _ _ _ _ _ c.in_ok-put_word-in-ImpI.ensures (rw c.get-in-ImpI.ensures at c.in_ok-put_form-in-ImpI.ensures.text) (rw c.get-in-ImpI-2.ensures at c.put_proof-in-ImpI.ensures.text))
 
 pub put_proof-returns-in_ok-put_proof-in-ImpE-clause-text : goal.put_proof-returns-in_ok-put_proof-in-ImpE-clause-text
 put_proof-returns-in_ok-put_proof-in-ImpE-clause-text t c =
@@ -38,7 +38,7 @@ put_proof-returns-in_ok-put_proof-in-ImpE-clause-text t c =
 
 pub put_proof-returns-in_ok-put_form-in-NotI-clause-text : goal.put_proof-returns-in_ok-put_form-in-NotI-clause-text
 put_proof-returns-in_ok-put_form-in-NotI-clause-text t c =
-    rw (c.in-NotI.is, proof_text-NotI) (three_pieces c.put_proof-in-NotI.result _ _ _ _ _ _ _ c.in_ok-put_word-in-NotI.ensures c.in_ok-put_form-in-NotI.ensures.text (rw c.get-in-NotI.ensures at c.put_proof-in-NotI.ensures.text))
+    rw (c.in-NotI.is, proof_text-NotI) (three_pieces c.put_proof-in-NotI.result _ _ _ _ _ _ _ c.in_ok-put_word-in-NotI.ensures (rw c.get-in-NotI.ensures at c.in_ok-put_form-in-NotI.ensures.text) (rw c.get-in-NotI-2.ensures at c.put_proof-in-NotI.ensures.text))
 
 pub put_proof-returns-in_ok-put_proof-in-NotE-clause-text : goal.put_proof-returns-in_ok-put_proof-in-NotE-clause-text
 put_proof-returns-in_ok-put_proof-in-NotE-clause-text t c =
@@ -46,11 +46,11 @@ put_proof-returns-in_ok-put_proof-in-NotE-clause-text t c =
 
 pub put_proof-returns-in_ok-put_form-in-Raa-clause-text : goal.put_proof-returns-in_ok-put_form-in-Raa-clause-text
 put_proof-returns-in_ok-put_form-in-Raa-clause-text t c =
-    rw (c.in-Raa.is, proof_text-Raa) (three_pieces c.put_proof-in-Raa.result _ _ _ _ _ _ _ c.in_ok-put_word-in-Raa.ensures c.in_ok-put_form-in-Raa.ensures.text (rw c.get-in-Raa.ensures at c.put_proof-in-Raa.ensures.text))
+    rw (c.in-Raa.is, proof_text-Raa) (three_pieces c.put_proof-in-Raa.result _ _ _ _ _ _ _ c.in_ok-put_word-in-Raa.ensures (rw c.get-in-Raa.ensures at c.in_ok-put_form-in-Raa.ensures.text) (rw c.get-in-Raa-2.ensures at c.put_proof-in-Raa.ensures.text))
 
 pub put_proof-returns-in_ok-put_proof-in-IffI-clause-text : goal.put_proof-returns-in_ok-put_proof-in-IffI-clause-text
 put_proof-returns-in_ok-put_proof-in-IffI-clause-text t c =
-    rw (c.in-IffI.is, proof_text-IffI) (five_pieces c.put_proof-in-IffI-2.result _ _ _ _ _ _ _ _ _ _ _ c.in_ok-put_word-in-IffI.ensures c.in_ok-put_form-in-IffI.ensures.text c.in_ok-put_form-in-IffI-2.ensures.text (rw c.get-in-IffI.ensures at c.in_ok-put_proof-in-IffI.ensures.text) (rw c.get-in-IffI-2.ensures at c.put_proof-in-IffI-2.ensures.text))
+    rw (c.in-IffI.is, proof_text-IffI) (five_pieces c.put_proof-in-IffI-2.result _ _ _ _ _ _ _ _ _ _ _ c.in_ok-put_word-in-IffI.ensures (rw c.get-in-IffI.ensures at c.in_ok-put_form-in-IffI.ensures.text) (rw c.get-in-IffI-2.ensures at c.in_ok-put_form-in-IffI-2.ensures.text) (rw c.get-in-IffI-3.ensures at c.in_ok-put_proof-in-IffI.ensures.text) (rw c.get-in-IffI-4.ensures at c.put_proof-in-IffI-2.ensures.text))
 
 pub put_proof-returns-in_ok-put_proof-in-IffL-clause-text : goal.put_proof-returns-in_ok-put_proof-in-IffL-clause-text
 put_proof-returns-in_ok-put_proof-in-IffL-clause-text t c =
@@ -66,27 +66,27 @@ put_proof-returns-in_ok-put_small-in-AllI-clause-text t c =
 
 pub put_proof-returns-in_ok-put_term-in-AllE-clause-text : goal.put_proof-returns-in_ok-put_term-in-AllE-clause-text
 put_proof-returns-in_ok-put_term-in-AllE-clause-text t c =
-    rw (c.in-AllE.is, proof_text-AllE) (three_pieces c.put_proof-in-AllE.result _ _ _ _ _ _ _ c.in_ok-put_word-in-AllE.ensures c.in_ok-put_term-in-AllE.ensures.text (rw c.get-in-AllE.ensures at c.put_proof-in-AllE.ensures.text))
+    rw (c.in-AllE.is, proof_text-AllE) (three_pieces c.put_proof-in-AllE.result _ _ _ _ _ _ _ c.in_ok-put_word-in-AllE.ensures (rw c.get-in-AllE.ensures at c.in_ok-put_term-in-AllE.ensures.text) (rw c.get-in-AllE-2.ensures at c.put_proof-in-AllE.ensures.text))
 
 pub put_proof-returns-in_ok-put_term-in-ExI-clause-text : goal.put_proof-returns-in_ok-put_term-in-ExI-clause-text
 put_proof-returns-in_ok-put_term-in-ExI-clause-text t c =
-    rw (c.in-ExI.is, proof_text-ExI) (five_pieces c.put_proof-in-ExI.result _ _ _ _ _ _ _ _ _ _ _ c.in_ok-put_word-in-ExI.ensures c.in_ok-put_small-in-ExI.ensures.text c.in_ok-put_form-in-ExI.ensures.text c.in_ok-put_term-in-ExI.ensures.text (rw c.get-in-ExI.ensures at c.put_proof-in-ExI.ensures.text))
+    rw (c.in-ExI.is, proof_text-ExI) (five_pieces c.put_proof-in-ExI.result _ _ _ _ _ _ _ _ _ _ _ c.in_ok-put_word-in-ExI.ensures c.in_ok-put_small-in-ExI.ensures.text (rw c.get-in-ExI.ensures at c.in_ok-put_form-in-ExI.ensures.text) (rw c.get-in-ExI-2.ensures at c.in_ok-put_term-in-ExI.ensures.text) (rw c.get-in-ExI-3.ensures at c.put_proof-in-ExI.ensures.text))
 
 pub put_proof-returns-in_ok-put_proof-in-ExE-clause-text : goal.put_proof-returns-in_ok-put_proof-in-ExE-clause-text
 put_proof-returns-in_ok-put_proof-in-ExE-clause-text t c =
-    rw (c.in-ExE.is, proof_text-ExE) (four_pieces c.put_proof-in-ExE-2.result _ _ _ _ _ _ _ _ _ c.in_ok-put_word-in-ExE.ensures c.in_ok-put_form-in-ExE.ensures.text (rw c.get-in-ExE.ensures at c.in_ok-put_proof-in-ExE.ensures.text) (rw c.get-in-ExE-2.ensures at c.put_proof-in-ExE-2.ensures.text))
+    rw (c.in-ExE.is, proof_text-ExE) (four_pieces c.put_proof-in-ExE-2.result _ _ _ _ _ _ _ _ _ c.in_ok-put_word-in-ExE.ensures (rw c.get-in-ExE.ensures at c.in_ok-put_form-in-ExE.ensures.text) (rw c.get-in-ExE-2.ensures at c.in_ok-put_proof-in-ExE.ensures.text) (rw c.get-in-ExE-3.ensures at c.put_proof-in-ExE-2.ensures.text))
 
 pub put_proof-returns-in_ok-put_word-in-Refl-clause-text : goal.put_proof-returns-in_ok-put_word-in-Refl-clause-text
 put_proof-returns-in_ok-put_word-in-Refl-clause-text t c =
-    rw (c.in-Refl.is, proof_text-Refl) (two_pieces c.put_term-in-Refl.result _ _ _ _ _ c.in_ok-put_word-in-Refl.ensures c.put_term-in-Refl.ensures.text)
+    rw (c.in-Refl.is, proof_text-Refl) (two_pieces c.put_term-in-Refl.result _ _ _ _ _ c.in_ok-put_word-in-Refl.ensures (rw c.get-in-Refl.ensures at c.put_term-in-Refl.ensures.text))
 
 pub put_proof-returns-in_ok-put_proof-in-Subst-clause-text : goal.put_proof-returns-in_ok-put_proof-in-Subst-clause-text
 put_proof-returns-in_ok-put_proof-in-Subst-clause-text t c =
-    rw (c.in-Subst.is, proof_text-Subst) (five_pieces c.put_proof-in-Subst-2.result _ _ _ _ _ _ _ _ _ _ _ c.in_ok-put_word-in-Subst.ensures c.in_ok-put_small-in-Subst.ensures.text c.in_ok-put_form-in-Subst.ensures.text (rw c.get-in-Subst.ensures at c.in_ok-put_proof-in-Subst.ensures.text) (rw c.get-in-Subst-2.ensures at c.put_proof-in-Subst-2.ensures.text))
+    rw (c.in-Subst.is, proof_text-Subst) (five_pieces c.put_proof-in-Subst-2.result _ _ _ _ _ _ _ _ _ _ _ c.in_ok-put_word-in-Subst.ensures c.in_ok-put_small-in-Subst.ensures.text (rw c.get-in-Subst.ensures at c.in_ok-put_form-in-Subst.ensures.text) (rw c.get-in-Subst-2.ensures at c.in_ok-put_proof-in-Subst.ensures.text) (rw c.get-in-Subst-3.ensures at c.put_proof-in-Subst-2.ensures.text))
 
 pub put_proof-returns-in_ok-put_form-in-Inhabit-clause-text : goal.put_proof-returns-in_ok-put_form-in-Inhabit-clause-text
 put_proof-returns-in_ok-put_form-in-Inhabit-clause-text t c =
-    rw (c.in-Inhabit.is, proof_text-Inhabit) (four_pieces c.put_proof-in-Inhabit.result _ _ _ _ _ _ _ _ _ c.in_ok-put_word-in-Inhabit.ensures c.in_ok-put_small-in-Inhabit.ensures.text c.in_ok-put_form-in-Inhabit.ensures.text (rw c.get-in-Inhabit.ensures at c.put_proof-in-Inhabit.ensures.text))
+    rw (c.in-Inhabit.is, proof_text-Inhabit) (four_pieces c.put_proof-in-Inhabit.result _ _ _ _ _ _ _ _ _ c.in_ok-put_word-in-Inhabit.ensures c.in_ok-put_small-in-Inhabit.ensures.text (rw c.get-in-Inhabit.ensures at c.in_ok-put_form-in-Inhabit.ensures.text) (rw c.get-in-Inhabit-2.ensures at c.put_proof-in-Inhabit.ensures.text))
 
 pub put_proofs-returns-clause-text : goal.put_proofs-returns-clause-text
 put_proofs-returns-clause-text t c = list_written proof_text c.args.proofs.now c.loop-proof.proof-index _ _ _ c.loop-proof-test.false c.in_ok-put_number.ensures.text c.loop-proof.invariant.written
@@ -113,11 +113,11 @@ put_proof-returns-in_ok-put_small-in-OrI-clause-in_range t c =
 
 pub put_proof-returns-in_ok-put_proof-in-OrE-clause-in_range : goal.put_proof-returns-in_ok-put_proof-in-OrE-clause-in_range
 put_proof-returns-in_ok-put_proof-in-OrE-clause-in_range t c =
-    rw c.in-OrE.is (if_written c.put_proofs-in-OrE.result (λ h. proof_range-OrE _ _ _ c.in_ok-put_form-in-OrE.ensures.in_range (rw c.get-in-OrE.ensures at c.in_ok-put_proof-in-OrE.ensures.in_range) h) (rw c.as_slice-in-OrE.ensures at c.put_proofs-in-OrE.ensures.in_range))
+    rw c.in-OrE.is (if_written c.put_proofs-in-OrE.result (λ h. proof_range-OrE _ _ _ (rw c.get-in-OrE.ensures at c.in_ok-put_form-in-OrE.ensures.in_range) (rw c.get-in-OrE-2.ensures at c.in_ok-put_proof-in-OrE.ensures.in_range) h) (rw c.as_slice-in-OrE.ensures at c.put_proofs-in-OrE.ensures.in_range))
 
 pub put_proof-returns-in_ok-put_form-in-ImpI-clause-in_range : goal.put_proof-returns-in_ok-put_form-in-ImpI-clause-in_range
 put_proof-returns-in_ok-put_form-in-ImpI-clause-in_range t c =
-    rw c.in-ImpI.is (if_written c.put_proof-in-ImpI.result (λ h. proof_range-ImpI _ _ c.in_ok-put_form-in-ImpI.ensures.in_range h) (rw c.get-in-ImpI.ensures at c.put_proof-in-ImpI.ensures.in_range))
+    rw c.in-ImpI.is (if_written c.put_proof-in-ImpI.result (λ h. proof_range-ImpI _ _ (rw c.get-in-ImpI.ensures at c.in_ok-put_form-in-ImpI.ensures.in_range) h) (rw c.get-in-ImpI-2.ensures at c.put_proof-in-ImpI.ensures.in_range))
 
 pub put_proof-returns-in_ok-put_proof-in-ImpE-clause-in_range : goal.put_proof-returns-in_ok-put_proof-in-ImpE-clause-in_range
 put_proof-returns-in_ok-put_proof-in-ImpE-clause-in_range t c =
@@ -125,7 +125,7 @@ put_proof-returns-in_ok-put_proof-in-ImpE-clause-in_range t c =
 
 pub put_proof-returns-in_ok-put_form-in-NotI-clause-in_range : goal.put_proof-returns-in_ok-put_form-in-NotI-clause-in_range
 put_proof-returns-in_ok-put_form-in-NotI-clause-in_range t c =
-    rw c.in-NotI.is (if_written c.put_proof-in-NotI.result (λ h. proof_range-NotI _ _ c.in_ok-put_form-in-NotI.ensures.in_range h) (rw c.get-in-NotI.ensures at c.put_proof-in-NotI.ensures.in_range))
+    rw c.in-NotI.is (if_written c.put_proof-in-NotI.result (λ h. proof_range-NotI _ _ (rw c.get-in-NotI.ensures at c.in_ok-put_form-in-NotI.ensures.in_range) h) (rw c.get-in-NotI-2.ensures at c.put_proof-in-NotI.ensures.in_range))
 
 pub put_proof-returns-in_ok-put_proof-in-NotE-clause-in_range : goal.put_proof-returns-in_ok-put_proof-in-NotE-clause-in_range
 put_proof-returns-in_ok-put_proof-in-NotE-clause-in_range t c =
@@ -133,11 +133,11 @@ put_proof-returns-in_ok-put_proof-in-NotE-clause-in_range t c =
 
 pub put_proof-returns-in_ok-put_form-in-Raa-clause-in_range : goal.put_proof-returns-in_ok-put_form-in-Raa-clause-in_range
 put_proof-returns-in_ok-put_form-in-Raa-clause-in_range t c =
-    rw c.in-Raa.is (if_written c.put_proof-in-Raa.result (λ h. proof_range-Raa _ _ c.in_ok-put_form-in-Raa.ensures.in_range h) (rw c.get-in-Raa.ensures at c.put_proof-in-Raa.ensures.in_range))
+    rw c.in-Raa.is (if_written c.put_proof-in-Raa.result (λ h. proof_range-Raa _ _ (rw c.get-in-Raa.ensures at c.in_ok-put_form-in-Raa.ensures.in_range) h) (rw c.get-in-Raa-2.ensures at c.put_proof-in-Raa.ensures.in_range))
 
 pub put_proof-returns-in_ok-put_proof-in-IffI-clause-in_range : goal.put_proof-returns-in_ok-put_proof-in-IffI-clause-in_range
 put_proof-returns-in_ok-put_proof-in-IffI-clause-in_range t c =
-    rw c.in-IffI.is (if_written c.put_proof-in-IffI-2.result (λ h. proof_range-IffI _ _ _ _ c.in_ok-put_form-in-IffI.ensures.in_range c.in_ok-put_form-in-IffI-2.ensures.in_range (rw c.get-in-IffI.ensures at c.in_ok-put_proof-in-IffI.ensures.in_range) h) (rw c.get-in-IffI-2.ensures at c.put_proof-in-IffI-2.ensures.in_range))
+    rw c.in-IffI.is (if_written c.put_proof-in-IffI-2.result (λ h. proof_range-IffI _ _ _ _ (rw c.get-in-IffI.ensures at c.in_ok-put_form-in-IffI.ensures.in_range) (rw c.get-in-IffI-2.ensures at c.in_ok-put_form-in-IffI-2.ensures.in_range) (rw c.get-in-IffI-3.ensures at c.in_ok-put_proof-in-IffI.ensures.in_range) h) (rw c.get-in-IffI-4.ensures at c.put_proof-in-IffI-2.ensures.in_range))
 
 pub put_proof-returns-in_ok-put_proof-in-IffL-clause-in_range : goal.put_proof-returns-in_ok-put_proof-in-IffL-clause-in_range
 put_proof-returns-in_ok-put_proof-in-IffL-clause-in_range t c =
@@ -153,27 +153,27 @@ put_proof-returns-in_ok-put_small-in-AllI-clause-in_range t c =
 
 pub put_proof-returns-in_ok-put_term-in-AllE-clause-in_range : goal.put_proof-returns-in_ok-put_term-in-AllE-clause-in_range
 put_proof-returns-in_ok-put_term-in-AllE-clause-in_range t c =
-    rw c.in-AllE.is (if_written c.put_proof-in-AllE.result (λ h. proof_range-AllE _ _ c.in_ok-put_term-in-AllE.ensures.in_range h) (rw c.get-in-AllE.ensures at c.put_proof-in-AllE.ensures.in_range))
+    rw c.in-AllE.is (if_written c.put_proof-in-AllE.result (λ h. proof_range-AllE _ _ (rw c.get-in-AllE.ensures at c.in_ok-put_term-in-AllE.ensures.in_range) h) (rw c.get-in-AllE-2.ensures at c.put_proof-in-AllE.ensures.in_range))
 
 pub put_proof-returns-in_ok-put_term-in-ExI-clause-in_range : goal.put_proof-returns-in_ok-put_term-in-ExI-clause-in_range
 put_proof-returns-in_ok-put_term-in-ExI-clause-in_range t c =
-    rw c.in-ExI.is (if_written c.put_proof-in-ExI.result (λ h. proof_range-ExI _ _ _ _ c.in_ok-put_small-in-ExI.ensures.small c.in_ok-put_form-in-ExI.ensures.in_range c.in_ok-put_term-in-ExI.ensures.in_range h) (rw c.get-in-ExI.ensures at c.put_proof-in-ExI.ensures.in_range))
+    rw c.in-ExI.is (if_written c.put_proof-in-ExI.result (λ h. proof_range-ExI _ _ _ _ c.in_ok-put_small-in-ExI.ensures.small (rw c.get-in-ExI.ensures at c.in_ok-put_form-in-ExI.ensures.in_range) (rw c.get-in-ExI-2.ensures at c.in_ok-put_term-in-ExI.ensures.in_range) h) (rw c.get-in-ExI-3.ensures at c.put_proof-in-ExI.ensures.in_range))
 
 pub put_proof-returns-in_ok-put_proof-in-ExE-clause-in_range : goal.put_proof-returns-in_ok-put_proof-in-ExE-clause-in_range
 put_proof-returns-in_ok-put_proof-in-ExE-clause-in_range t c =
-    rw c.in-ExE.is (if_written c.put_proof-in-ExE-2.result (λ h. proof_range-ExE _ _ _ c.in_ok-put_form-in-ExE.ensures.in_range (rw c.get-in-ExE.ensures at c.in_ok-put_proof-in-ExE.ensures.in_range) h) (rw c.get-in-ExE-2.ensures at c.put_proof-in-ExE-2.ensures.in_range))
+    rw c.in-ExE.is (if_written c.put_proof-in-ExE-2.result (λ h. proof_range-ExE _ _ _ (rw c.get-in-ExE.ensures at c.in_ok-put_form-in-ExE.ensures.in_range) (rw c.get-in-ExE-2.ensures at c.in_ok-put_proof-in-ExE.ensures.in_range) h) (rw c.get-in-ExE-3.ensures at c.put_proof-in-ExE-2.ensures.in_range))
 
 pub put_proof-returns-in_ok-put_word-in-Refl-clause-in_range : goal.put_proof-returns-in_ok-put_word-in-Refl-clause-in_range
 put_proof-returns-in_ok-put_word-in-Refl-clause-in_range t c =
-    rw c.in-Refl.is (if_written c.put_term-in-Refl.result (λ h. proof_range-Refl _ h) c.put_term-in-Refl.ensures.in_range)
+    rw c.in-Refl.is (if_written c.put_term-in-Refl.result (λ h. proof_range-Refl _ h) (rw c.get-in-Refl.ensures at c.put_term-in-Refl.ensures.in_range))
 
 pub put_proof-returns-in_ok-put_proof-in-Subst-clause-in_range : goal.put_proof-returns-in_ok-put_proof-in-Subst-clause-in_range
 put_proof-returns-in_ok-put_proof-in-Subst-clause-in_range t c =
-    rw c.in-Subst.is (if_written c.put_proof-in-Subst-2.result (λ h. proof_range-Subst _ _ _ _ c.in_ok-put_small-in-Subst.ensures.small c.in_ok-put_form-in-Subst.ensures.in_range (rw c.get-in-Subst.ensures at c.in_ok-put_proof-in-Subst.ensures.in_range) h) (rw c.get-in-Subst-2.ensures at c.put_proof-in-Subst-2.ensures.in_range))
+    rw c.in-Subst.is (if_written c.put_proof-in-Subst-2.result (λ h. proof_range-Subst _ _ _ _ c.in_ok-put_small-in-Subst.ensures.small (rw c.get-in-Subst.ensures at c.in_ok-put_form-in-Subst.ensures.in_range) (rw c.get-in-Subst-2.ensures at c.in_ok-put_proof-in-Subst.ensures.in_range) h) (rw c.get-in-Subst-3.ensures at c.put_proof-in-Subst-2.ensures.in_range))
 
 pub put_proof-returns-in_ok-put_form-in-Inhabit-clause-in_range : goal.put_proof-returns-in_ok-put_form-in-Inhabit-clause-in_range
 put_proof-returns-in_ok-put_form-in-Inhabit-clause-in_range t c =
-    rw c.in-Inhabit.is (if_written c.put_proof-in-Inhabit.result (λ h. proof_range-Inhabit _ _ _ c.in_ok-put_small-in-Inhabit.ensures.small c.in_ok-put_form-in-Inhabit.ensures.in_range h) (rw c.get-in-Inhabit.ensures at c.put_proof-in-Inhabit.ensures.in_range))
+    rw c.in-Inhabit.is (if_written c.put_proof-in-Inhabit.result (λ h. proof_range-Inhabit _ _ _ c.in_ok-put_small-in-Inhabit.ensures.small (rw c.get-in-Inhabit.ensures at c.in_ok-put_form-in-Inhabit.ensures.in_range) h) (rw c.get-in-Inhabit-2.ensures at c.put_proof-in-Inhabit.ensures.in_range))
 
 pub put_proofs-returns-clause-in_range : goal.put_proofs-returns-clause-in_range
 put_proofs-returns-clause-in_range t c = list_in_range proof_words c.args.proofs.now c.loop-proof.proof-index c.loop-proof-test.false c.in_ok-put_number.ensures.large c.loop-proof.invariant.in_range
