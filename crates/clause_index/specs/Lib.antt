@@ -1,0 +1,4 @@
+pub mod Entries
+pub mod Heads
+pub mod Keys
+pub mod code

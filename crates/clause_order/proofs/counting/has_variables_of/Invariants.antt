@@ -1,0 +1,10 @@
+use Rattle.std.proofs.Common.{◌-◌, ◌^◌}
+use Rattle.clause_order.specs.Order.{occurrences}
+use Rattle.clause_order.specs.code.Next.{FitsBelow}
+use Rattle.clause_order.proofs.counting.has_variables_of.Given as goal
+
+abbrev pub invariant-loop-variable : goal.invariant-loop-variable
+invariant-loop-variable l = FitsBelow l.from (λ x. occurrences x l.more) (λ x. occurrences x l.fewer)
+
+abbrev pub decreases-loop-variable : goal.decreases-loop-variable
+decreases-loop-variable l = 2 ^ 32 - l.from

@@ -1,0 +1,3 @@
+-- Nothing public rests on this.
+pub mod Inside
+pub mod Next
