@@ -17,7 +17,7 @@ use kernel::{Entry, Proof};
 use proof_log::write_entry;
 use std::alloc::Global;
 use szs_report::Verdict;
-use tptp_base::Sink;
+use tptp_base::{Boxed, Sink};
 
 /// Writes the last entry of a log: where all is verified, a lemma that cites the line that is falsehood, of several the
 /// one that was checked last, and else nothing. The formulas and the numbers of the lines stand in the order of the
@@ -46,7 +46,8 @@ pub fn close_log<K: Sink>(
             let Some(number) = last_false(forms, numbers) else {
                 unreachable!()
             };
-            write_entry(alloc, &Entry::Lemma(Proof::Line(number)), log)?;
+            let entry = Boxed::new(alloc, Entry::Lemma(Proof::Line(number)))?;
+            write_entry(alloc, entry.get(), log)?;
             Ok(())
         }
         Verdict::Failed(_, _, _) => Ok(()),
