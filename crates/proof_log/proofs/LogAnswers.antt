@@ -34,7 +34,7 @@ module _ (limit : ℕ) (text : List ℕ) where
   found_by es e w (inl h) = ap (log limit) (sym e ∙ sym (log_plain es)) ∙ h.1
   found_by es e w (inr h) = absurd (never_over w h.1)
 
-  reads : (es : List Entry) → AreLogged es → log_text es ≡ text → Within limit (nested_log es) → log limit text ≡ Ok es
+  pub reads : (es : List Entry) → AreLogged es → log_text es ≡ text → Within limit (nested_log es) → log limit text ≡ Ok es
   reads es logged e w = found_by es e w (found_log limit es logged)
 
   -- a log is read

@@ -23,7 +23,7 @@ use Rattle.proof_log.proofs.LogReader.{lines, starts_line, FoundAll, found_entri
 plain_line : (ws : List ℕ) (us : List (Nested ℕ)) → plain us ≡ ws → plain (us ++ at_level 0 (10 ∷ [])) ≡ ws ++ 10 ∷ []
 plain_line ws us e = plain-append us ((10, 0) ∷ []) ∙ ap (λ l. l ++ 10 ∷ []) e
 
-entry_plain : (e : Entry) → plain (nested_entry e) ≡ entry_text e
+pub entry_plain : (e : Entry) → plain (nested_entry e) ≡ entry_text e
 unfolding proof_text form_text
 entry_plain (Declare decl) = plain-level 0 (entry_text (Declare decl))
 entry_plain (Lemma p) = ap (λ l. 76 ∷ l) (plain_line (proof_text p) (nested 0 (proof_words p)) (plain-nested 0 (proof_words p)))
@@ -91,7 +91,7 @@ read_one_by : (limit : ℕ) (e : Entry) (rest : List (Nested ℕ)) → Within li
 read_one_by limit e rest w (inl h) = h.1
 read_one_by limit e rest w (inr h) = absurd (never_over w h.1)
 
-read_one : (limit : ℕ) (e : Entry) (rest : List (Nested ℕ)) → IsLogged e → Within limit (nested_entry e ++ rest) → entry limit (plain (nested_entry e ++ rest)) ≡ Ok (e, plain rest)
+pub read_one : (limit : ℕ) (e : Entry) (rest : List (Nested ℕ)) → IsLogged e → Within limit (nested_entry e ++ rest) → entry limit (plain (nested_entry e ++ rest)) ≡ Ok (e, plain rest)
 read_one limit e rest logged w = read_one_by limit e rest w ((good_entry limit).found e (nested_entry e ++ rest) rest (refl, logged) refl)
 
 abbrev first_or : Entry → Outcome ℕ Entry → Entry

@@ -121,7 +121,7 @@ module _ (limit : ℕ) where
   first_of e us = let s = starts_line e in (s.0.0, plain s.1 ++ us, ap (λ l. plain l ++ us) s.2)
 
   -- an entry that is read, in front of others
-  in_front : (e : Entry) (us : List ℕ) → entry limit (plain (nested_entry e) ++ us) ≡ Ok (e, us) → entries limit (plain (nested_entry e) ++ us) ≡ with_entry e (entries limit us)
+  pub in_front : (e : Entry) (us : List ℕ) → entry limit (plain (nested_entry e) ++ us) ≡ Ok (e, us) → entries limit (plain (nested_entry e) ++ us) ≡ with_entry e (entries limit us)
   in_front e us k =
       let f = first_of e us in
       ap (entries limit) f.2 ∙ unrolled f.0 f.1 ∙ ap (λ o. followed o (entries limit)) (ap (entry limit) (sym f.2) ∙ k)
@@ -129,10 +129,10 @@ module _ (limit : ℕ) where
   read_line : (e : Entry) (ts rest : List ℕ) → IsRead (entry limit) Line limit e ts rest → (us : List ℕ) → next us ≡ next rest → entry limit (plain (nested_entry e) ++ us) ≡ Ok (e, us)
   read_line e ts rest h us k = subst (λ l. entry limit (plain l ++ us) ≡ Ok (e, us)) (front_is e ts rest h) (h.again us k)
 
-  line_text : (e : Entry) (ts rest : List ℕ) → IsRead (entry limit) Line limit e ts rest → ts ≡ plain (nested_entry e) ++ rest
+  pub line_text : (e : Entry) (ts rest : List ℕ) → IsRead (entry limit) Line limit e ts rest → ts ≡ plain (nested_entry e) ++ rest
   line_text e ts rest h = h.text ∙ ap (λ l. plain l ++ rest) (front_is e ts rest h)
 
-  line_within : (e : Entry) (ts rest : List ℕ) → IsRead (entry limit) Line limit e ts rest → Within limit (nested_entry e)
+  pub line_within : (e : Entry) (ts rest : List ℕ) → IsRead (entry limit) Line limit e ts rest → Within limit (nested_entry e)
   line_within e ts rest h = subst (Within limit) (front_is e ts rest h) h.within
 
   with_line : (e : Entry) (ts rest : List ℕ) → IsRead (entry limit) Line limit e ts rest → (o : LogOutcome) → ExactLog rest o → ExactLog ts (with_entry e o)

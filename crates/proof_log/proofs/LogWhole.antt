@@ -19,7 +19,7 @@ use Rattle.proof_log.proofs.Spelling.{plain-level, all_within, within_level}
 use Rattle.proof_log.proofs.NameReader.{Named, read_name, good_name}
 use Rattle.proof_log.proofs.LogReader.{lines, ExactLog, exact_entries, FoundAll, found_entries, plain_on}
 
-abbrev head : List (Nested ℕ)
+abbrev pub head : List (Nested ℕ)
 head = at_level 0 HEADER.now
 
 found_version : (w : LogVersion) (r : List ℕ) → find version_line versions (version_line w ++ r) ≡ Some w
@@ -59,7 +59,7 @@ here_over TooDeep limit rest on h = record {
 }
 
 module _ (limit : ℕ) where
-  good_version : Good limit (name version_line versions) (Named version_line 0) always
+  pub good_version : Good limit (name version_line versions) (Named version_line 0) always
   good_version = good_name version_line versions version.One found_version limit 0 (omega arith)
 
   abbrev Version : LogVersion → List ℕ → List ℕ → Type 0
@@ -71,17 +71,17 @@ module _ (limit : ℕ) where
   front_is : (v : LogVersion) (ts rest : List ℕ) → (h : Version v ts rest) → h.front ≡ head
   front_is v ts rest h = sym (append-nil h.front) ∙ h.spells [] ∙ append-nil (at_level 0 (version_line v)) ∙ ap (at_level 0) (only_line v)
 
-  begun : (v : LogVersion) (ts rest : List ℕ) → Version v ts rest → ts ≡ plain head ++ rest
+  pub begun : (v : LogVersion) (ts rest : List ℕ) → Version v ts rest → ts ≡ plain head ++ rest
   begun v ts rest h = h.text ∙ ap (λ l. plain l ++ rest) (front_is v ts rest h)
 
   behind : (v : LogVersion) (ts rest us : List ℕ) → Version v ts rest → next us ≡ next rest → log limit (plain head ++ us) ≡ entries limit us
   unfolding log
   behind v ts rest us h e = ap (behind_version limit) (subst (λ l. name version_line versions (plain l ++ us) ≡ Ok (v, us)) (front_is v ts rest h) (h.again us e))
 
-  head_within : Within limit head
+  pub head_within : Within limit head
   head_within = all_within limit 0 (omega arith) HEADER.now
 
-  whole_log : (es : List Entry) → nested_log es ≡ head ++ lines es
+  pub whole_log : (es : List Entry) → nested_log es ≡ head ++ lines es
   unfolding nested_log
   whole_log es = refl
 
@@ -138,7 +138,7 @@ module _ (limit : ℕ) where
   read_version : (us : List ℕ) → name version_line versions (plain head ++ us) ≡ Ok (version.One, us)
   read_version us = ap (λ l. name version_line versions (l ++ us)) (plain-level 0 HEADER.now) ∙ read_name version_line versions version.One found_version limit 0 version.One us
 
-  read_head : (us : List ℕ) → log limit (plain head ++ us) ≡ entries limit us
+  pub read_head : (us : List ℕ) → log limit (plain head ++ us) ≡ entries limit us
   unfolding log
   read_head us = ap (behind_version limit) (read_version us)
 

@@ -1,6 +1,6 @@
 -- A proof shows one formula at most. So entries that are legal in turn make one theory at most of another, and what a check
 -- answers of them is the only answer.
-use Rattle.std.specs.Prelude.{ℕ, ◌≡◌, List, [], ◌∷◌, slice_get, take, Some, Result, Ok, Err, OnOk, IfErr, refl}
+use Rattle.std.specs.Prelude.{ℕ, ◌≡◌, List, [], ◌∷◌, take, Some, Result, Ok, Err, OnOk, IfErr, refl}
 use Rattle.std.proofs.Common.{zero, suc, inl, inr, sym, ◌∙◌, ap, subst}
 use Rattle.fof_terms.specs.declared.signature.Symbol.{Symbol}
 use Rattle.kernel.specs.Statements.{Statements, IsRefuted}

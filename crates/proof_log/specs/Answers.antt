@@ -1,10 +1,11 @@
 -- What reading a log answers.
-use Rattle.std.specs.Prelude.{◌≡◌, ◌<◌, ◌⊎◌, ℕ, List, length, Result, Ok, Err}
+use Rattle.std.specs.Prelude.{◌≡◌, ◌<◌, ◌⊎◌, ℕ, List, [], ◌∷◌, ◌++◌, length, Option, Some, None, Result, Ok, Err}
 use Rattle.first_fault.specs.Nesting.{Within}
 use Rattle.kernel.specs.declared.entry.Entry.{Entry}
 use Rattle.tptp_base.specs.declared.read.TheConstants.{FILE_SIZE}
 use Rattle.proof_log.specs.declared.reader.LogFault.{LogFault}
 use Rattle.proof_log.specs.Entries.{AreLogged, log_text, nested_log}
+use Rattle.proof_log.specs.Reading.{Reading, HasRead}
 use Rattle.proof_log.specs.Logs.{IsFirstFault, IsFirstDeep}
 use Rattle.proof_log.specs.declared.reader.LogFault.TheVariants as fault
 
@@ -38,3 +39,9 @@ IsRefusedFor expected (Err e) = (e ≡ expected) ⊎ (e ≡ fault.Memory)
 abbrev pub IsReadAs : List Entry → Result (List Entry) LogFault → Type 0
 IsReadAs entries (Ok found) = found ≡ entries
 IsReadAs entries (Err e) = e ≡ fault.Memory
+
+-- What the next step answers, where these entries were read: one entry more, or what reading the whole text answers.
+abbrev pub GoesOn : ℕ → List Entry → Reading → Result (Option Entry) LogFault → Reading → Type 0
+GoesOn limit entries old (Ok (Some entry)) new = HasRead limit (entries ++ entry ∷ []) new
+GoesOn limit entries old (Ok None) new = Answers limit old.text (Ok entries)
+GoesOn limit entries old (Err e) new = Answers limit old.text (Err e)

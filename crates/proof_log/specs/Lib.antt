@@ -1,7 +1,9 @@
 pub mod Answers
 pub mod Checks
 pub mod Entries
+pub mod LogChecks
 pub mod LogText
 pub mod Logs
+pub mod Reading
 pub mod Words
 pub mod code

@@ -7,7 +7,7 @@ ghost use Rattle.proof_log.specs.code.Outcomes.{Reads};
 
 use crate::cursor::Cursor;
 use crate::name::{FORM_NAMES, FormName};
-use crate::room::list_for;
+use crate::room::{add, list_for};
 use crate::stop::Stop;
 use crate::term_reader::{term, terms};
 use crate::words::{deep_head, head, large, small};
@@ -62,6 +62,7 @@ fn form_of(
 }
 
 /// How many forms there are, and the forms.
+#[inline(never)]
 #[cycle(form)]
 #[tactic(auto, unfolding(crate::specs::code::ReadWords::listed))]
 pub fn forms(alloc: Global, text: &mut Cursor<'_>, room: usize) -> Result<List<Form>, Stop>
@@ -71,11 +72,12 @@ pub fn forms(alloc: Global, text: &mut Cursor<'_>, room: usize) -> Result<List<F
     let mut found = list_for(alloc, count)?;
     for _ in 0..count {
         let next = form(alloc, text, room)?;
-        found.push(next.into_inner())?;
+        add(&mut found, next)?;
     }
     Ok(found)
 }
 
+#[inline(never)]
 fn atom(alloc: Global, text: &mut Cursor<'_>, room: usize) -> Result<Boxed<Form>, Stop>
     ensures { Reads (spec.form_by (spec.term room) (spec.form room) FormName.Atom text.old) result text.new }
 {
@@ -84,6 +86,7 @@ fn atom(alloc: Global, text: &mut Cursor<'_>, room: usize) -> Result<Boxed<Form>
     Ok(Boxed::new(alloc, Form::Atom(symbol, args))?)
 }
 
+#[inline(never)]
 fn equation(alloc: Global, text: &mut Cursor<'_>, room: usize) -> Result<Boxed<Form>, Stop>
     ensures { Reads (spec.form_by (spec.term room) (spec.form room) FormName.Eq text.old) result text.new }
 {
@@ -92,6 +95,7 @@ fn equation(alloc: Global, text: &mut Cursor<'_>, room: usize) -> Result<Boxed<F
     Ok(Boxed::new(alloc, Form::Eq(left.into_inner(), right.into_inner()))?)
 }
 
+#[inline(never)]
 #[cycle(form)]
 fn negation(alloc: Global, text: &mut Cursor<'_>, room: usize) -> Result<Boxed<Form>, Stop>
     ensures { Reads (spec.form_by (spec.term room) (spec.form room) FormName.Not text.old) result text.new }
@@ -100,6 +104,7 @@ fn negation(alloc: Global, text: &mut Cursor<'_>, room: usize) -> Result<Boxed<F
     Ok(Boxed::new(alloc, Form::Not(body))?)
 }
 
+#[inline(never)]
 #[cycle(form)]
 fn conjunction(alloc: Global, text: &mut Cursor<'_>, room: usize) -> Result<Boxed<Form>, Stop>
     ensures { Reads (spec.form_by (spec.term room) (spec.form room) FormName.And text.old) result text.new }
@@ -108,6 +113,7 @@ fn conjunction(alloc: Global, text: &mut Cursor<'_>, room: usize) -> Result<Boxe
     Ok(Boxed::new(alloc, Form::And(members))?)
 }
 
+#[inline(never)]
 #[cycle(form)]
 fn disjunction(alloc: Global, text: &mut Cursor<'_>, room: usize) -> Result<Boxed<Form>, Stop>
     ensures { Reads (spec.form_by (spec.term room) (spec.form room) FormName.Or text.old) result text.new }
@@ -116,6 +122,7 @@ fn disjunction(alloc: Global, text: &mut Cursor<'_>, room: usize) -> Result<Boxe
     Ok(Boxed::new(alloc, Form::Or(members))?)
 }
 
+#[inline(never)]
 #[cycle(form)]
 fn implication(alloc: Global, text: &mut Cursor<'_>, room: usize) -> Result<Boxed<Form>, Stop>
     ensures { Reads (spec.form_by (spec.term room) (spec.form room) FormName.Imp text.old) result text.new }
@@ -125,6 +132,7 @@ fn implication(alloc: Global, text: &mut Cursor<'_>, room: usize) -> Result<Boxe
     Ok(Boxed::new(alloc, Form::Imp(left, right))?)
 }
 
+#[inline(never)]
 #[cycle(form)]
 fn equivalence(alloc: Global, text: &mut Cursor<'_>, room: usize) -> Result<Boxed<Form>, Stop>
     ensures { Reads (spec.form_by (spec.term room) (spec.form room) FormName.Iff text.old) result text.new }
@@ -134,6 +142,7 @@ fn equivalence(alloc: Global, text: &mut Cursor<'_>, room: usize) -> Result<Boxe
     Ok(Boxed::new(alloc, Form::Iff(left, right))?)
 }
 
+#[inline(never)]
 #[cycle(form)]
 fn for_all(alloc: Global, text: &mut Cursor<'_>, room: usize) -> Result<Boxed<Form>, Stop>
     ensures { Reads (spec.form_by (spec.term room) (spec.form room) FormName.All text.old) result text.new }
@@ -143,6 +152,7 @@ fn for_all(alloc: Global, text: &mut Cursor<'_>, room: usize) -> Result<Boxed<Fo
     Ok(Boxed::new(alloc, Form::All(sort, body))?)
 }
 
+#[inline(never)]
 #[cycle(form)]
 fn exists(alloc: Global, text: &mut Cursor<'_>, room: usize) -> Result<Boxed<Form>, Stop>
     ensures { Reads (spec.form_by (spec.term room) (spec.form room) FormName.Ex text.old) result text.new }

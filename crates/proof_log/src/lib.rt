@@ -8,6 +8,8 @@ mod form_reader;
 mod forms;
 mod laws;
 mod line;
+mod log_check;
+mod log_entries;
 mod name;
 mod proof_reader;
 mod proofs;
@@ -21,5 +23,7 @@ mod write;
 
 pub use checking::{CheckFault, check_entries};
 pub use laws::{a_log_begins_a_log, entries_make_one_theory, one_text_is_of_one_log};
+pub use log_check::{LogCheckFault, check_log};
+pub use log_entries::LogEntries;
 pub use reader::{LogFault, MAX_NESTING, read_log};
 pub use write::{HEADER, write_entry, write_header};

@@ -8,7 +8,7 @@ ghost use Rattle.proof_log.specs.code.Outcomes.{Reads};
 use crate::cursor::Cursor;
 use crate::form_reader::{form, forms};
 use crate::name::{PROOF_NAMES, ProofName};
-use crate::room::list_for;
+use crate::room::{add, list_for};
 use crate::stop::Stop;
 use crate::term_reader::term;
 use crate::words::{deep_head, head, large, small};
@@ -75,6 +75,7 @@ fn proof_of(
 }
 
 /// How many proofs there are, and the proofs.
+#[inline(never)]
 #[cycle(proof)]
 #[tactic(auto, unfolding(crate::specs::code::ReadWords::listed))]
 pub fn proofs(alloc: Global, text: &mut Cursor<'_>, room: usize) -> Result<List<Proof>, Stop>
@@ -84,11 +85,12 @@ pub fn proofs(alloc: Global, text: &mut Cursor<'_>, room: usize) -> Result<List<
     let mut found = list_for(alloc, count)?;
     for _ in 0..count {
         let next = proof(alloc, text, room)?;
-        found.push(next.into_inner())?;
+        add(&mut found, next)?;
     }
     Ok(found)
 }
 
+#[inline(never)]
 fn line(alloc: Global, text: &mut Cursor<'_>, room: usize) -> Result<Boxed<Proof>, Stop>
     ensures { Reads (spec.proof_by (spec.term room) (spec.form room)
         (spec.proof room) ProofName.Line text.old) result text.new }
@@ -97,6 +99,7 @@ fn line(alloc: Global, text: &mut Cursor<'_>, room: usize) -> Result<Boxed<Proof
     Ok(Boxed::new(alloc, Proof::Line(line))?)
 }
 
+#[inline(never)]
 fn hypothesis(alloc: Global, text: &mut Cursor<'_>, room: usize) -> Result<Boxed<Proof>, Stop>
     ensures { Reads (spec.proof_by (spec.term room) (spec.form room)
         (spec.proof room) ProofName.Hyp text.old) result text.new }
@@ -105,6 +108,7 @@ fn hypothesis(alloc: Global, text: &mut Cursor<'_>, room: usize) -> Result<Boxed
     Ok(Boxed::new(alloc, Proof::Hyp(hypothesis))?)
 }
 
+#[inline(never)]
 #[cycle(proof)]
 fn and_intro(alloc: Global, text: &mut Cursor<'_>, room: usize) -> Result<Boxed<Proof>, Stop>
     ensures { Reads (spec.proof_by (spec.term room) (spec.form room)
@@ -114,6 +118,7 @@ fn and_intro(alloc: Global, text: &mut Cursor<'_>, room: usize) -> Result<Boxed<
     Ok(Boxed::new(alloc, Proof::AndI(parts))?)
 }
 
+#[inline(never)]
 #[cycle(proof)]
 fn and_elim(alloc: Global, text: &mut Cursor<'_>, room: usize) -> Result<Boxed<Proof>, Stop>
     ensures { Reads (spec.proof_by (spec.term room) (spec.form room)
@@ -124,6 +129,7 @@ fn and_elim(alloc: Global, text: &mut Cursor<'_>, room: usize) -> Result<Boxed<P
     Ok(Boxed::new(alloc, Proof::AndE(member, part))?)
 }
 
+#[inline(never)]
 #[cycle(proof)]
 fn or_intro(alloc: Global, text: &mut Cursor<'_>, room: usize) -> Result<Boxed<Proof>, Stop>
     ensures { Reads (spec.proof_by (spec.term room) (spec.form room)
@@ -135,6 +141,7 @@ fn or_intro(alloc: Global, text: &mut Cursor<'_>, room: usize) -> Result<Boxed<P
     Ok(Boxed::new(alloc, Proof::OrI(members, member, part))?)
 }
 
+#[inline(never)]
 #[cycle(proof)]
 fn or_elim(alloc: Global, text: &mut Cursor<'_>, room: usize) -> Result<Boxed<Proof>, Stop>
     ensures { Reads (spec.proof_by (spec.term room) (spec.form room)
@@ -146,6 +153,7 @@ fn or_elim(alloc: Global, text: &mut Cursor<'_>, room: usize) -> Result<Boxed<Pr
     Ok(Boxed::new(alloc, Proof::OrE(goal, part, cases))?)
 }
 
+#[inline(never)]
 #[cycle(proof)]
 fn implies_intro(alloc: Global, text: &mut Cursor<'_>, room: usize) -> Result<Boxed<Proof>, Stop>
     ensures { Reads (spec.proof_by (spec.term room) (spec.form room)
@@ -156,6 +164,7 @@ fn implies_intro(alloc: Global, text: &mut Cursor<'_>, room: usize) -> Result<Bo
     Ok(Boxed::new(alloc, Proof::ImpI(form, part))?)
 }
 
+#[inline(never)]
 #[cycle(proof)]
 fn implies_elim(alloc: Global, text: &mut Cursor<'_>, room: usize) -> Result<Boxed<Proof>, Stop>
     ensures { Reads (spec.proof_by (spec.term room) (spec.form room)
@@ -166,6 +175,7 @@ fn implies_elim(alloc: Global, text: &mut Cursor<'_>, room: usize) -> Result<Box
     Ok(Boxed::new(alloc, Proof::ImpE(left, right))?)
 }
 
+#[inline(never)]
 #[cycle(proof)]
 fn not_intro(alloc: Global, text: &mut Cursor<'_>, room: usize) -> Result<Boxed<Proof>, Stop>
     ensures { Reads (spec.proof_by (spec.term room) (spec.form room)
@@ -176,6 +186,7 @@ fn not_intro(alloc: Global, text: &mut Cursor<'_>, room: usize) -> Result<Boxed<
     Ok(Boxed::new(alloc, Proof::NotI(form, part))?)
 }
 
+#[inline(never)]
 #[cycle(proof)]
 fn not_elim(alloc: Global, text: &mut Cursor<'_>, room: usize) -> Result<Boxed<Proof>, Stop>
     ensures { Reads (spec.proof_by (spec.term room) (spec.form room)
@@ -186,6 +197,7 @@ fn not_elim(alloc: Global, text: &mut Cursor<'_>, room: usize) -> Result<Boxed<P
     Ok(Boxed::new(alloc, Proof::NotE(left, right))?)
 }
 
+#[inline(never)]
 #[cycle(proof)]
 fn by_contradiction(alloc: Global, text: &mut Cursor<'_>, room: usize) -> Result<Boxed<Proof>, Stop>
     ensures { Reads (spec.proof_by (spec.term room) (spec.form room)
@@ -196,6 +208,7 @@ fn by_contradiction(alloc: Global, text: &mut Cursor<'_>, room: usize) -> Result
     Ok(Boxed::new(alloc, Proof::Raa(form, part))?)
 }
 
+#[inline(never)]
 #[cycle(proof)]
 fn iff_intro(alloc: Global, text: &mut Cursor<'_>, room: usize) -> Result<Boxed<Proof>, Stop>
     ensures { Reads (spec.proof_by (spec.term room) (spec.form room)
@@ -208,6 +221,7 @@ fn iff_intro(alloc: Global, text: &mut Cursor<'_>, room: usize) -> Result<Boxed<
     Ok(Boxed::new(alloc, Proof::IffI(left, right, forth, back))?)
 }
 
+#[inline(never)]
 #[cycle(proof)]
 fn iff_left(alloc: Global, text: &mut Cursor<'_>, room: usize) -> Result<Boxed<Proof>, Stop>
     ensures { Reads (spec.proof_by (spec.term room) (spec.form room)
@@ -218,6 +232,7 @@ fn iff_left(alloc: Global, text: &mut Cursor<'_>, room: usize) -> Result<Boxed<P
     Ok(Boxed::new(alloc, Proof::IffL(left, right))?)
 }
 
+#[inline(never)]
 #[cycle(proof)]
 fn iff_right(alloc: Global, text: &mut Cursor<'_>, room: usize) -> Result<Boxed<Proof>, Stop>
     ensures { Reads (spec.proof_by (spec.term room) (spec.form room)
@@ -228,6 +243,7 @@ fn iff_right(alloc: Global, text: &mut Cursor<'_>, room: usize) -> Result<Boxed<
     Ok(Boxed::new(alloc, Proof::IffR(left, right))?)
 }
 
+#[inline(never)]
 #[cycle(proof)]
 fn all_intro(alloc: Global, text: &mut Cursor<'_>, room: usize) -> Result<Boxed<Proof>, Stop>
     ensures { Reads (spec.proof_by (spec.term room) (spec.form room)
@@ -238,6 +254,7 @@ fn all_intro(alloc: Global, text: &mut Cursor<'_>, room: usize) -> Result<Boxed<
     Ok(Boxed::new(alloc, Proof::AllI(sort, part))?)
 }
 
+#[inline(never)]
 #[cycle(proof)]
 fn all_elim(alloc: Global, text: &mut Cursor<'_>, room: usize) -> Result<Boxed<Proof>, Stop>
     ensures { Reads (spec.proof_by (spec.term room) (spec.form room)
@@ -248,6 +265,7 @@ fn all_elim(alloc: Global, text: &mut Cursor<'_>, room: usize) -> Result<Boxed<P
     Ok(Boxed::new(alloc, Proof::AllE(term, part))?)
 }
 
+#[inline(never)]
 #[cycle(proof)]
 fn exists_intro(alloc: Global, text: &mut Cursor<'_>, room: usize) -> Result<Boxed<Proof>, Stop>
     ensures { Reads (spec.proof_by (spec.term room) (spec.form room)
@@ -260,6 +278,7 @@ fn exists_intro(alloc: Global, text: &mut Cursor<'_>, room: usize) -> Result<Box
     Ok(Boxed::new(alloc, Proof::ExI(sort, form, term, part))?)
 }
 
+#[inline(never)]
 #[cycle(proof)]
 fn exists_elim(alloc: Global, text: &mut Cursor<'_>, room: usize) -> Result<Boxed<Proof>, Stop>
     ensures { Reads (spec.proof_by (spec.term room) (spec.form room)
@@ -271,6 +290,7 @@ fn exists_elim(alloc: Global, text: &mut Cursor<'_>, room: usize) -> Result<Boxe
     Ok(Boxed::new(alloc, Proof::ExE(goal, left, right))?)
 }
 
+#[inline(never)]
 fn reflexivity(alloc: Global, text: &mut Cursor<'_>, room: usize) -> Result<Boxed<Proof>, Stop>
     ensures { Reads (spec.proof_by (spec.term room) (spec.form room)
         (spec.proof room) ProofName.Refl text.old) result text.new }
@@ -279,6 +299,7 @@ fn reflexivity(alloc: Global, text: &mut Cursor<'_>, room: usize) -> Result<Boxe
     Ok(Boxed::new(alloc, Proof::Refl(term))?)
 }
 
+#[inline(never)]
 #[cycle(proof)]
 fn substitution(alloc: Global, text: &mut Cursor<'_>, room: usize) -> Result<Boxed<Proof>, Stop>
     ensures { Reads (spec.proof_by (spec.term room) (spec.form room)
@@ -291,6 +312,7 @@ fn substitution(alloc: Global, text: &mut Cursor<'_>, room: usize) -> Result<Box
     Ok(Boxed::new(alloc, Proof::Subst(sort, form, left, right))?)
 }
 
+#[inline(never)]
 #[cycle(proof)]
 fn inhabited(alloc: Global, text: &mut Cursor<'_>, room: usize) -> Result<Boxed<Proof>, Stop>
     ensures { Reads (spec.proof_by (spec.term room) (spec.form room)

@@ -1,25 +1,18 @@
 // A whole log is read.
-ghost use Rattle.std.specs.Prelude.{◌≡◌, ◌<◌, ◌≤◌, ◌-◌, ◌↔◌, ℕ, List, length, IsErrOf};
+ghost use Rattle.std.specs.Prelude.{◌≡◌, ◌<◌, ◌≤◌, ◌↔◌, ℕ, List, length, IsErrOf};
 ghost use Rattle.first_fault.specs.Nesting.{Within};
 ghost use Rattle.kernel.specs.declared.entry.Entry.{Entry as Logged};
 ghost use Rattle.tptp_base.specs.declared.read.TheConstants.{FILE_SIZE as max_size};
-ghost use Rattle.proof_log.specs.code.Names.{version_line, versions};
-ghost use Rattle.proof_log.specs.code.ReadWords.{name as a_name};
-ghost use Rattle.proof_log.specs.code.ReadEntries as spec;
+ghost use Rattle.proof_log.specs.declared.reader.LogFault.TheVariants.{Memory};
 ghost use Rattle.proof_log.specs.Entries.{AreLogged, log_text, nested_log};
 ghost use Rattle.proof_log.specs.Logs.{IsFirstFault, IsFirstDeep};
 ghost use Rattle.proof_log.specs.Answers as answers;
-ghost use Rattle.proof_log.specs.code.Answers as answers_code;
 
-use crate::cursor::Cursor;
-use crate::entry_reader::entry;
-use crate::name::VERSIONS;
-use crate::stop::Stop;
-use crate::words::name;
+use crate::log_entries::LogEntries;
 use kernel::Entry;
-use std::alloc::Global;
+use std::alloc::{AllocError, Global};
 use thiserror::Error;
-use tptp_base::{FILE_SIZE, List};
+use tptp_base::List;
 
 /// How deep trees may nest in a log.
 pub const MAX_NESTING: usize = 4_000;
@@ -41,36 +34,11 @@ pub enum LogFault {
     Memory,
 }
 
-// Entries to the end of the text.
-fn entries(alloc: Global, text: &mut Cursor<'_>) -> Result<List<Entry>, Stop>
-    ensures { answers_code.ReadsEntries (spec.entries MAX_NESTING text.old) result text.new }
-{
-    let mut found = List::new(alloc);
-    'entries: while !text.text().is_empty() {
-        let next = entry(alloc, text, MAX_NESTING)?;
-        found.push(next.into_inner())?;
-    }
-    Ok(found)
-}
+impl From<AllocError> for LogFault {
+    ghost from_gives = { λ _ e. e ≡ Memory };
 
-// The first line, and the entries.
-#[tactic(auto, unfolding(crate::specs::code::ReadEntries::log))]
-fn log(alloc: Global, text: &mut Cursor<'_>) -> Result<List<Entry>, Stop>
-    ensures { answers_code.ReadsEntries (spec.log MAX_NESTING text.old) result text.new }
-{
-    name(text, &VERSIONS)?;
-    entries(alloc, text)
-}
-
-// The fault at a place with so many bytes behind it.
-fn fault_of(stop: Stop, size: usize, left: usize) -> LogFault
-    ensures { result ≡ answers_code.fault_of stop (size - left) }
-{
-    let offset = size.saturating_sub(left) as u64;
-    match stop {
-        Stop::Memory => LogFault::Memory,
-        Stop::Unexpected => LogFault::Text(offset),
-        Stop::TooDeep => LogFault::Deep(offset),
+    fn from(_: AllocError) -> LogFault {
+        LogFault::Memory
     }
 }
 
@@ -79,6 +47,7 @@ fn fault_of(stop: Stop, size: usize, left: usize) -> LogFault
 /// # Errors
 ///
 /// The first fault, as `LogFault` tells them. `Limit` is tested first.
+#[tactic(auto, using(crate::proofs::OneAnswer::read_alone, crate::proofs::OneAnswer::text_alone, crate::proofs::OneAnswer::deep_alone))]
 pub fn read_log(alloc: Global, bytes: &[u8]) -> Result<List<Entry>, LogFault>
     // What is read has this text. Each fault is the first one.
     ensures answers { answers.Answers MAX_NESTING bytes.now result }
@@ -92,12 +61,19 @@ pub fn read_log(alloc: Global, bytes: &[u8]) -> Result<List<Entry>, LogFault>
     ensures deep { (offset : ℕ) → IsFirstDeep MAX_NESTING bytes.now offset → length bytes.now ≤ max_size
         → answers.IsRefusedFor (LogFault.Deep offset) result }
 {
-    if bytes.len() as u64 > FILE_SIZE {
-        return Err(LogFault::Limit);
+    read_all(alloc, bytes)
+}
+
+// The same, by what each answer tells alone.
+#[tactic(auto, using(crate::proofs::Steps::shorter))]
+fn read_all(alloc: Global, bytes: &[u8]) -> Result<List<Entry>, LogFault>
+    ensures answers { answers.Answers MAX_NESTING bytes.now result }
+    ensures limit { IsErrOf result LogFault.Limit ↔ max_size < length bytes.now }
+{
+    let mut log = LogEntries::new(bytes)?;
+    let mut found = List::new(alloc);
+    'entries: while let Some(entry) = log.next(alloc)? {
+        found.push(entry.into_inner())?;
     }
-    let mut text = Cursor::new(bytes);
-    match log(alloc, &mut text) {
-        Ok(entries) => Ok(entries),
-        Err(stop) => Err(fault_of(stop, bytes.len(), text.text().len())),
-    }
+    Ok(found)
 }

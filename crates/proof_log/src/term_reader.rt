@@ -8,7 +8,7 @@ ghost use Rattle.proof_log.specs.code.Outcomes.{Reads};
 
 use crate::cursor::Cursor;
 use crate::name::{TERM_NAMES, TermName};
-use crate::room::list_for;
+use crate::room::{add, list_for};
 use crate::stop::Stop;
 use crate::words::{deep_head, head, large, small};
 use fof_terms::Term;
@@ -58,6 +58,7 @@ fn application(alloc: Global, text: &mut Cursor<'_>, room: usize) -> Result<Boxe
 }
 
 /// How many terms there are, and the terms.
+#[inline(never)]
 #[cycle(term)]
 #[tactic(auto, unfolding(crate::specs::code::ReadWords::listed))]
 pub fn terms(alloc: Global, text: &mut Cursor<'_>, room: usize) -> Result<List<Term>, Stop>
@@ -67,7 +68,7 @@ pub fn terms(alloc: Global, text: &mut Cursor<'_>, room: usize) -> Result<List<T
     let mut found = list_for(alloc, count)?;
     for _ in 0..count {
         let next = term(alloc, text, room)?;
-        found.push(next.into_inner())?;
+        add(&mut found, next)?;
     }
     Ok(found)
 }

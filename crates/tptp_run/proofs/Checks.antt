@@ -12,6 +12,7 @@ use Rattle.fof_terms.proofs.Scoped.{raised}
 use Rattle.fof_terms.specs.Sorts.{Sorted}
 use Rattle.fof_terms.specs.declared.form.Form.{Form}
 use Rattle.kernel.specs.Statements.{Statements}
+use Rattle.kernel.specs.Entries.{Refutes}
 use Rattle.kernel.specs.declared.entry.Entry.{Entry}
 use Rattle.include_resolve.specs.declared.fault.IncludeFault.{IncludeFault}
 use Rattle.include_resolve.specs.declared.problem.Problem.{Problem}
@@ -23,12 +24,14 @@ use Rattle.sort_check.specs.declared.line.TextKind.TheVariants as kind
 use Rattle.sort_check.specs.Given.{given_entries}
 use Rattle.sort_check.specs.Sorting.{AreGivenSorted, IsSentence}
 use Rattle.sort_check.specs.Texts.{denoted}
-use Rattle.proof_log.specs.Answers as reader
-use Rattle.proof_log.specs.Checks.{IsCheckFault}
-use Rattle.proof_log.specs.declared.checking.CheckFault.TheVariants.{Illegal}
-use Rattle.proof_log.specs.declared.reader.LogFault.{LogFault}
+use Rattle.proof_log.specs.Checks.{IsFirstIllegal, IsNotRefuted}
+use Rattle.proof_log.specs.LogChecks.{IsLogWith}
+use Rattle.proof_log.specs.Logs.{IsFirstFault, IsFirstDeep}
+use Rattle.proof_log.specs.declared.checking.CheckFault.TheVariants.{Illegal, NotRefuted}
+use Rattle.proof_log.specs.declared.reader.LogFault.TheVariants.{Text, Deep}
+use Rattle.proof_log.proofs.Steps.{log_long}
 use Rattle.proof_log.specs.declared.reader.TheConstants.{MAX_NESTING}
-use Rattle.tptp_run.specs.CheckedLog.{given_theory, IsTheoryOf, IsGiven, SaysLogFault, SaysEntries, SaysLog, EndsCheck}
+use Rattle.tptp_run.specs.CheckedLog.{given_theory, IsTheoryOf, IsGiven, log_fault, illegal_entry, not_refuted, refuted, SaysLog, EndsCheck}
 use Rattle.tptp_run.specs.Denoted.{first_vocabulary, SaysIncludeFault, SaysSortFault, IsProblemRefusal}
 use Rattle.tptp_run.specs.Ending.{Ending, AfterFile}
 use Rattle.tptp_run.specs.code.Ending.{IsReadRefusal}
@@ -79,20 +82,29 @@ module _ (told : Option Files) (root : Option (List ℕ)) (file : List ℕ) wher
   pub sort_refused : (ending : Ending) (whole : Problem) → Resolves told root file (Ok whole) → ((fault : SortFault) × (denoted whole.items first_vocabulary kind.Problem ≡ Err fault) × SaysSortFault whole.files fault ending) → IsProblemRefusal told root file ending
   sort_refused ending whole resolves refused = inr (whole, resolves, refused)
 
--- ---- entries
+-- ---- the text of a log
 
--- the number of an entry is less than how many there are
-pub number_fits : (t : Statements) (entries : List Entry) (number count : ℕ) → count ≡ length entries → IsCheckFault t entries (Illegal number) → number + 1 ≤ count
-number_fits t entries number count is fault = let less = slice_get_within entries number fault.entry fault.there in omega (arith, less, is)
+module _ (t : Statements) (text : List ℕ) where
+  -- the number of an entry is less than how many bytes there are
+  pub number_fits : (number : ℕ) → IsLogWith MAX_NESTING text (λ entries. IsFirstIllegal t entries number) → length text ≤ FILE_SIZE → number + 1 ≤ FILE_SIZE
+  number_fits number (entries, is, first) small =
+      let less = slice_get_within entries number first.entry first.there in omega (arith, less, log_long MAX_NESTING text entries is, small)
 
--- ---- the text
+  module _ (ending : Ending) where
+    pub refuted_said : (count : ℕ) → IsLogWith MAX_NESTING text (λ entries. Refutes t entries × (count ≡ length entries)) → ending ≡ refuted count → SaysLog t text ending
+    refuted_said count (entries, is, refutes, counted) says = inr (entries, is, inl (refutes, says ∙ ap refuted counted))
 
-module _ (t : Statements) (text : List ℕ) (ending : Ending) where
-  pub fault_said : (fault : LogFault) → reader.Answers MAX_NESTING text (Err fault) → SaysLogFault fault ending → SaysLog t text ending
-  fault_said fault answers says = inl (fault, answers, says)
+    pub fault_said : (offset : ℕ) → IsFirstFault MAX_NESTING text offset → ending ≡ log_fault offset → SaysLog t text ending
+    fault_said offset first says = inl (Text offset, first, says)
 
-  pub entries_said : (entries : List Entry) → reader.Answers MAX_NESTING text (Ok entries) → SaysEntries t entries ending → SaysLog t text ending
-  entries_said entries answers says = inr (entries, answers, says)
+    pub deep_said : (offset : ℕ) → IsFirstDeep MAX_NESTING text offset → ending ≡ log_fault offset → SaysLog t text ending
+    deep_said offset first says = inl (Deep offset, first, says)
+
+    pub illegal_said : (number : ℕ) → IsLogWith MAX_NESTING text (λ entries. IsFirstIllegal t entries number) → ending ≡ illegal_entry (number + 1) → SaysLog t text ending
+    illegal_said number (entries, is, first) says = inr (entries, is, inr (Illegal number, first, says))
+
+    pub unrefuted_said : IsLogWith MAX_NESTING text (IsNotRefuted t) → ending ≡ not_refuted → SaysLog t text ending
+    unrefuted_said (entries, is, unrefuted) says = inr (entries, is, inr (NotRefuted, unrefuted, says))
 
 -- ---- how the command ends
 

@@ -4,7 +4,7 @@ ghost use Rattle.std.specs.Option.{option_copied};
 ghost use Rattle.tptp_base.specs.Count.{Rose};
 ghost use Rattle.tptp_run.specs.code.Answer.{ending_of};
 ghost use Rattle.tptp_run.specs.CheckedLog as spec;
-ghost use Rattle.tptp_run.specs.CheckedLog.{EndsCheck, SaysLog, SaysEntries};
+ghost use Rattle.tptp_run.specs.CheckedLog.{EndsCheck, SaysLog};
 ghost use Rattle.tptp_run.specs.Ending.{AfterFile};
 ghost use Rattle.tptp_run.specs.OtherFaults.{SaysProblemFault};
 ghost use Rattle.tptp_run.specs.Outcome.{IsAnswer};
@@ -14,8 +14,8 @@ use crate::given::{Given, read_given};
 use crate::refusals::read_text;
 use crate::run::TOTAL_SIZE;
 use crate::stop::{Answer, Halt, Stop};
-use kernel::{Entry, Theory};
-use proof_log::{CheckFault, LogFault, check_entries, read_log};
+use kernel::Theory;
+use proof_log::{LogCheckFault, check_log};
 use std::alloc::{AllocError, Global};
 use tptp_base::{FILE_SIZE, Store};
 
@@ -38,12 +38,12 @@ pub fn check<S: Store>(
     ensures cause { IfStopped result (λ stop. HasCause stop (Rose (S.faults store.old) (S.faults store.new)) ⊥) }
 {
     let mut given = read_given(alloc, store, root, problem)?;
-    check_log(alloc, store, &mut given, log)
+    check_file(alloc, store, &mut given, log)
 }
 
 // What is said of the file of a log.
 #[tactic(auto, using(crate::proofs::Checks::log_unread, crate::proofs::Checks::log_said, crate::proofs::Absences::read_said))]
-fn check_log<S: Store>(
+fn check_file<S: Store>(
     alloc: Global,
     store: &mut S,
     given: &mut Given,
@@ -62,35 +62,21 @@ fn check_log<S: Store>(
 }
 
 // What is said of the text of a log.
-#[tactic(auto, using(crate::proofs::Checks::fault_said, crate::proofs::Checks::entries_said))]
+#[tactic(auto, using(crate::proofs::Checks::refuted_said, crate::proofs::Checks::fault_said, crate::proofs::Checks::deep_said, crate::proofs::Checks::illegal_said, crate::proofs::Checks::unrefuted_said, crate::proofs::Checks::number_fits))]
 fn check_text(alloc: Global, theory: &mut Theory, text: &[u8]) -> Result<Answer, Stop>
     requires { length text.now ≤ FILE_SIZE }
     ensures said { IfOk result (λ answer. SaysLog theory.old text.now (ending_of answer)) }
     ensures status { IfOk result (λ answer. (answer.status ≡ 0) ⊎ (answer.status ≡ 1)) }
     ensures cause { IfErr result (λ stop. HasCause stop ⊥ ⊥) }
 {
-    match read_log(alloc, text) {
-        Ok(entries) => say_entries(alloc, theory, entries.as_slice()),
-        Err(LogFault::Text(offset)) => Ok(say_log_fault(alloc, offset)?),
-        Err(LogFault::Deep(offset)) => Ok(say_log_fault(alloc, offset)?),
-        Err(LogFault::Limit) => unreachable!(),
-        Err(LogFault::Memory) => Err(Stop::Memory),
-    }
-}
-
-// What is said of the entries of a log.
-#[tactic(auto, using(crate::proofs::Checks::number_fits))]
-fn say_entries(alloc: Global, theory: &mut Theory, entries: &[Entry]) -> Result<Answer, Stop>
-    ensures said { IfOk result (λ answer. SaysEntries theory.old entries.now (ending_of answer)) }
-    ensures status { IfOk result (λ answer. (answer.status ≡ 0) ⊎ (answer.status ≡ 1)) }
-    ensures cause { IfErr result (λ stop. HasCause stop ⊥ ⊥) }
-{
-    let count = entries.len();
-    match check_entries(theory, entries) {
-        Ok(()) => Ok(say_refuted(alloc, count)?),
-        Err(CheckFault::Illegal(number)) => Ok(say_illegal(alloc, number + 1)?),
-        Err(CheckFault::NotRefuted) => Ok(say_not_refuted(alloc)?),
-        Err(CheckFault::Memory) => Err(Stop::Memory),
+    match check_log(alloc, theory, text) {
+        Ok(count) => Ok(say_refuted(alloc, count)?),
+        Err(LogCheckFault::Text(offset)) => Ok(say_log_fault(alloc, offset)?),
+        Err(LogCheckFault::Deep(offset)) => Ok(say_log_fault(alloc, offset)?),
+        Err(LogCheckFault::Limit) => unreachable!(),
+        Err(LogCheckFault::Illegal(number)) => Ok(say_illegal(alloc, number + 1)?),
+        Err(LogCheckFault::NotRefuted) => Ok(say_not_refuted(alloc)?),
+        Err(LogCheckFault::Memory) => Err(Stop::Memory),
     }
 }
 

@@ -1,7 +1,6 @@
 -- What private contracts say, beside the definitions of specs/Answers.
-use Rattle.std.specs.Prelude.{◌≡◌, ℕ, List, Result, Ok, Err}
+use Rattle.std.specs.Prelude.{◌≡◌, ℕ, List, Err}
 use Rattle.first_fault.specs.code.Reading.{Unexpected, TooDeep}
-use Rattle.kernel.specs.declared.entry.Entry.{Entry}
 use Rattle.proof_log.specs.declared.stop.Stop.{Stop}
 use Rattle.proof_log.specs.declared.reader.LogFault.{LogFault}
 use Rattle.proof_log.specs.code.ReadEntries.{LogOutcome}
@@ -13,10 +12,6 @@ abbrev pub FailsEntries : LogOutcome → Stop → List ℕ → Type 0
 FailsEntries outcome stop.Memory new = Unit {0}
 FailsEntries outcome stop.Unexpected new = outcome ≡ Err (Unexpected, new)
 FailsEntries outcome stop.TooDeep new = outcome ≡ Err (TooDeep, new)
-
-abbrev pub ReadsEntries : LogOutcome → Result (List Entry) Stop → List ℕ → Type 0
-ReadsEntries outcome (Ok es) new = outcome ≡ Ok es
-ReadsEntries outcome (Err e) new = FailsEntries outcome e new
 
 abbrev pub fault_of : Stop → ℕ → LogFault
 fault_of stop.Memory offset = fault.Memory

@@ -1,4 +1,4 @@
-use Rattle.proof_log.proofs.Ranges.{if_written, always, list_in_range, more_in_range, form_range-Atom, form_range-Eq, form_range-Not, form_range-And, form_range-Or, form_range-Imp, form_range-Iff, form_range-All, form_range-Ex}
+use Rattle.proof_log.proofs.Ranges.{if_written, list_in_range, more_in_range, form_range-Atom, form_range-Eq, form_range-Not, form_range-And, form_range-Or, form_range-Imp, form_range-Iff, form_range-All, form_range-Ex}
 use Rattle.proof_log.proofs.Pieces.{two_pieces, three_pieces, list_written, more_written}
 use Rattle.proof_log.specs.LogText.{form_text, form_words}
 use Rattle.proof_log.proofs.LogEquations.{form_text-Atom, form_text-Eq, form_text-Not, form_text-And, form_text-Or, form_text-Imp, form_text-Iff, form_text-All, form_text-Ex}
