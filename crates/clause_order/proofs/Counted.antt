@@ -5,8 +5,13 @@ use Rattle.std.proofs.lemmas.Bool.Decides.{nat_tests}
 use Rattle.std.proofs.lemmas.List.Sums.{sum_by-cons}
 use Rattle.fof_terms.specs.declared.term.Term.{Term, Var, App}
 use Rattle.clause_order.specs.Order.{occurrences}
+use Rattle.clause_order.specs.Weights.{stopped}
 use Rattle.clause_order.specs.code.Next.{IsNext}
 use Rattle.clause_order.proofs.OccurrencesFacts.{occurrences-Var, occurrences-App}
+
+-- each variable below this number counts at least as much on the first side
+abbrev pub FitsBelow : ℕ → (ℕ → ℕ) → (ℕ → ℕ) → Type 0
+FitsBelow from more fewer = (x : ℕ) → x < from → stopped (fewer x) ≤ stopped (more x)
 
 -- counts that are the same
 pub next_same : (c d : ℕ → ℕ) (from : ℕ) (o : Option ℕ) → ((x : ℕ) → d x ≡ c x) → IsNext c from o → IsNext d from o

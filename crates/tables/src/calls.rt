@@ -1,7 +1,7 @@
 // The calls of tables.
 use crate::line::Line;
 use crate::reading::signature_of;
-use crate::{forms, graphs, kits, steps, texts, unifiers};
+use crate::{forms, graphs, kits, searches, steps, texts, unifiers};
 use anyhow::{Result, bail};
 use fof_terms::Signature;
 use std::alloc::Global;
@@ -46,6 +46,8 @@ fn found(alloc: Global, signature: &mut Signature, line: &Line<'_>) -> Result<St
         "conjunction" => forms::conjunction(alloc, line),
         "unify" | "agree" | "solve" | "circle" => unifiers::found(alloc, signature, line),
         "step" => steps::found(alloc, signature, line),
+        "order" | "sides" | "clash" | "weighs" | "eligible" | "partners" | "blind"
+        | "subsumes" => searches::found(alloc, signature, line),
         _ => bail!("no such call"),
     }
 }

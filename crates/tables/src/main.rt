@@ -11,6 +11,8 @@ mod kits;
 mod line;
 mod problems;
 mod reading;
+mod searches;
+mod sorts;
 mod steps;
 mod texts;
 mod tokens;

@@ -1,12 +1,7 @@
 -- Nothing public rests on this: variables are counted one after the other, from the least on.
 use Rattle.std.specs.Prelude.{ℕ, ◌<◌, ◌≤◌, ◌≡◌, Option, None, Some}
-use Rattle.clause_order.specs.Weights.{stopped}
 
 -- no variable from this number on counts, or none before the next
 abbrev pub IsNext : (ℕ → ℕ) → ℕ → Option ℕ → Type 0
 IsNext counts from None = (x : ℕ) → from ≤ x → counts x ≡ 0
 IsNext counts from (Some y) = (from ≤ y) × ((x : ℕ) → from ≤ x → x < y → counts x ≡ 0)
-
--- each variable below this number counts at least as much on the first side
-abbrev pub FitsBelow : ℕ → (ℕ → ℕ) → (ℕ → ℕ) → Type 0
-FitsBelow from more fewer = (x : ℕ) → x < from → stopped (fewer x) ≤ stopped (more x)

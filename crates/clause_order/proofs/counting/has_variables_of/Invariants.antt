@@ -1,6 +1,6 @@
 use Rattle.std.proofs.Common.{◌-◌, ◌^◌}
 use Rattle.clause_order.specs.Order.{occurrences}
-use Rattle.clause_order.specs.code.Next.{FitsBelow}
+use Rattle.clause_order.proofs.Counted.{FitsBelow}
 use Rattle.clause_order.proofs.counting.has_variables_of.Given as goal
 
 abbrev pub invariant-loop-variable : goal.invariant-loop-variable

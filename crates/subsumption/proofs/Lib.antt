@@ -1,0 +1,9 @@
+pub mod BoundFacts
+pub mod Undoing
+pub mod MatchedFacts
+pub mod BecomingFacts
+pub mod SubsumesFacts
+pub mod MaskFacts
+pub mod PlacedFacts
+pub mod ScreenFacts
+pub mod DecidedFacts

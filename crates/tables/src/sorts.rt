@@ -1,0 +1,40 @@
+// Whether clauses are well-sorted.
+ghost use Rattle.std.specs.Prelude.{◌≡◌, ◌↔◌, IsTrue, reverse, true};
+ghost use Rattle.clause_form.specs.Covers.{AreSorted, is_sorted_atom, scope_of};
+ghost use Rattle.fof_terms.specs.Scope.{scope_sorts};
+
+use clause_form::{AtomOf, Clause};
+use fof_terms::{Kind, Scope, Signature, have_sorts, sort_of};
+
+/// Whether the literals of a clause are well-sorted over its sorts.
+pub fn are_sorted_lits(signature: &Signature, clause: &Clause) -> bool
+    ensures { IsTrue result ↔ AreSorted signature.now (scope_of clause.now) clause.now.lits }
+{
+    for lit in clause.lits.as_slice() {
+        if !is_sorted(signature, &lit.atom, &Scope::Outside(clause.sorts.as_slice())) {
+            return false;
+        }
+    }
+    true
+}
+
+fn is_sorted(signature: &Signature, atom: &AtomOf, scope: &Scope<'_>) -> bool
+    ensures { result ≡ is_sorted_atom signature.now (scope_sorts scope.now) atom.now }
+{
+    match atom {
+        AtomOf::Pred(number, args) => match signature.symbol(*number) {
+            Some(symbol) => match symbol.kind {
+                Kind::Predicate => {
+                    have_sorts(args.as_slice(), symbol.args.as_slice(), signature, scope)
+                }
+                Kind::Function => false,
+            },
+            None => false,
+        },
+        AtomOf::Eq(left, right) => {
+            let sort = sort_of(left, signature, scope);
+            sort.is_some() && sort == sort_of(right, signature, scope)
+        }
+        AtomOf::True | AtomOf::False => true,
+    }
+}
