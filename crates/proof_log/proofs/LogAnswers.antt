@@ -8,9 +8,9 @@ use Rattle.proof_log.specs.declared.stop.Stop.TheVariants as stop
 use Rattle.proof_log.specs.declared.reader.LogFault.TheVariants as fault
 use Rattle.proof_log.specs.Entries.{AreLogged, log_text, nested_log}
 use Rattle.proof_log.specs.Logs.{IsFirstFault, IsFirstDeep}
-use Rattle.proof_log.specs.code.Answers.{FailsEntries, fault_of}
+use Rattle.proof_log.specs.code.Answers.{fault_of}
 use Rattle.proof_log.specs.Answers.{IsLogOf, Tells}
-use Rattle.proof_log.specs.code.ReadEntries.{LogOutcome, log}
+use Rattle.proof_log.proofs.WholeReader.{FailsEntries, LogOutcome, log}
 use Rattle.proof_log.proofs.LogLaws.{log_plain, never_over}
 use Rattle.proof_log.proofs.LogWhole.{IsWholeLog, ExactWhole, exact_log, FoundLog, found_log}
 use Rattle.proof_log.proofs.Offsets.{first_fault, first_deep}

@@ -13,7 +13,8 @@ use Rattle.proof_log.specs.Words.{small, at_level, nested, word}
 use Rattle.proof_log.specs.LogText.{form_words, form_text, proof_words, proof_text}
 use Rattle.proof_log.specs.Entries.{entry_text, log_text, IsLogged, AreLogged, nested_entry, nested_log}
 use Rattle.proof_log.specs.declared.write.TheConstants.{HEADER}
-use Rattle.proof_log.specs.code.ReadEntries.{LogOutcome, entry, entries}
+use Rattle.proof_log.specs.code.ReadEntries.{entry}
+use Rattle.proof_log.proofs.WholeReader.{LogOutcome, entries}
 use Rattle.proof_log.proofs.Spelling.{plain-level, plain-nested}
 use Rattle.proof_log.proofs.EntryReader.{good_entry}
 use Rattle.proof_log.proofs.LogReader.{lines, starts_line, FoundAll, found_entries}

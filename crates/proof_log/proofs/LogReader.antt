@@ -10,7 +10,8 @@ use Rattle.first_fault.proofs.Separated.{length-plain}
 use Rattle.kernel.specs.declared.entry.Entry.{Entry}
 use Rattle.kernel.specs.declared.entry.Entry.TheVariants.{Declare, Lemma, Name, Choice}
 use Rattle.proof_log.specs.Entries.{AreLogged, nested_entry}
-use Rattle.proof_log.specs.code.ReadEntries.{LogOutcome, entry, with_entry, followed, entries_from, entries}
+use Rattle.proof_log.specs.code.ReadEntries.{entry}
+use Rattle.proof_log.proofs.WholeReader.{LogOutcome, with_entry, followed, entries_from, entries}
 use Rattle.proof_log.proofs.EntryReader.{Line, good_entry}
 
 -- the lines of entries

@@ -12,9 +12,9 @@ use Rattle.proof_log.specs.declared.name.LogVersion.TheVariants as version
 use Rattle.proof_log.specs.declared.write.TheConstants.{HEADER}
 use Rattle.proof_log.specs.Words.{at_level}
 use Rattle.proof_log.specs.Entries.{AreLogged, nested_log}
-use Rattle.proof_log.specs.code.Names.{version_line, versions}
+use Rattle.proof_log.specs.code.Names.{version_line}
 use Rattle.proof_log.specs.code.ReadWords.{find, name}
-use Rattle.proof_log.specs.code.ReadEntries.{LogOutcome, entries, behind_version, log}
+use Rattle.proof_log.proofs.WholeReader.{versions, LogOutcome, entries, behind_version, log}
 use Rattle.proof_log.proofs.Spelling.{plain-level, all_within, within_level}
 use Rattle.proof_log.proofs.NameReader.{Named, read_name, good_name}
 use Rattle.proof_log.proofs.LogReader.{lines, ExactLog, exact_entries, FoundAll, found_entries, plain_on}

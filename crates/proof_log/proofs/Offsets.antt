@@ -8,7 +8,7 @@ use Rattle.first_fault.proofs.Separated.{length-plain}
 use Rattle.kernel.specs.declared.entry.Entry.{Entry}
 use Rattle.proof_log.specs.Entries.{AreLogged, log_text, nested_log}
 use Rattle.proof_log.specs.Logs.{IsFirstFault, IsFirstDeep}
-use Rattle.proof_log.specs.code.ReadEntries.{LogOutcome, log}
+use Rattle.proof_log.proofs.WholeReader.{LogOutcome, log}
 use Rattle.proof_log.proofs.LogLaws.{log_plain}
 use Rattle.proof_log.proofs.LogWhole.{IsWholeFault, FoundLog, found_log}
 

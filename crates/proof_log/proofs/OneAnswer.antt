@@ -9,7 +9,7 @@ use Rattle.proof_log.specs.declared.reader.LogFault.TheVariants as fault
 use Rattle.proof_log.specs.Entries.{AreLogged, log_text, nested_log}
 use Rattle.proof_log.specs.Logs.{IsFirstFault, IsFirstDeep}
 use Rattle.proof_log.specs.Answers.{Answers, IsReadAs, IsRefusedFor}
-use Rattle.proof_log.specs.code.ReadEntries.{LogOutcome}
+use Rattle.proof_log.proofs.WholeReader.{LogOutcome}
 use Rattle.proof_log.proofs.LogLaws.{one_log}
 use Rattle.proof_log.proofs.LogAnswers.{no_first_fault, no_first_deep}
 use Rattle.proof_log.proofs.OnlyFault.{fault_only, deep_only}

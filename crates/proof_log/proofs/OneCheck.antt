@@ -8,7 +8,7 @@ use Rattle.kernel.specs.Entries.{Legal, After, Admits, Refutes}
 use Rattle.kernel.specs.declared.entry.Entry.{Entry}
 use Rattle.proof_log.specs.Logs.{IsFirstFault, IsFirstDeep}
 use Rattle.proof_log.specs.Answers.{IsLogOf, Tells}
-use Rattle.proof_log.specs.code.Rejected.{rejected}
+use Rattle.proof_log.specs.Rejected.{rejected}
 use Rattle.proof_log.specs.Reading.{Reading, HasRead}
 use Rattle.proof_log.specs.Checks.{IsFirstIllegal, IsNotRefuted}
 use Rattle.proof_log.specs.LogChecks.{IsLogWith, IsCheckOf, LeavesOf, HasTaken, IsCheckedAs, IsRejectedFor}

@@ -7,7 +7,7 @@ use Rattle.first_fault.proofs.Separated.{length-plain}
 use Rattle.kernel.specs.declared.entry.Entry.{Entry}
 use Rattle.proof_log.specs.Entries.{AreLogged, log_text, nested_log}
 use Rattle.proof_log.specs.Logs.{BeginsLog, IsFirstFault, IsFirstDeep}
-use Rattle.proof_log.specs.code.ReadEntries.{LogOutcome, log}
+use Rattle.proof_log.proofs.WholeReader.{LogOutcome, log}
 use Rattle.proof_log.proofs.LogLaws.{log_plain, within_second}
 use Rattle.proof_log.proofs.LogWhole.{IsWholeFault, IsWholeLog, ExactWhole, exact_log, FoundLog, found_log}
 use Rattle.proof_log.proofs.Offsets.{agree, common, same_front, over_is, over_length, offset_is, first_fault}

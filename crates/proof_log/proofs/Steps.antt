@@ -15,11 +15,12 @@ use Rattle.proof_log.specs.Words.{at_level}
 use Rattle.proof_log.specs.Entries.{IsLogged, AreLogged, entry_text, log_text, nested_entry, nested_log}
 use Rattle.proof_log.specs.Answers.{IsLogOf, Tells}
 use Rattle.proof_log.specs.Reading.{Reading, HasRead}
-use Rattle.proof_log.specs.code.Names.{version_line, versions}
+use Rattle.proof_log.specs.code.Names.{version_line}
 use Rattle.proof_log.specs.code.Outcomes.{Fails}
-use Rattle.proof_log.specs.code.Answers.{FailsEntries, fault_of}
+use Rattle.proof_log.specs.code.Answers.{fault_of}
 use Rattle.proof_log.specs.code.ReadWords.{name}
-use Rattle.proof_log.specs.code.ReadEntries.{LogOutcome, entry, entries, with_entry, followed, behind_version, log}
+use Rattle.proof_log.specs.code.ReadEntries.{entry}
+use Rattle.proof_log.proofs.WholeReader.{FailsEntries, versions, LogOutcome, entries, with_entry, followed, behind_version, log}
 use Rattle.proof_log.proofs.Spelling.{plain-level, all_within}
 use Rattle.proof_log.proofs.NameReader.{Named}
 use Rattle.proof_log.proofs.EntryReader.{Line, good_entry}

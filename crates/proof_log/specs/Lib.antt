@@ -5,5 +5,6 @@ pub mod LogChecks
 pub mod LogText
 pub mod Logs
 pub mod Reading
+pub mod Rejected
 pub mod Words
 pub mod code

@@ -8,4 +8,3 @@ pub mod Outcomes
 pub mod ReadEntries
 pub mod ReadTrees
 pub mod ReadWords
-pub mod Rejected

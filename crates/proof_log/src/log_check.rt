@@ -7,7 +7,7 @@ ghost use Rattle.proof_log.specs.Logs.{IsFirstFault, IsFirstDeep};
 ghost use Rattle.proof_log.specs.Reading.{HasRead};
 ghost use Rattle.proof_log.specs.LogChecks as checks;
 ghost use Rattle.proof_log.specs.code.LogRest.{EndsAs};
-ghost use Rattle.proof_log.specs.code.Rejected.{rejected};
+ghost use Rattle.proof_log.specs.Rejected.{rejected};
 
 use crate::log_entries::LogEntries;
 use crate::reader::{LogFault, MAX_NESTING};

@@ -51,6 +51,7 @@ fn reach<N: Spelled>(all: &[N], text: &[u8]) -> usize
 }
 
 /// One of the names.
+#[inline(never)]
 #[tactic(auto, unfolding(crate::specs::code::ReadWords::name))]
 pub fn name<N: Spelled + Copy>(text: &mut Cursor<'_>, all: &[N]) -> Result<N, Stop>
     ensures { Reads (spec.name N.spell all.now text.old) result text.new }
@@ -69,6 +70,7 @@ pub fn name<N: Spelled + Copy>(text: &mut Cursor<'_>, all: &[N]) -> Result<N, St
 }
 
 /// One of the names, with a blank before it.
+#[inline(never)]
 #[tactic(auto, unfolding(crate::specs::code::ReadWords::head))]
 pub fn head<N: Spelled + Copy>(text: &mut Cursor<'_>, all: &[N]) -> Result<N, Stop>
     ensures { Reads (spec.head N.spell all.now text.old) result text.new }
@@ -78,6 +80,7 @@ pub fn head<N: Spelled + Copy>(text: &mut Cursor<'_>, all: &[N]) -> Result<N, St
 }
 
 /// Why none of the names, with a blank before it, is read where it would be nested too deep.
+#[inline(never)]
 #[tactic(auto, unfolding(crate::specs::code::ReadWords::deep_head, crate::specs::code::ReadWords::deep_name))]
 pub fn deep_head<N: Spelled>(text: &mut Cursor<'_>, all: &[N]) -> Stop
     ensures { Fails (spec.deep_head N.spell all.now text.old) result text.new }
@@ -160,6 +163,7 @@ fn number(text: &mut Cursor<'_>, most: u64) -> Result<u64, Stop>
 }
 
 /// A number of 64 bits.
+#[inline(never)]
 pub fn large(text: &mut Cursor<'_>) -> Result<u64, Stop>
     ensures { Reads (spec.number 18446744073709551615 text.old) result text.new }
 {
@@ -167,6 +171,7 @@ pub fn large(text: &mut Cursor<'_>) -> Result<u64, Stop>
 }
 
 /// A number of 32 bits.
+#[inline(never)]
 pub fn small(text: &mut Cursor<'_>) -> Result<u32, Stop>
     ensures { Reads (spec.number 4294967295 text.old) result text.new }
 {

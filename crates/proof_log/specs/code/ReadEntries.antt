@@ -1,7 +1,6 @@
--- What the functions that read entries and whole logs compute.
-use Rattle.std.specs.Prelude.{ℕ, zero, suc, ◌==◌, Bool, true, false, if◌then◌else◌, List, [], ◌∷◌, length, Result, Ok}
-use Rattle.std.specs.Prelude.{Err}
-use Rattle.first_fault.specs.code.Reading.{Cause, Outcome, Reader, refuse, mapped, opened, closed}
+-- What the functions that read entries compute.
+use Rattle.std.specs.Prelude.{ℕ, ◌==◌, Bool, true, false, if◌then◌else◌, List, [], ◌∷◌, Ok}
+use Rattle.first_fault.specs.code.Reading.{Reader, refuse, mapped, opened, closed}
 use Rattle.fof_terms.specs.declared.signature.Kind.TheVariants.{Function, Predicate}
 use Rattle.kernel.specs.declared.entry.Decl.{Decl}
 use Rattle.kernel.specs.declared.entry.Decl.TheVariants.{Sort, Symbol as SymbolOf}
@@ -9,10 +8,9 @@ use Rattle.kernel.specs.declared.entry.Entry.{Entry}
 use Rattle.kernel.specs.declared.entry.Entry.TheVariants.{Declare, Lemma, Name, Choice}
 use Rattle.proof_log.specs.declared.name.DeclName.{DeclName}
 use Rattle.proof_log.specs.declared.name.EntryName.{EntryName}
-use Rattle.proof_log.specs.declared.name.LogVersion.{LogVersion}
 use Rattle.tptp_base.specs.Quotable.{is_printable}
 use Rattle.proof_log.specs.Entries.{is_special}
-use Rattle.proof_log.specs.code.Names.{decl_name, entry_name, version_line, decl_names, entry_names, versions}
+use Rattle.proof_log.specs.code.Names.{decl_name, entry_name, decl_names, entry_names}
 use Rattle.proof_log.specs.code.ReadWords.{is_byte, number, listed, both, name, head}
 use Rattle.proof_log.specs.code.ReadTrees.{behind, form, proof}
 use Rattle.proof_log.specs.declared.name.DeclName.TheVariants as d
@@ -60,33 +58,3 @@ entry_by room e.Choice ts = mapped (λ v. Choice v.0 v.1) (both (number 42949672
 -- an entry with its line feed
 unfoldable pub entry : ℕ → Reader ℕ Entry
 entry room = closed (is_byte 10) (behind (name entry_name entry_names) (entry_by room))
-
--- ---- logs
-
--- the entries, or why there are none, with the text from there on
-abbrev pub LogOutcome : Type 0
-LogOutcome = Result (List Entry) (Cause × List ℕ)
-
-abbrev pub with_entry : Entry → LogOutcome → LogOutcome
-with_entry e (Ok es) = Ok (e ∷ es)
-with_entry e (Err f) = Err f
-
-abbrev pub followed : Outcome ℕ Entry → (List ℕ → LogOutcome) → LogOutcome
-followed (Ok r) again = with_entry r.0 (again r.1)
-followed (Err f) again = Err f
-
--- entries to the end of the text; the first number is as great as the text is long
-abbrev pub entries_from : ℕ → ℕ → List ℕ → LogOutcome
-entries_from n room [] = Ok []
-entries_from zero room (b ∷ ts) = Ok []
-entries_from (suc n) room (b ∷ ts) = followed (entry room (b ∷ ts)) (λ rest. entries_from n room rest)
-
-unfoldable pub entries : ℕ → List ℕ → LogOutcome
-entries room ts = entries_from (length ts) room ts
-
-abbrev pub behind_version : ℕ → Outcome ℕ LogVersion → LogOutcome
-behind_version room (Ok r) = entries room r.1
-behind_version room (Err f) = Err f
-
-unfoldable pub log : ℕ → List ℕ → LogOutcome
-log room ts = behind_version room (name version_line versions ts)

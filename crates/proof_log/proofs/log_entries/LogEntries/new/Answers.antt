@@ -1,9 +1,10 @@
 use Rattle.std.proofs.Common.{◌≡◌, ◌-◌, length, Ok, refl, sym, ◌∙◌, ap, subst}
 use Rattle.proof_log.specs.code.Answers.{fault_of}
-use Rattle.proof_log.specs.code.Names.{version_line, versions}
+use Rattle.proof_log.specs.code.Names.{version_line}
 use Rattle.proof_log.specs.code.Outcomes.{Fails}
 use Rattle.proof_log.specs.code.ReadWords.{name}
 use Rattle.proof_log.specs.Answers.{Tells}
+use Rattle.proof_log.proofs.WholeReader.{versions}
 use Rattle.proof_log.proofs.Steps.{first_read, no_first}
 use Rattle.proof_log.proofs.log_entries.LogEntries.new.Goals as goal
 

@@ -1,4 +1,4 @@
--- A fault of the text of a log, as its check tells it.
+-- A fault of the text of a log, as its check tells it (`LogCheckFault`).
 use Rattle.proof_log.specs.declared.reader.LogFault.{LogFault}
 use Rattle.proof_log.specs.declared.reader.LogFault.TheVariants as fault
 use Rattle.proof_log.specs.declared.log_check.LogCheckFault.{LogCheckFault}
