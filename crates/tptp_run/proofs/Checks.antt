@@ -92,7 +92,7 @@ module _ (t : Statements) (text : List ℕ) where
 
   module _ (ending : Ending) where
     pub refuted_said : (count : ℕ) → IsLogWith MAX_NESTING text (λ entries. Refutes t entries × (count ≡ length entries)) → ending ≡ refuted count → SaysLog t text ending
-    refuted_said count (entries, is, refutes, counted) says = inr (entries, is, inl (refutes, says ∙ ap refuted counted))
+    refuted_said count (entries, is, (refutes, counted)) says = inr (entries, is, inl (refutes, says ∙ ap refuted counted))
 
     pub fault_said : (offset : ℕ) → IsFirstFault MAX_NESTING text offset → ending ≡ log_fault offset → SaysLog t text ending
     fault_said offset first says = inl (Text offset, first, says)
