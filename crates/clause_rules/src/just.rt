@@ -11,12 +11,12 @@ use unify_terms::Subst;
 pub enum Just {
     /// The parent has the line's normal form.
     Norm {
-        parent: u32,
+        parent: usize,
     },
     /// The line covers what the path reaches in the parent's normal form. The substitution has the variables of the
     /// path's clause in place of the parent's.
     Cover {
-        parent: u32,
+        parent: usize,
         path: Path,
         subst: Subst,
     },
@@ -24,37 +24,37 @@ pub enum Just {
     Tautology,
     /// Two literals become complementary.
     Resolution {
-        left: u32,
-        right: u32,
-        left_lit: u32,
-        right_lit: u32,
+        left: usize,
+        right: usize,
+        left_lit: usize,
+        right_lit: usize,
         subst: Subst,
     },
     /// The left side of an equation of `from`, read from right to left where flipped, becomes the term at a place of a
     /// literal of `into`, and the right side takes its place.
     Paramodulation {
-        into: u32,
-        from: u32,
-        into_lit: u32,
+        into: usize,
+        from: usize,
+        into_lit: usize,
         at: Position,
-        from_lit: u32,
+        from_lit: usize,
         flipped: bool,
         subst: Subst,
     },
     /// The left sides of two equations become one, and the right sides are denied to be equal in place of the first.
     EqFactor {
-        parent: u32,
-        first: u32,
+        parent: usize,
+        first: usize,
         first_flipped: bool,
-        second: u32,
+        second: usize,
         second_flipped: bool,
         subst: Subst,
     },
     /// The left side of the one equation `by` is the target under `by_subst`, whose variables are those of `into`,
     /// which stand for themselves, and then those of `by`. The right side takes the place of each occurrence.
     Rewrite {
-        into: u32,
-        by: u32,
+        into: usize,
+        by: usize,
         target: Term,
         flipped: bool,
         by_subst: Subst,

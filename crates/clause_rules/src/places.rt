@@ -4,7 +4,6 @@ ghost use Rattle.clause_rules.specs.Places.{args_of_atom, atom_with_args, lit_pu
 ghost use Rattle.clause_rules.specs.PlaceSearch.{numbered, places_within, places_of};
 ghost use Rattle.clause_rules.specs.code.PlaceSearch.{below, put_below};
 
-use crate::numbers::number;
 use crate::position::Position;
 use clause_form::{AtomOf, Lit};
 use fof_terms::Term;
@@ -33,14 +32,14 @@ pub fn places_of_lit(alloc: Global, lit: &Lit) -> Result<List<Position>, Memory>
 fn add_all(
     terms: &[Term],
     alloc: Global,
-    steps: &mut List<u32>,
+    steps: &mut List<usize>,
     places: &mut List<Position>,
 ) -> Result<(), Memory>
     ensures { OnOk result ((places.new ≡ places.old ++ numbered (map places_within terms.now) steps.old 0)
         × (steps.new ≡ steps.old)) }
 {
     for at in 0..terms.len() {
-        add_at(&terms[at], alloc, number(at)?, steps, places)?;
+        add_at(&terms[at], alloc, at, steps, places)?;
     }
     Ok(())
 }
@@ -50,8 +49,8 @@ fn add_all(
 fn add_at(
     term: &Term,
     alloc: Global,
-    at: u32,
-    steps: &mut List<u32>,
+    at: usize,
+    steps: &mut List<usize>,
     places: &mut List<Position>,
 ) -> Result<(), Memory>
     ensures { OnOk result ((places.new ≡ places.old ++ places_within term.now (steps.old ++ at ∷ []))
@@ -69,7 +68,7 @@ fn add_at(
 fn add_term(
     term: &Term,
     alloc: Global,
-    steps: &mut List<u32>,
+    steps: &mut List<usize>,
     places: &mut List<Position>,
 ) -> Result<(), Memory>
     ensures { OnOk result ((places.new ≡ places.old ++ places_within term.now steps.old) × (steps.new ≡ steps.old)) }
@@ -82,14 +81,14 @@ fn add_term(
 }
 
 /// The term at a place of the literal, if one stands there.
-pub fn term_in<'a>(lit: &'a Lit, place: &[u32]) -> Option<&'a Term>
+pub fn term_in<'a>(lit: &'a Lit, place: &[usize]) -> Option<&'a Term>
     ensures { option_copied result ≡ lit_term_at place.now lit.now }
 {
     if place.is_empty() {
         return None;
     }
     match &lit.atom {
-        AtomOf::Pred(_, args) => match args.get(place[0] as usize) {
+        AtomOf::Pred(_, args) => match args.get(place[0]) {
             Some(term) => term_below(term, place, 1),
             None => None,
         },
@@ -103,7 +102,7 @@ pub fn term_in<'a>(lit: &'a Lit, place: &[u32]) -> Option<&'a Term>
 }
 
 // The term at the steps of the place from that number on, below a term.
-fn term_below<'a>(term: &'a Term, place: &[u32], from: usize) -> Option<&'a Term>
+fn term_below<'a>(term: &'a Term, place: &[usize], from: usize) -> Option<&'a Term>
     ensures { option_copied result ≡ below (drop from place.now) term.now }
 {
     if from >= place.len() {
@@ -111,7 +110,7 @@ fn term_below<'a>(term: &'a Term, place: &[u32], from: usize) -> Option<&'a Term
     }
     match term {
         Term::Var(_) => None,
-        Term::App(_, args) => match args.get(place[from] as usize) {
+        Term::App(_, args) => match args.get(place[from]) {
             Some(next) => term_below(next, place, from + 1),
             None => None,
         },
@@ -119,7 +118,7 @@ fn term_below<'a>(term: &'a Term, place: &[u32], from: usize) -> Option<&'a Term
 }
 
 /// The literal with another term at the place.
-pub fn put_in(alloc: Global, lit: &Lit, place: &[u32], new: &Term) -> Result<Lit, Memory>
+pub fn put_in(alloc: Global, lit: &Lit, place: &[usize], new: &Term) -> Result<Lit, Memory>
     ensures { IfOk result (λ made. made ≡ lit_put_at place.now new.now lit.now) }
 {
     let atom = put_in_atom(alloc, &lit.atom, place, new)?;
@@ -130,7 +129,7 @@ pub fn put_in(alloc: Global, lit: &Lit, place: &[u32], new: &Term) -> Result<Lit
 }
 
 // The atom with another term at the place.
-fn put_in_atom(alloc: Global, atom: &AtomOf, place: &[u32], new: &Term) -> Result<AtomOf, Memory>
+fn put_in_atom(alloc: Global, atom: &AtomOf, place: &[usize], new: &Term) -> Result<AtomOf, Memory>
     ensures { IfOk result (λ made. made ≡ atom_with_args atom.now (put_at place.now new.now (args_of_atom atom.now))) }
 {
     match atom {
@@ -149,7 +148,7 @@ fn put_in_sides(
     alloc: Global,
     left: &Term,
     right: &Term,
-    place: &[u32],
+    place: &[usize],
     new: &Term,
 ) -> Result<AtomOf, Memory>
     ensures { IfOk result (λ made. made ≡ sides_of (put_at place.now new.now (left.now ∷ right.now ∷ []))) }
@@ -169,7 +168,7 @@ fn put_in_sides(
 fn put_in_term(
     term: &Term,
     alloc: Global,
-    place: &[u32],
+    place: &[usize],
     from: usize,
     new: &Term,
 ) -> Result<Term, Memory>
@@ -192,7 +191,7 @@ fn put_in_term(
 fn put_in_terms(
     terms: &[Term],
     alloc: Global,
-    place: &[u32],
+    place: &[usize],
     from: usize,
     new: &Term,
 ) -> Result<List<Term>, Memory>
@@ -200,7 +199,7 @@ fn put_in_terms(
 {
     let mut made = List::new(alloc);
     for at in 0..terms.len() {
-        if from < place.len() && at == place[from] as usize {
+        if from < place.len() && at == place[from] {
             made.push(put_in_term(&terms[at], alloc, place, from + 1, new)?)?;
         } else {
             made.push(terms[at].copy(alloc)?)?;

@@ -9,7 +9,7 @@ use tptp_base::Memory;
 /// arguments 0 and 1. Most places are a few steps deep and need no memory of their own.
 #[derive(Drop)]
 pub struct Position {
-    steps: SmallVec<u32, 8>,
+    steps: SmallVec<usize, 8>,
 }
 
 impl Model for Position {
@@ -32,7 +32,7 @@ impl Position {
     }
 
     /// The place with these steps.
-    pub fn from_slice(alloc: Global, steps: &[u32]) -> Result<Position, Memory>
+    pub fn from_slice(alloc: Global, steps: &[usize]) -> Result<Position, Memory>
         ensures { IfOk result (λ place. place ≡ steps.now) }
     {
         let steps = SmallVec::from_slice(alloc, steps)?;
@@ -40,7 +40,7 @@ impl Position {
     }
 
     /// The argument numbers, from the literal down.
-    pub fn as_slice(&self) -> &[u32]
+    pub fn as_slice(&self) -> &[usize]
         ensures { result.now ≡ self.now }
     {
         self.steps.as_slice()

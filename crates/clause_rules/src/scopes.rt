@@ -8,11 +8,11 @@ use std::alloc::Global;
 use tptp_base::{List, Memory};
 
 /// The numbers, the last one first.
-pub fn reversed(alloc: Global, sorts: &[SortId]) -> Result<List<SortId>, Memory>
-    ensures { IfOk result (λ list. list ≡ reverse sorts.now) }
+pub fn reversed<T: Copy>(alloc: Global, items: &[T]) -> Result<List<T>, Memory>
+    ensures { IfOk result (λ list. list ≡ reverse items.now) }
 {
     let mut list = List::new(alloc);
-    let mut left = List::from_slice(alloc, sorts)?;
+    let mut left = List::from_slice(alloc, items)?;
     while let Some(last) = left.pop() {
         list.push(last)?;
     }

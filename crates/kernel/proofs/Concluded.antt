@@ -103,18 +103,6 @@ module _ (t : Statements) (v : List ℕ) (h : List Form) where
     λ w. let g = ((Proves-ImpE t v h p q a).0 w).1 in er ∙ ap Some (Imp-injective b c g.0 a (only p whole (Imp b c) (Imp g.0 a) cp ew g.1)).1,
   )
 
-  pub imp_e_no : (p q : Proof) (whole shown : Option Form) (b c : Form) → Concludes t v h p whole → Concludes t v h q shown → whole ≡ Some (Imp b c) → (shown ≡ Some b → ⊥) → Concludes t v h (ImpE p q) None
-  imp_e_no p q whole shown b c cp cq ew none a = (
-    λ x. cc,
-    λ w.
-        let g = ((Proves-ImpE t v h p q a).0 w).1 in
-        let one = (Imp-injective b c g.0 a (only p whole (Imp b c) (Imp g.0 a) cp ew g.1)).0 in
-        absurd (none ((cq g.0).1 g.2 ∙ ap Some (sym one))),
-  )
-
-  pub imp_e_none : (p q : Proof) (whole : Option Form) → Concludes t v h p whole → ((b c : Form) → whole ≡ Some (Imp b c) → ⊥) → Concludes t v h (ImpE p q) None
-  imp_e_none p q whole cp none a = (λ x. cc, λ w. let g = ((Proves-ImpE t v h p q a).0 w).1 in absurd (none g.0 a ((cp (Imp g.0 a)).1 g.1)))
-
   pub not_i_yes : (b : Form) (p : Proof) (shown r : Option Form) → ConcludesUnder t v h b p shown → shown ≡ Some (Or []) → r ≡ Some (Not b) → Concludes t v h (NotI b p) r
   not_i_yes b p shown r cu e er a = (
     λ x. let w = (cu (Or [])).0 e in subst (Proves t v h (NotI b p)) (some_same (sym er ∙ x)) (by_not_i t v h b p w.0 w.1),
@@ -172,18 +160,6 @@ module _ (t : Statements) (v : List ℕ) (h : List Form) where
     λ w. let g = ((Proves-IffL t v h p q a).0 w).1 in er ∙ ap Some (Iff-injective b c g.0 a (only p whole (Iff b c) (Iff g.0 a) cp ew g.1)).1,
   )
 
-  pub iff_l_no : (p q : Proof) (whole shown : Option Form) (b c : Form) → Concludes t v h p whole → Concludes t v h q shown → whole ≡ Some (Iff b c) → (shown ≡ Some b → ⊥) → Concludes t v h (IffL p q) None
-  iff_l_no p q whole shown b c cp cq ew none a = (
-    λ x. cc,
-    λ w.
-        let g = ((Proves-IffL t v h p q a).0 w).1 in
-        let one = (Iff-injective b c g.0 a (only p whole (Iff b c) (Iff g.0 a) cp ew g.1)).0 in
-        absurd (none ((cq g.0).1 g.2 ∙ ap Some (sym one))),
-  )
-
-  pub iff_l_none : (p q : Proof) (whole : Option Form) → Concludes t v h p whole → ((b c : Form) → whole ≡ Some (Iff b c) → ⊥) → Concludes t v h (IffL p q) None
-  iff_l_none p q whole cp none a = (λ x. cc, λ w. let g = ((Proves-IffL t v h p q a).0 w).1 in absurd (none g.0 a ((cp (Iff g.0 a)).1 g.1)))
-
   pub iff_r_yes : (p q : Proof) (whole shown r : Option Form) (b c : Form) → Concludes t v h p whole → Concludes t v h q shown → whole ≡ Some (Iff b c) → shown ≡ Some c → r ≡ Some b
       → Concludes t v h (IffR p q) r
   iff_r_yes p q whole shown r b c cp cq ew es er a = (
@@ -191,14 +167,20 @@ module _ (t : Statements) (v : List ℕ) (h : List Form) where
     λ w. let g = ((Proves-IffR t v h p q a).0 w).1 in er ∙ ap Some (Iff-injective b c a g.0 (only p whole (Iff b c) (Iff a g.0) cp ew g.1)).0,
   )
 
-  pub iff_r_no : (p q : Proof) (whole shown : Option Form) (b c : Form) → Concludes t v h p whole → Concludes t v h q shown → whole ≡ Some (Iff b c) → (shown ≡ Some c → ⊥) → Concludes t v h (IffR p q) None
-  iff_r_no p q whole shown b c cp cq ew none a = (
+  pub imp_e_no : (p q : Proof) (whole shown : Option Form) → Concludes t v h p whole → Concludes t v h q shown → ((b c : Form) × (whole ≡ Some (Imp b c)) × (shown ≡ Some b) → ⊥) → Concludes t v h (ImpE p q) None
+  imp_e_no p q whole shown cp cq none a = (
     λ x. cc,
-    λ w.
-        let g = ((Proves-IffR t v h p q a).0 w).1 in
-        let one = (Iff-injective b c a g.0 (only p whole (Iff b c) (Iff a g.0) cp ew g.1)).1 in
-        absurd (none ((cq g.0).1 g.2 ∙ ap Some (sym one))),
+    λ w. let g = ((Proves-ImpE t v h p q a).0 w).1 in absurd (none (g.0, a, (cp (Imp g.0 a)).1 g.1, (cq g.0).1 g.2)),
   )
 
-  pub iff_r_none : (p q : Proof) (whole : Option Form) → Concludes t v h p whole → ((b c : Form) → whole ≡ Some (Iff b c) → ⊥) → Concludes t v h (IffR p q) None
-  iff_r_none p q whole cp none a = (λ x. cc, λ w. let g = ((Proves-IffR t v h p q a).0 w).1 in absurd (none a g.0 ((cp (Iff a g.0)).1 g.1)))
+  pub iff_l_no : (p q : Proof) (whole shown : Option Form) → Concludes t v h p whole → Concludes t v h q shown → ((b c : Form) × (whole ≡ Some (Iff b c)) × (shown ≡ Some b) → ⊥) → Concludes t v h (IffL p q) None
+  iff_l_no p q whole shown cp cq none a = (
+    λ x. cc,
+    λ w. let g = ((Proves-IffL t v h p q a).0 w).1 in absurd (none (g.0, a, (cp (Iff g.0 a)).1 g.1, (cq g.0).1 g.2)),
+  )
+
+  pub iff_r_no : (p q : Proof) (whole shown : Option Form) → Concludes t v h p whole → Concludes t v h q shown → ((b c : Form) × (whole ≡ Some (Iff b c)) × (shown ≡ Some c) → ⊥) → Concludes t v h (IffR p q) None
+  iff_r_no p q whole shown cp cq none a = (
+    λ x. cc,
+    λ w. let g = ((Proves-IffR t v h p q a).0 w).1 in absurd (none (a, g.0, (cp (Iff a g.0)).1 g.1, (cq g.0).1 g.2)),
+  )

@@ -1,4 +1,3 @@
-pub mod Hyps
 pub mod Concluded
 pub mod ConcludedOver
 pub mod ConcludedLists

@@ -8,7 +8,7 @@ ghost use Rattle.kernel.specs.Statements.{Statements};
 ghost use Rattle.kernel.specs.Proves.{over, all_over};
 ghost use Rattle.kernel.specs.Concludes.{Concludes};
 
-use crate::context::{Shown, copied};
+use crate::finding::{Finding, Shown};
 use crate::theory::Theory;
 use crate::views::{equation, is_shown, universal};
 use fof_terms::{
@@ -18,14 +18,17 @@ use std::alloc::Global;
 use tptp_base::{Boxed, Memory};
 
 /// That what was shown over a variable of the sort holds for all.
-pub fn generalized(alloc: Global, sort: SortId, shown: Shown) -> Result<Shown, Memory>
+#[inline(never)]
+pub fn generalized<'f>(alloc: Global, sort: SortId, shown: Shown<'f>) -> Result<Shown<'f>, Memory>
     ensures { IfOk result (λ answer. (t : Statements) (v : List ℕ) (h : List Formula) (p : Deduction) →
-        Concludes t (sort ∷ v) (all_over h) p shown → Concludes t v h (AllI sort p) answer) }
+        Concludes t (sort ∷ v) (all_over h) p shown.entry → Concludes t v h (AllI sort p) answer) }
 {
     match shown {
         Some(body) => {
+            let body = body.into_boxed(alloc)?;
             if is_within(body.get(), MAX_BINDERS - 1) {
-                Ok(Some(Boxed::new(alloc, Form::All(sort, body))?))
+                let whole = Boxed::new(alloc, Form::All(sort, body))?;
+                Ok(Some(Finding::made(whole)))
             } else {
                 Ok(None)
             }
@@ -35,13 +38,14 @@ pub fn generalized(alloc: Global, sort: SortId, shown: Shown) -> Result<Shown, M
 }
 
 /// What was shown for all, for the term.
-pub fn specialized(
+#[inline(never)]
+pub fn specialized<'f>(
     alloc: Global,
     theory: &Theory,
     scope: &Scope<'_>,
     term: &Term,
-    shown: &Shown,
-) -> Result<Shown, Memory>
+    shown: &Shown<'_>,
+) -> Result<Shown<'f>, Memory>
     requires { (a : Formula) → shown.now ≡ Some a → Sorted theory.now.vocabulary (scope_sorts scope.now) a }
     ensures { IfOk result (λ answer. (h : List Formula) (p : Deduction) →
         Concludes theory.now (scope_sorts scope.now) h p shown.now
@@ -50,7 +54,8 @@ pub fn specialized(
     match universal(shown) {
         Some((sort, body)) => {
             if has_sort(theory, scope, term, sort) {
-                Ok(Some(Boxed::new(alloc, instantiate(alloc, body, term)?)?))
+                let instance = Boxed::new(alloc, instantiate(alloc, body, term)?)?;
+                Ok(Some(Finding::made(instance)))
             } else {
                 Ok(None)
             }
@@ -60,7 +65,8 @@ pub fn specialized(
 }
 
 /// That there is one for which the body holds, if it was shown for the term.
-pub fn witnessed(
+#[inline(never)]
+pub fn witnessed<'f>(
     alloc: Global,
     theory: &Theory,
     scope: &Scope<'_>,
@@ -68,8 +74,8 @@ pub fn witnessed(
     sort: SortId,
     body: &Form,
     term: &Term,
-    shown: &Shown,
-) -> Result<Shown, Memory>
+    shown: &Shown<'_>,
+) -> Result<Shown<'f>, Memory>
     requires scope { IsScope theory.now.vocabulary (scope_sorts scope.now) }
     requires room { length (scope_sorts scope.now) + room ≡ 2147483647 }
     ensures { IfOk result (λ answer. (h : List Formula) (p : Deduction) →
@@ -90,37 +96,42 @@ pub fn witnessed(
         return Ok(None);
     }
     let body = Boxed::new(alloc, body.copy(alloc)?)?;
-    Ok(Some(Boxed::new(alloc, Form::Ex(sort, body))?))
+    Ok(Some(Finding::made(Boxed::new(alloc, Form::Ex(sort, body))?)))
 }
 
 /// That the term is itself, if it is well-sorted.
-pub fn reflexive(
+#[inline(never)]
+pub fn reflexive<'f>(
     alloc: Global,
     theory: &Theory,
     scope: &Scope<'_>,
     term: &Term,
-) -> Result<Shown, Memory>
+) -> Result<Shown<'f>, Memory>
     requires { IsScope theory.now.vocabulary (scope_sorts scope.now) }
     ensures { IfOk result (λ answer. (h : List Formula)
         → Concludes theory.now (scope_sorts scope.now) h (Refl term.now) answer) }
 {
     match sort_of(term, theory.signature(), scope) {
-        Some(_sort) => Ok(Some(Boxed::new(alloc, Form::Eq(term.copy(alloc)?, term.copy(alloc)?))?)),
+        Some(_sort) => {
+            let whole = Form::Eq(term.copy(alloc)?, term.copy(alloc)?);
+            Ok(Some(Finding::made(Boxed::new(alloc, whole)?)))
+        }
         None => Ok(None),
     }
 }
 
 /// The body for the right side of the equation that was shown, if it was shown for the left side.
-pub fn substituted(
+#[inline(never)]
+pub fn substituted<'f>(
     alloc: Global,
     theory: &Theory,
     scope: &Scope<'_>,
     room: u32,
     sort: SortId,
     body: &Form,
-    sides: &Shown,
-    shown: &Shown,
-) -> Result<Shown, Memory>
+    sides: &Shown<'_>,
+    shown: &Shown<'_>,
+) -> Result<Shown<'f>, Memory>
     requires scope { IsScope theory.now.vocabulary (scope_sorts scope.now) }
     requires room { length (scope_sorts scope.now) + room ≡ 2147483647 }
     requires sorted { (a : Formula) → sides.now ≡ Some a → Sorted theory.now.vocabulary (scope_sorts scope.now) a }
@@ -141,20 +152,22 @@ pub fn substituted(
             if !is_shown(shown, instance.get()) {
                 return Ok(None);
             }
-            Ok(Some(Boxed::new(alloc, instantiate(alloc, body, right)?)?))
+            let whole = Boxed::new(alloc, instantiate(alloc, body, right)?)?;
+            Ok(Some(Finding::made(whole)))
         }
         None => Ok(None),
     }
 }
 
 /// The goal, if it is well-sorted and was shown over one variable more.
-pub fn same_over(
+#[inline(never)]
+pub fn same_over<'f>(
     alloc: Global,
     theory: &Theory,
     scope: &Scope<'_>,
-    goal: &Form,
-    shown: &Shown,
-) -> Result<Shown, Memory>
+    goal: &'f Form,
+    shown: &Shown<'_>,
+) -> Result<Shown<'f>, Memory>
     requires { IsScope theory.now.vocabulary (scope_sorts scope.now) }
     ensures { IfOk result (λ answer. (a : Formula)
         → (answer ≡ Some a)
@@ -166,7 +179,7 @@ pub fn same_over(
     }
     let lifted = Boxed::new(alloc, lift(alloc, goal, 1, 0)?)?;
     if is_shown(shown, lifted.get()) {
-        copied(alloc, Some(goal))
+        Ok(Some(Finding::given(goal)))
     } else {
         Ok(None)
     }

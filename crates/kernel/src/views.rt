@@ -2,17 +2,27 @@
 ghost use Rattle.std.specs.Prelude.{◌≡◌, ◌↔◌, [], Some, IsTrue, IfSome, IfNone};
 ghost use Rattle.fof_terms.specs.declared.form.Form.{Eq, Not, And, Or, Imp, Iff, All, Ex};
 
-use crate::context::Shown;
-use fof_terms::{Form, SortId, Term, equal};
+use crate::finding::Shown;
+use fof_terms::{Form, SortId, Term};
+
+/// The formula, if it stands somewhere.
+pub fn standing<'f>(shown: &Shown<'f>) -> Option<&'f Form>
+    ensures { IfSome result (λ form. shown.now ≡ Some form.now) }
+{
+    match shown {
+        Some(finding) => finding.standing(),
+        None => None,
+    }
+}
 
 /// The members of a conjunction.
-pub fn conjunction(shown: &Shown) -> Option<&[Form]>
+pub fn conjunction<'s>(shown: &'s Shown<'_>) -> Option<&'s [Form]>
     ensures some { IfSome result (λ members. shown.now ≡ Some (And members.now)) }
     ensures none { IfNone result ((members : _) → shown.now ≡ Some (And members) → ⊥) }
 {
     match shown {
-        Some(form) => match form.get() {
-            Form::And(members) => Some(members.as_slice()),
+        Some(finding) => match finding.whole() {
+            Some(Form::And(members)) => Some(members.as_slice()),
             _ => None,
         },
         None => None,
@@ -20,13 +30,14 @@ pub fn conjunction(shown: &Shown) -> Option<&[Form]>
 }
 
 /// The members of a disjunction.
-pub fn disjunction(shown: &Shown) -> Option<&[Form]>
+#[inline(never)]
+pub fn disjunction<'s>(shown: &'s Shown<'_>) -> Option<&'s [Form]>
     ensures some { IfSome result (λ members. shown.now ≡ Some (Or members.now)) }
     ensures none { IfNone result ((members : _) → shown.now ≡ Some (Or members) → ⊥) }
 {
     match shown {
-        Some(form) => match form.get() {
-            Form::Or(members) => Some(members.as_slice()),
+        Some(finding) => match finding.whole() {
+            Some(Form::Or(members)) => Some(members.as_slice()),
             _ => None,
         },
         None => None,
@@ -34,55 +45,46 @@ pub fn disjunction(shown: &Shown) -> Option<&[Form]>
 }
 
 /// What a negation negates.
-pub fn negation(shown: &Shown) -> Option<&Form>
+pub fn negation<'s>(shown: &'s Shown<'_>) -> Option<&'s Form>
     ensures some { IfSome result (λ body. shown.now ≡ Some (Not body.now)) }
     ensures none { IfNone result ((body : _) → shown.now ≡ Some (Not body) → ⊥) }
 {
     match shown {
-        Some(form) => match form.get() {
-            Form::Not(body) => Some(body.get()),
-            _ => None,
-        },
+        Some(finding) => finding.negated(),
         None => None,
     }
 }
 
 /// The sides of an implication.
-pub fn implication(shown: &Shown) -> Option<(&Form, &Form)>
+pub fn implication<'s>(shown: &'s Shown<'_>) -> Option<(&'s Form, &'s Form)>
     ensures some { IfSome result (λ sides. shown.now ≡ Some (Imp sides.0.now sides.1.now)) }
     ensures none { IfNone result ((left right : _) → shown.now ≡ Some (Imp left right) → ⊥) }
 {
     match shown {
-        Some(form) => match form.get() {
-            Form::Imp(left, right) => Some((left.get(), right.get())),
-            _ => None,
-        },
+        Some(finding) => finding.implied(),
         None => None,
     }
 }
 
 /// The sides of an equivalence.
-pub fn equivalence(shown: &Shown) -> Option<(&Form, &Form)>
+pub fn equivalence<'s>(shown: &'s Shown<'_>) -> Option<(&'s Form, &'s Form)>
     ensures some { IfSome result (λ sides. shown.now ≡ Some (Iff sides.0.now sides.1.now)) }
     ensures none { IfNone result ((left right : _) → shown.now ≡ Some (Iff left right) → ⊥) }
 {
     match shown {
-        Some(form) => match form.get() {
-            Form::Iff(left, right) => Some((left.get(), right.get())),
-            _ => None,
-        },
+        Some(finding) => finding.equated(),
         None => None,
     }
 }
 
 /// The sort and the body of what holds for all.
-pub fn universal(shown: &Shown) -> Option<(SortId, &Form)>
+pub fn universal<'s>(shown: &'s Shown<'_>) -> Option<(SortId, &'s Form)>
     ensures some { IfSome result (λ parts. shown.now ≡ Some (All parts.0 parts.1.now)) }
     ensures none { IfNone result ((sort body : _) → shown.now ≡ Some (All sort body) → ⊥) }
 {
     match shown {
-        Some(form) => match form.get() {
-            Form::All(sort, body) => Some((*sort, body.get())),
+        Some(finding) => match finding.whole() {
+            Some(Form::All(sort, body)) => Some((*sort, body.get())),
             _ => None,
         },
         None => None,
@@ -90,13 +92,14 @@ pub fn universal(shown: &Shown) -> Option<(SortId, &Form)>
 }
 
 /// The sort and the body of what there is one for.
-pub fn existential(shown: &Shown) -> Option<(SortId, &Form)>
+#[inline(never)]
+pub fn existential<'s>(shown: &'s Shown<'_>) -> Option<(SortId, &'s Form)>
     ensures some { IfSome result (λ parts. shown.now ≡ Some (Ex parts.0 parts.1.now)) }
     ensures none { IfNone result ((sort body : _) → shown.now ≡ Some (Ex sort body) → ⊥) }
 {
     match shown {
-        Some(form) => match form.get() {
-            Form::Ex(sort, body) => Some((*sort, body.get())),
+        Some(finding) => match finding.whole() {
+            Some(Form::Ex(sort, body)) => Some((*sort, body.get())),
             _ => None,
         },
         None => None,
@@ -104,13 +107,13 @@ pub fn existential(shown: &Shown) -> Option<(SortId, &Form)>
 }
 
 /// The sides of an equation.
-pub fn equation(shown: &Shown) -> Option<(&Term, &Term)>
+pub fn equation<'s>(shown: &'s Shown<'_>) -> Option<(&'s Term, &'s Term)>
     ensures some { IfSome result (λ sides. shown.now ≡ Some (Eq sides.0.now sides.1.now)) }
     ensures none { IfNone result ((left right : _) → shown.now ≡ Some (Eq left right) → ⊥) }
 {
     match shown {
-        Some(form) => match form.get() {
-            Form::Eq(left, right) => Some((left, right)),
+        Some(finding) => match finding.whole() {
+            Some(Form::Eq(left, right)) => Some((left, right)),
             _ => None,
         },
         None => None,
@@ -118,22 +121,24 @@ pub fn equation(shown: &Shown) -> Option<(&Term, &Term)>
 }
 
 /// Whether the goal is what was shown.
-pub fn is_shown(shown: &Shown, goal: &Form) -> bool
+#[inline(never)]
+pub fn is_shown(shown: &Shown<'_>, goal: &Form) -> bool
     ensures { IsTrue result ↔ (shown.now ≡ Some goal.now) }
 {
     match shown {
-        Some(form) => equal(form.get(), goal),
+        Some(finding) => finding.is_form(goal),
         None => false,
     }
 }
 
 /// Whether falsehood was shown.
-pub fn is_falsehood(shown: &Shown) -> bool
+#[inline(never)]
+pub fn is_falsehood(shown: &Shown<'_>) -> bool
     ensures { IsTrue result ↔ (shown.now ≡ Some (Or [])) }
 {
     match shown {
-        Some(form) => match form.get() {
-            Form::Or(members) => members.is_empty(),
+        Some(finding) => match finding.whole() {
+            Some(Form::Or(members)) => members.is_empty(),
             _ => false,
         },
         None => false,

@@ -11,7 +11,7 @@ use Rattle.clause_form.proofs.NormFacts.{norm_of-Not, norm_of-And, norm_of-Or, n
 use Rattle.clause_form.proofs.NormSize.{norm_small, flat_size, norms_size}
 use Rattle.clause_form.specs.Sizes.{norm_size_of}
 use Rattle.clause_form.proofs.SizesFacts.{norm_size_of-Atom, norm_size_of-Eq, norm_size_of-Not, norm_size_of-And, norm_size_of-Or, norm_size_of-Imp, norm_size_of-Iff, norm_size_of-All, norm_size_of-Ex}
-use Rattle.clause_form.proofs.SizeLaws.{sum_cons, depth_within_size}
+use Rattle.clause_form.proofs.SizeLaws.{sum_cons, few_by_size, depth_within_size}
 use Rattle.kernel.specs.declared.proof.Proof.{Proof}
 use Rattle.norm_proofs.specs.code.Steps.{Between, then_tree, denied_tree, twice_denied_tree}
 use Rattle.norm_proofs.proofs.StepsFacts.{then_shows, denied_shows, twice_denied_shows}
@@ -39,26 +39,6 @@ pub norm_of_both : (g : Bool) (l r : Form) → norm_of g (And (both_sides l r)) 
 norm_of_both g l r = rw (norm_of-And, norm_of-Or g (sides l r), norm_of-Or g (sides_back l r), norm_of-Not g l, norm_of-Not g r, norm_of-Iff) refl
 
 -- Sizes.
-some_of : (n : ℕ) → 1 ≤ 1 + n
-some_of n = omega arith
-
-pub some_size : (a : Form) → 1 ≤ norm_size_of a
-some_size = form_induction _ (record {
-  atom = λ p ts. rw norm_size_of-Atom (omega arith);
-  eq = λ l r. rw norm_size_of-Eq (omega arith);
-  not = λ a ih. rw norm_size_of-Not ih;
-  and = λ as_ all. rw norm_size_of-And (some_of (sum (map norm_size_of as_)));
-  or = λ as_ all. rw norm_size_of-Or (some_of (sum (map norm_size_of as_)));
-  imp = λ a b ih jh. rw norm_size_of-Imp (omega arith);
-  iff = λ a b ih jh. rw norm_size_of-Iff (omega (arith, ih, jh));
-  all = λ s a ih. rw norm_size_of-All (omega arith);
-  ex = λ s a ih. rw norm_size_of-Ex (omega arith);
-})
-
-few_by_size : (as_ : List Form) → length as_ ≤ sum (map norm_size_of as_)
-few_by_size [] = omega arith
-few_by_size (a ∷ as_) = rw (sum_cons (norm_size_of a) (map norm_size_of as_)) (omega (arith, some_size a, few_by_size as_))
-
 node_size_of : (conj : Bool) (ms : List Form) → norm_size_of (node conj ms) ≡ 1 + sum (map norm_size_of ms)
 node_size_of true ms = norm_size_of-And ms
 node_size_of false ms = norm_size_of-Or ms

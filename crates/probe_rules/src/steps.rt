@@ -123,7 +123,7 @@ pub trait Steps {
             (CoversBy sig.now (scope_of clause.now) clause.now.lits line.now) found) };
 
     /// The number in the list, counted from 0, of the first parent with the line's normal form.
-    fn first_norm(alloc: Global, parents: &[Parent], line: &Form) -> Result<Option<u32>, Memory>
+    fn first_norm(alloc: Global, parents: &[Parent], line: &Form) -> Result<Option<usize>, Memory>
         ensures { IfOk result (λ found. MatchOption found (IsNormStep parents.now line.now →
             ⊥) (IsFirstNorm parents.now line.now)) };
 
@@ -215,7 +215,7 @@ impl Steps for Probe {
         cover_clause(alloc, sig, clause, line)
     }
 
-    fn first_norm(alloc: Global, parents: &[Parent], line: &Form) -> Result<Option<u32>, Memory> {
+    fn first_norm(alloc: Global, parents: &[Parent], line: &Form) -> Result<Option<usize>, Memory> {
         first_norm(alloc, parents, line)
     }
 
@@ -397,7 +397,7 @@ impl Steps for Control {
         }
     }
 
-    fn first_norm(alloc: Global, parents: &[Parent], line: &Form) -> Result<Option<u32>, Memory> {
+    fn first_norm(alloc: Global, parents: &[Parent], line: &Form) -> Result<Option<usize>, Memory> {
         match first_norm(alloc, parents, line)? {
             Some(number) => Ok(Some(number)),
             None => Ok(None),

@@ -75,7 +75,7 @@ fn covered(
     signature: &Signature,
     parents: &[Parent],
     line: &Form,
-    parent: u32,
+    parent: usize,
     path: &Path,
     subst: &Subst,
 ) -> Result<Part, Memory>
@@ -84,7 +84,7 @@ fn covered(
     requires shown { Shows signature.now parents.now line.now (ByCover parent path.now subst.now) }
     ensures { IfOk result (ShowsLine signature.now parents.now line.now) }
 {
-    let parent = &parents[parent as usize];
+    let parent = &parents[parent];
     let opened = known_clause(alloc, line)?;
     let Reached { clause, fact } = reached_by(alloc, signature, parent, path)?;
     cover_opened(alloc, signature, line, &opened, &clause, fact, subst)

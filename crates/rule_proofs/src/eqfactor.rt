@@ -36,9 +36,9 @@ use unify_terms::Subst;
 /// Which equations of a clause are factored, and which of them are read from right to left.
 #[derive(Clone, Copy)]
 struct Factor {
-    first: u32,
+    first: usize,
     first_flipped: bool,
-    second: u32,
+    second: usize,
     second_flipped: bool,
 }
 
@@ -84,7 +84,7 @@ fn factored(
     signature: &Signature,
     parents: &[Parent],
     line: &Form,
-    parent: u32,
+    parent: usize,
     factor: Factor,
     subst: &Subst,
 ) -> Result<Part, Memory>
@@ -94,7 +94,7 @@ fn factored(
         (ByEqFactor parent factor.first factor.first_flipped factor.second factor.second_flipped subst.now) }
     ensures { IfOk result (ShowsLine signature.now parents.now line.now) }
 {
-    let parent = &parents[parent as usize];
+    let parent = &parents[parent];
     let opened = known_clause(alloc, line)?;
     let clause = known_clause(alloc, &parent.form)?;
     factor_opened(
@@ -150,8 +150,8 @@ fn refute_factor(
         → ShowsBody signature.now (scope_sorts scope.now) formulas premise.is_or premise.lits premise.part
         → RefutesBody signature.now (scope_sorts scope.now) formulas (body line.now) part) }
 {
-    let pivot = premise.lits.as_slice()[factor.first as usize].copy(alloc)?;
-    let other = premise.lits.as_slice()[factor.second as usize].copy(alloc)?;
+    let pivot = premise.lits.as_slice()[factor.first].copy(alloc)?;
+    let other = premise.lits.as_slice()[factor.second].copy(alloc)?;
     let under = two_equations(alloc, signature, scope, line, &pivot, &other, factor)?;
     by_pivot(alloc, signature, scope, line, premise, &pivot, under)
 }

@@ -30,7 +30,7 @@ pub fn by_norm(
 {
     match norm_step(alloc, signature, parents, line)? {
         Some(Just::Norm { parent }) => {
-            let proof = normed(alloc, signature, &parents[parent as usize], line)?;
+            let proof = normed(alloc, signature, &parents[parent], line)?;
             Ok(Some(proof))
         }
         Some(_) => unreachable!(),

@@ -35,9 +35,9 @@ use unify_terms::Subst;
 /// `from_lit`, read from right to left where flipped.
 #[derive(Drop)]
 struct Change {
-    into_lit: u32,
+    into_lit: usize,
     at: Position,
-    from_lit: u32,
+    from_lit: usize,
     flipped: bool,
 }
 
@@ -86,8 +86,8 @@ fn paramodulated(
     signature: &Signature,
     parents: &[Parent],
     line: &Form,
-    into: u32,
-    from: u32,
+    into: usize,
+    from: usize,
     change: &Change,
     subst: &Subst,
 ) -> Result<Part, Memory>
@@ -98,8 +98,8 @@ fn paramodulated(
         subst.now) }
     ensures { IfOk result (ShowsLine signature.now parents.now line.now) }
 {
-    let into = &parents[into as usize];
-    let from = &parents[from as usize];
+    let into = &parents[into];
+    let from = &parents[from];
     let opened = known_clause(alloc, line)?;
     let into_opened = known_clause(alloc, &into.form)?;
     let from_opened = known_clause(alloc, &from.form)?;
@@ -195,7 +195,7 @@ fn paramodulant(
         → ShowsBody signature.now (scope_sorts scope.now) formulas from.is_or from.lits from.part
         → RefutesBody signature.now (scope_sorts scope.now) formulas (body line.now) part) }
 {
-    let equation = from.lits.as_slice()[change.from_lit as usize].copy(alloc)?;
+    let equation = from.lits.as_slice()[change.from_lit].copy(alloc)?;
     let mark = images.images.len() as u32;
     let marked = marked_at(alloc, lits, change, mark)?;
     by_equation(
@@ -218,7 +218,7 @@ fn marked_at(alloc: Global, lits: &[Lit], change: &Change, mark: u32) -> Result<
     ensures { IfOk result (λ made. (k : Literal) → slice_get lits.now change.now.into_lit ≡ Some k
         → made ≡ slice_set lits.now change.now.into_lit (lit_put_at change.now.at (Var mark) k)) }
 {
-    let at = change.into_lit as usize;
+    let at = change.into_lit;
     let changed = put_in(alloc, &lits[at], change.at.as_slice(), &Term::Var(mark))?;
     let mut made = copy_lits(alloc, lits)?;
     made.set(at, changed);

@@ -64,9 +64,9 @@ fn resolved(
     signature: &Signature,
     parents: &[Parent],
     line: &Form,
-    left: u32,
-    right: u32,
-    left_lit: u32,
+    left: usize,
+    right: usize,
+    left_lit: usize,
     subst: &Subst,
 ) -> Result<Part, Memory>
     requires ready { AreReady signature.now parents.now }
@@ -74,8 +74,8 @@ fn resolved(
     requires shown { (j : ℕ) × Shows signature.now parents.now line.now (ByResolution left right left_lit j subst.now) }
     ensures { IfOk result (ShowsLine signature.now parents.now line.now) }
 {
-    let left = &parents[left as usize];
-    let right = &parents[right as usize];
+    let left = &parents[left];
+    let right = &parents[right];
     let opened = known_clause(alloc, line)?;
     let left_opened = known_clause(alloc, &left.form)?;
     let right_opened = known_clause(alloc, &right.form)?;
@@ -103,7 +103,7 @@ fn resolve_opened(
     left_opened: &Opened,
     right: &Parent,
     right_opened: &Opened,
-    left_lit: u32,
+    left_lit: usize,
     subst: &Subst,
 ) -> Result<Part, Memory>
     requires line { IsReadyClause signature.now line.now opened.now }
@@ -149,7 +149,7 @@ fn resolvent(
     line: &Opened,
     left: Premise,
     right: Premise,
-    left_lit: u32,
+    left_lit: usize,
 ) -> Result<Part, Memory>
     requires resolvent { (j : ℕ) × IsResolvent line.now.clause.lits left.lits right.lits left_lit j }
     requires goal { IsGoal signature.now (scope_sorts scope.now) line.now }
@@ -160,7 +160,7 @@ fn resolvent(
         → ShowsBody signature.now (scope_sorts scope.now) formulas right.is_or right.lits right.part
         → RefutesBody signature.now (scope_sorts scope.now) formulas (body line.now) part) }
 {
-    let pivot = left.lits.as_slice()[left_lit as usize].copy(alloc)?;
+    let pivot = left.lits.as_slice()[left_lit].copy(alloc)?;
     let under = refuted(alloc, signature, scope, line, right, &pivot)?;
     by_pivot(alloc, signature, scope, line, left, &pivot, under)
 }

@@ -80,8 +80,8 @@ fn rewritten(
     signature: &Signature,
     parents: &[Parent],
     line: &Form,
-    into: u32,
-    by: u32,
+    into: usize,
+    by: usize,
     change: &Change,
     subst: &Subst,
 ) -> Result<Part, Memory>
@@ -91,8 +91,8 @@ fn rewritten(
         (ByRewrite into by change.now.target change.now.flipped change.now.matching subst.now) }
     ensures { IfOk result (ShowsLine signature.now parents.now line.now) }
 {
-    let into = &parents[into as usize];
-    let by = &parents[by as usize];
+    let into = &parents[into];
+    let by = &parents[by];
     let opened = known_clause(alloc, line)?;
     let into_opened = known_clause(alloc, &into.form)?;
     let by_opened = known_clause(alloc, &by.form)?;

@@ -136,11 +136,6 @@ module _ (v : Vocabulary) (parents : List Parent) (line : Clause) where
         let moved : FoundInForm v parent.form line (Some covering) = subst (λ c. FoundInForm v parent.form line (Some c)) same shown in
         record { a = a; parent = parent; covering = covering; is = is; there = at; small = moved.0; shown = moved.1 }
 
-  pub found_among : {E : Type 0} (a : ℕ) (parent : Parent) → slice_get parents a ≡ Some parent → (found : Option Covering) (covering : Covering) (r : Result (Option Just) E) → found ≡ Some covering → FoundInForm v parent.form line found
-      → IfOk r (λ just. just ≡ Some (Cover a covering.path covering.subst)) → IfOk r (λ just. FoundCoverAmong v parents line just)
-  found_among a parent at found covering r e shown h =
-      ok_map r (λ just is. subst (FoundCoverAmong v parents line) (sym is) (found_at a parent at found covering (Cover a covering.path covering.subst) e shown refl)) h
-
   pub none_nowhere : (n : ℕ) → length parents ≤ n → ((a : ℕ) → a < n → NoCoverAt v parents line a) → (a : ℕ) → NoCoverAt v parents line a
   none_nowhere n h none a p there = let lt = slice_get_within parents a p there in none a (omega arith) p there
 

@@ -11,7 +11,7 @@ ghost use Rattle.clause_rules.specs.Settled.{IsFit, Settles};
 ghost use Rattle.clause_rules.specs.Steps.{AreReady, IsReady};
 
 use clause_form::{Clause, FormFault, Parent, Path, as_clause, clause_of_path, norm};
-use clause_rules::{Just, join_one, number, scope_of_clause};
+use clause_rules::{Just, join_one, scope_of_clause};
 use fof_terms::{Form, Signature};
 use std::alloc::Global;
 use substitution_search::{
@@ -59,23 +59,22 @@ fn cover_among(
     for a in 0..parents.len() {
         let found = cover_form(alloc, sig, &parents[a].form, line)?;
         if let Some(covering) = found {
-            return justified(a, covering);
+            return Ok(Some(justified(a, covering)));
         }
     }
     Ok(None)
 }
 
 // The justification with this parent.
-fn justified(a: usize, covering: Covering) -> Result<Option<Just>, Memory>
-    ensures { IfOk result (λ just. just ≡ Some (Cover a covering.path covering.subst)) }
+fn justified(a: usize, covering: Covering) -> Just
+    ensures { result ≡ Cover a covering.path covering.subst }
 {
-    let parent = number(a)?;
     let Covering { path, subst } = covering;
-    Ok(Some(Just::Cover {
-        parent,
+    Just::Cover {
+        parent: a,
         path,
         subst,
-    }))
+    }
 }
 
 // A covering of the formula.

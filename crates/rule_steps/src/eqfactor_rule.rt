@@ -12,7 +12,7 @@ ghost use Rattle.clause_rules.specs.Steps.{unequal, AreReady, IsReady};
 
 use crate::sides::{Sides, sides_of};
 use clause_form::{AtomOf, Clause, Lit, Parent, as_clause, copy_lits};
-use clause_rules::{Joint, Just, join_one, number};
+use clause_rules::{Joint, Just, join_one};
 use fof_terms::{Form, Signature, Term};
 use std::alloc::Global;
 use substitution_search::{clauses_of_parents, may_others_be_covered, settle_beside};
@@ -22,9 +22,9 @@ use unify_terms::Subst;
 /// Two equations of a clause, how they are read, and a substitution.
 #[derive(Drop)]
 pub struct Factor {
-    pub first: u32,
+    pub first: usize,
     pub first_flipped: bool,
-    pub second: u32,
+    pub second: usize,
     pub second_flipped: bool,
     pub subst: Subst,
 }
@@ -143,42 +143,33 @@ fn factor_read(
 {
     let straight = factor_at(alloc, sig, clause, line, joint, i, first_flipped, j, false)?;
     if let Some(subst) = straight {
-        return factored(i, first_flipped, j, false, subst);
+        return Ok(Some(factored(i, first_flipped, j, false, subst)));
     }
     let flipped = factor_at(alloc, sig, clause, line, joint, i, first_flipped, j, true)?;
     if let Some(subst) = flipped {
-        return factored(i, first_flipped, j, true, subst);
+        return Ok(Some(factored(i, first_flipped, j, true, subst)));
     }
     Ok(None)
 }
 
 // The factoring with these literals.
-fn factored(
-    i: usize,
-    first_flipped: bool,
-    j: usize,
-    second_flipped: bool,
-    subst: Subst,
-) -> Result<Option<Factor>, Memory>
-    ensures { IfOk result (λ made. made
-        ≡ Some (record {
+fn factored(i: usize, first_flipped: bool, j: usize, second_flipped: bool, subst: Subst) -> Factor
+    ensures { result
+        ≡ record {
           first = i;
           first_flipped = first_flipped;
           second = j;
           second_flipped = second_flipped;
-          subst =
-              subst;
-        })) }
+          subst = subst;
+        } }
 {
-    let first = number(i)?;
-    let second = number(j)?;
-    Ok(Some(Factor {
-        first,
+    Factor {
+        first: i,
         first_flipped,
-        second,
+        second: j,
         second_flipped,
         subst,
-    }))
+    }
 }
 
 // A factoring at these literals.
@@ -295,18 +286,17 @@ fn factor_among(
     for a in 0..clauses.len() {
         let found = factor_slot(alloc, sig, &clauses[a], line)?;
         if let Some(factor) = found {
-            return justified(a, factor);
+            return Ok(Some(justified(a, factor)));
         }
     }
     Ok(None)
 }
 
 // The justification with this clause.
-fn justified(a: usize, factor: Factor) -> Result<Option<Just>, Memory>
-    ensures { IfOk result (λ just. just
-        ≡ Some (EqFactor a factor.first factor.first_flipped factor.second factor.second_flipped factor.subst)) }
+fn justified(a: usize, factor: Factor) -> Just
+    ensures { result
+        ≡ EqFactor a factor.first factor.first_flipped factor.second factor.second_flipped factor.subst }
 {
-    let parent = number(a)?;
     let Factor {
         first,
         first_flipped,
@@ -314,12 +304,12 @@ fn justified(a: usize, factor: Factor) -> Result<Option<Just>, Memory>
         second_flipped,
         subst,
     } = factor;
-    Ok(Some(Just::EqFactor {
-        parent,
+    Just::EqFactor {
+        parent: a,
         first,
         first_flipped,
         second,
         second_flipped,
         subst,
-    }))
+    }
 }

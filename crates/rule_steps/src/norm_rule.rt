@@ -6,7 +6,7 @@ ghost use Rattle.clause_rules.specs.NormRule.{IsFirstNorm, IsNormStep, NormsAlik
 ghost use Rattle.rule_steps.specs.code.NormRule.{IsFirstAlike};
 
 use clause_form::{FormFault, Parent, norm};
-use clause_rules::{Just, number};
+use clause_rules::Just;
 use fof_terms::{Form, Signature, equal};
 use std::alloc::Global;
 use tptp_base::{Boxed, Memory};
@@ -29,7 +29,7 @@ pub fn norm_step(
 
 /// The number in the list, counted from 0, of the first parent with the line's normal form. None exactly where no
 /// parent has it.
-pub fn first_norm(alloc: Global, parents: &[Parent], line: &Form) -> Result<Option<u32>, Memory>
+pub fn first_norm(alloc: Global, parents: &[Parent], line: &Form) -> Result<Option<usize>, Memory>
     ensures { IfOk result (λ found. MatchOption found (IsNormStep parents.now line.now
         → ⊥) (IsFirstNorm parents.now line.now)) }
 {
@@ -51,14 +51,14 @@ fn small_norm(alloc: Global, form: &Form) -> Result<Option<Boxed<Form>>, Memory>
 }
 
 // The number of the first parent with this normal form.
-fn first_alike(alloc: Global, parents: &[Parent], made: &Form) -> Result<Option<u32>, Memory>
+fn first_alike(alloc: Global, parents: &[Parent], made: &Form) -> Result<Option<usize>, Memory>
     ensures { IfOk result (λ found. MatchOption found ((a : ℕ) → NormsAlike parents.now made.now a
         → ⊥) (IsFirstAlike parents.now made.now)) }
 {
     for at in 0..parents.len() {
         let is_alike = is_norm_of(alloc, made, &parents[at].form)?;
         if is_alike {
-            return Ok(Some(number(at)?));
+            return Ok(Some(at));
         }
     }
     Ok(None)

@@ -196,7 +196,7 @@ fn may_change(alloc: Global, line: &Clause, into: &Clause, site: &Site) -> Resul
     ensures { IfOk result (λ answer. answer ≡ false → NeverAt line.now into.now site.now) }
 {
     let lits = into.lits.as_slice();
-    let at = site.lit as usize;
+    let at = site.lit;
     if at >= lits.len() {
         return Ok(true);
     }
@@ -273,10 +273,9 @@ fn with_reading(
 }
 
 /// The clause of that number, if it is one.
-pub fn clause_in(clauses: &[Option<Clause>], at: u32) -> Option<&Clause>
+pub fn clause_in(clauses: &[Option<Clause>], at: usize) -> Option<&Clause>
     ensures { HasClause clauses.now at (option_copied result) }
 {
-    let at = at as usize;
     if at >= clauses.len() {
         return None;
     }
@@ -307,11 +306,7 @@ fn of_clauses(
                 if !may_meet(spot.term, sides.left, false) {
                     return Ok(None);
                 }
-                if !may_others_be_covered(
-                    line.lits.as_slice(),
-                    from.lits.as_slice(),
-                    reading.lit as usize,
-                ) {
+                if !may_others_be_covered(line.lits.as_slice(), from.lits.as_slice(), reading.lit) {
                     return Ok(None);
                 }
                 of_joint(alloc, sig, into, from, line, site, reading)
@@ -402,9 +397,9 @@ fn paramodulated(
 {
     let mut lits = copy_lits(alloc, joint.left.as_slice())?;
     let changed: Lit = put_in(alloc, spot.lit, site.at.as_slice(), sides.right)?;
-    lits.set(site.lit as usize, changed);
+    lits.set(site.lit, changed);
     let mut others = copy_lits(alloc, joint.right.as_slice())?;
-    others.remove(reading.lit as usize);
+    others.remove(reading.lit);
     lits.append(others)?;
     Ok(lits)
 }

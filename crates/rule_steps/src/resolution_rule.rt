@@ -10,7 +10,7 @@ ghost use Rattle.clause_rules.specs.Steps.{scope_of_both, AreReady, IsReady};
 ghost use Rattle.substitution_search.specs.Ways.{goal_of_needs};
 
 use clause_form::{Clause, Lit, Parent, as_clause};
-use clause_rules::{Joint, Just, join, number, with_one};
+use clause_rules::{Joint, Just, join, with_one};
 use fof_terms::{Form, Signature};
 use std::alloc::Global;
 use substitution_search::{
@@ -22,7 +22,7 @@ use unify_terms::{Goal, Subst};
 /// A literal of the right clause, and a substitution.
 #[derive(Drop)]
 pub struct Found {
-    pub place: u32,
+    pub place: usize,
     pub subst: Subst,
 }
 
@@ -132,7 +132,7 @@ fn resolve_pivot(
     for b in 0..clauses.len() {
         let found = resolve_slot(alloc, sig, left, &clauses[b], line, i)?;
         if let Some(found) = found {
-            return justified(a, b, i, found);
+            return Ok(Some(justified(a, b, i, found)));
         }
     }
     Ok(None)
@@ -160,20 +160,17 @@ fn resolve_slot(
 }
 
 // The justification with these clauses.
-fn justified(a: usize, b: usize, i: usize, found: Found) -> Result<Option<Just>, Memory>
-    ensures { IfOk result (λ just. just ≡ Some (Resolution a b i found.place found.subst)) }
+fn justified(a: usize, b: usize, i: usize, found: Found) -> Just
+    ensures { result ≡ Resolution a b i found.place found.subst }
 {
-    let left = number(a)?;
-    let right = number(b)?;
-    let left_lit = number(i)?;
     let Found { place, subst } = found;
-    Ok(Some(Just::Resolution {
-        left,
-        right,
-        left_lit,
+    Just::Resolution {
+        left: a,
+        right: b,
+        left_lit: i,
         right_lit: place,
         subst,
-    }))
+    }
 }
 
 // The same at this literal of the left clause.
@@ -194,10 +191,7 @@ fn resolve_lit(
     for j in 0..right.lits.len() {
         let found = resolve_at(alloc, sig, left, right, line, i, j)?;
         if let Some(subst) = found {
-            return Ok(Some(Found {
-                place: number(j)?,
-                subst,
-            }));
+            return Ok(Some(Found { place: j, subst }));
         }
     }
     Ok(None)

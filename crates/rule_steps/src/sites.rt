@@ -7,7 +7,7 @@ ghost use Rattle.clause_rules.specs.PlaceSearch.{places_of};
 
 use crate::sides::{Sides, sides_of};
 use clause_form::{AtomOf, Clause, Lit};
-use clause_rules::{Position, number, places_of_lit, term_in};
+use clause_rules::{Position, places_of_lit, term_in};
 use fof_terms::Term;
 use std::alloc::Global;
 use tptp_base::{List, Memory};
@@ -15,16 +15,16 @@ use tptp_base::{List, Memory};
 /// A place in a literal of a clause.
 #[derive(Drop)]
 pub struct Site {
-    pub clause: u32,
-    pub lit: u32,
+    pub clause: usize,
+    pub lit: usize,
     pub at: Position,
 }
 
 /// A positive equation of a clause, read from left to right, or from right to left where flipped.
 #[derive(Clone, Copy)]
 pub struct Reading {
-    pub clause: u32,
-    pub lit: u32,
+    pub clause: usize,
+    pub lit: usize,
     pub flipped: bool,
 }
 
@@ -41,7 +41,7 @@ pub fn sites_of(alloc: Global, clauses: &[Option<Clause>]) -> Result<List<Site>,
 {
     let mut sites = List::new(alloc);
     for at in 0..clauses.len() {
-        add_slot(alloc, number(at)?, &clauses[at], &mut sites)?;
+        add_slot(alloc, at, &clauses[at], &mut sites)?;
     }
     Ok(sites)
 }
@@ -49,7 +49,7 @@ pub fn sites_of(alloc: Global, clauses: &[Option<Clause>]) -> Result<List<Site>,
 // Adds the places of a clause, if it is one.
 fn add_slot(
     alloc: Global,
-    clause: u32,
+    clause: usize,
     slot: &Option<Clause>,
     sites: &mut List<Site>,
 ) -> Result<(), Memory>
@@ -62,11 +62,16 @@ fn add_slot(
 }
 
 // Adds the places of a clause's literals.
-fn add_sites(alloc: Global, clause: u32, lits: &[Lit], sites: &mut List<Site>) -> Result<(), Memory>
+fn add_sites(
+    alloc: Global,
+    clause: usize,
+    lits: &[Lit],
+    sites: &mut List<Site>,
+) -> Result<(), Memory>
     ensures { OnOk result (sites.new ≡ sites.old ++ sites_of_lits clause 0 lits.now) }
 {
     for at in 0..lits.len() {
-        add_places(alloc, clause, number(at)?, &lits[at], sites)?;
+        add_places(alloc, clause, at, &lits[at], sites)?;
     }
     Ok(())
 }
@@ -75,18 +80,16 @@ fn add_sites(alloc: Global, clause: u32, lits: &[Lit], sites: &mut List<Site>) -
 pub fn sites_at(alloc: Global, a: usize, i: usize, of: &Lit) -> Result<List<Site>, Memory>
     ensures { IfOk result (λ sites. sites ≡ sites_of_places a i (places_of of.now)) }
 {
-    let clause = number(a)?;
-    let lit = number(i)?;
     let mut sites = List::new(alloc);
-    add_places(alloc, clause, lit, of, &mut sites)?;
+    add_places(alloc, a, i, of, &mut sites)?;
     Ok(sites)
 }
 
 // Adds the places of a literal.
 fn add_places(
     alloc: Global,
-    clause: u32,
-    lit: u32,
+    clause: usize,
+    lit: usize,
     of: &Lit,
     sites: &mut List<Site>,
 ) -> Result<(), Memory>
@@ -106,14 +109,14 @@ pub fn readings_of(alloc: Global, clauses: &[Option<Clause>]) -> Result<List<Rea
 {
     let mut readings = List::new(alloc);
     for at in 0..clauses.len() {
-        add_slot_readings(number(at)?, &clauses[at], &mut readings)?;
+        add_slot_readings(at, &clauses[at], &mut readings)?;
     }
     Ok(readings)
 }
 
 // Adds the equations of a clause, if it is one.
 fn add_slot_readings(
-    clause: u32,
+    clause: usize,
     slot: &Option<Clause>,
     readings: &mut List<Reading>,
 ) -> Result<(), Memory>
@@ -126,17 +129,22 @@ fn add_slot_readings(
 }
 
 // Adds the equations of a clause's literals.
-fn add_readings(clause: u32, lits: &[Lit], readings: &mut List<Reading>) -> Result<(), Memory>
+fn add_readings(clause: usize, lits: &[Lit], readings: &mut List<Reading>) -> Result<(), Memory>
     ensures { OnOk result (readings.new ≡ readings.old ++ readings_of_lits clause 0 lits.now) }
 {
     for at in 0..lits.len() {
-        add_reading(clause, number(at)?, &lits[at], readings)?;
+        add_reading(clause, at, &lits[at], readings)?;
     }
     Ok(())
 }
 
 // Adds the equation that a literal is, read both ways.
-fn add_reading(clause: u32, lit: u32, of: &Lit, readings: &mut List<Reading>) -> Result<(), Memory>
+fn add_reading(
+    clause: usize,
+    lit: usize,
+    of: &Lit,
+    readings: &mut List<Reading>,
+) -> Result<(), Memory>
     ensures { OnOk result (readings.new ≡ readings.old ++ readings_of_atom clause lit of.now.positive of.now.atom) }
 {
     match &of.atom {
@@ -158,29 +166,27 @@ fn add_reading(clause: u32, lit: u32, of: &Lit, readings: &mut List<Reading>) ->
 }
 
 /// The literal of that number with the term at the place, if it has one there.
-pub fn spot_in<'a>(lits: &'a [Lit], lit: u32, place: &[u32]) -> Option<Spot<'a>>
+pub fn spot_in<'a>(lits: &'a [Lit], lit: usize, place: &[usize]) -> Option<Spot<'a>>
     ensures { HasSpot lits.now lit place.now result }
 {
-    let at = lit as usize;
-    if at >= lits.len() {
+    if lit >= lits.len() {
         return None;
     }
-    match term_in(&lits[at], place) {
+    match term_in(&lits[lit], place) {
         Some(term) => Some(Spot {
-            lit: &lits[at],
+            lit: &lits[lit],
             term,
         }),
         None => None,
     }
 }
 
-/// The sides of the literal of that number, if it is a positive equation.
-pub fn equation_in(lits: &[Lit], lit: u32, flipped: bool) -> Option<Sides<'_>>
+/// The sides of the literal of that if it is a positive equation.
+pub fn equation_in(lits: &[Lit], lit: usize, flipped: bool) -> Option<Sides<'_>>
     ensures { HasEquation lits.now lit flipped result }
 {
-    let at = lit as usize;
-    if at >= lits.len() {
+    if lit >= lits.len() {
         return None;
     }
-    sides_of(&lits[at], flipped)
+    sides_of(&lits[lit], flipped)
 }

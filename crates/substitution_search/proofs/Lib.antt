@@ -9,6 +9,7 @@ pub mod Opened
 pub mod Openings
 pub mod PathCases
 pub mod Placed
+pub mod Room
 pub mod TakenSoFar
 pub mod Uncovered
 pub mod Unlike

@@ -1,5 +1,5 @@
 //! The goal that a path through a normal form reaches a clause all of whose literals are covered.
-ghost use Rattle.std.specs.Prelude.{◌≡◌, ◌++◌, ◌∷◌, [], length, map, IfOk};
+ghost use Rattle.std.specs.Prelude.{◌≡◌, ◌≤◌, ◌+◌, ◌^◌, ◌++◌, ◌∷◌, [], length, map, IfOk};
 ghost use Rattle.clause_form.specs.ClauseView.{view_of};
 ghost use Rattle.clause_form.specs.Paths.{plain};
 ghost use Rattle.substitution_search.specs.CoverSearch.{near, opening, goals_from, goal_of_lit, sorts_of_all};
@@ -8,7 +8,6 @@ ghost use Rattle.substitution_search.specs.CoverSearch.{opened_all};
 use crate::naming::lit_named;
 use crate::ways::covered;
 use clause_form::{AtomOf, Lit, as_lit};
-use clause_rules::number;
 use fof_terms::{Form, SortId};
 use std::alloc::Global;
 use tptp_base::{List, Memory};
@@ -25,6 +24,7 @@ pub fn open(
     names: &mut List<u32>,
     sorts: &mut List<SortId>,
 ) -> Result<Goal, Memory>
+    requires few { length sorts.old + length (opening line.now form.now).sorts ≤ 2 ^ 32 }
     ensures { IfOk result (λ goal. (goal ≡ (opening line.now form.now).goal (length sorts.old) (near names.old))
         × (sorts.new ≡ sorts.old ++ (opening line.now form.now).sorts) × (names.new ≡ names.old)) }
 {
@@ -44,7 +44,7 @@ pub fn open(
             sorts,
         )?)),
         Form::All(sort, body) => {
-            names.push(number(sorts.len())?)?;
+            names.push(sorts.len() as u32)?;
             sorts.push(*sort)?;
             let goal = open(body.get(), alloc, line, names, sorts)?;
             names.pop();
@@ -68,6 +68,7 @@ fn open_all(
     names: &mut List<u32>,
     sorts: &mut List<SortId>,
 ) -> Result<List<Goal>, Memory>
+    requires few { length sorts.old + length (sorts_of_all (map (opening line.now) forms.now)) ≤ 2 ^ 32 }
     ensures { IfOk result (λ goals. (goals
         ≡ goals_from (map (opening line.now) forms.now) (length sorts.old) (near names.old))
         × (sorts.new ≡ sorts.old ++ sorts_of_all (map (opening line.now) forms.now)) × (names.new ≡ names.old)) }

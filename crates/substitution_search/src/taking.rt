@@ -1,7 +1,8 @@
 //! The path that choices take through a normal form, and the clause that it reaches.
-ghost use Rattle.std.specs.Prelude.{◌≡◌, ◌++◌, ◌∷◌, [], length, map, IfOk};
+ghost use Rattle.std.specs.Prelude.{◌≡◌, ◌≤◌, ◌+◌, ◌^◌, ◌++◌, ◌∷◌, [], length, map, sum, IfOk};
 ghost use Rattle.clause_form.specs.ClauseView.{view_of};
 ghost use Rattle.clause_form.specs.Paths.{plain};
+ghost use Rattle.clause_form.specs.Sizes.{norm_size_of};
 ghost use Rattle.substitution_search.specs.CoverSearch.{near, down, opening, take_leaf as leaf_taken};
 ghost use Rattle.substitution_search.specs.CoverSearch.{take_pick as pick_taken, take_each as each_taken};
 ghost use Rattle.substitution_search.specs.code.Taken.{state_of};
@@ -10,7 +11,7 @@ ghost use Rattle.substitution_search.specs.Taken.{IsTaken};
 use crate::naming::{lit_named, lits_named};
 use crate::opening::plain_lit;
 use clause_form::{Clause, Lit, Path};
-use clause_rules::{number, reversed};
+use clause_rules::reversed;
 use fof_terms::{Form, SortId};
 use std::alloc::Global;
 use tptp_base::{Boxed, List, Memory};
@@ -19,7 +20,7 @@ use tptp_base::{Boxed, List, Memory};
 /// reached.
 #[derive(Drop)]
 pub struct Taking {
-    pub choices: List<u32>,
+    pub choices: List<usize>,
     pub sorts: List<SortId>,
     pub lits: List<Lit>,
 }
@@ -32,7 +33,8 @@ pub struct Reached {
 }
 
 /// The path that the choices take through the formula, and the clause that it reaches.
-pub fn reached_by(alloc: Global, form: &Form, choices: &[u32]) -> Result<Reached, Memory>
+pub fn reached_by(alloc: Global, form: &Form, choices: &[usize]) -> Result<Reached, Memory>
+    requires small { norm_size_of form.now ≤ 2 ^ 32 }
     ensures { IfOk result (λ made. IsTaken form.now choices.now made) }
 {
     let mut taking = Taking {
@@ -57,11 +59,12 @@ pub fn reached_by(alloc: Global, form: &Form, choices: &[u32]) -> Result<Reached
 
 // The numbers below this one, in order.
 fn numbers_below(alloc: Global, count: usize) -> Result<List<u32>, Memory>
+    requires few { count ≤ 2 ^ 32 }
     ensures { IfOk result (λ numbers. near numbers ≡ down 0 count) }
 {
     let mut numbers = List::new(alloc);
     for i in 0..count {
-        numbers.push(number(i)?)?;
+        numbers.push(i as u32)?;
     }
     Ok(numbers)
 }
@@ -75,6 +78,7 @@ fn take(
     names: &mut List<u32>,
     taking: &mut Taking,
 ) -> Result<Path, Memory>
+    requires small { length taking.old.sorts + norm_size_of form.now ≤ 2 ^ 32 }
     ensures { IfOk result (λ path. (path ≡ ((opening [] form.now).take (near names.old) (state_of taking.old)).path)
         × (state_of taking.new ≡ ((opening [] form.now).take (near names.old) (state_of taking.old)).rest)
         × (names.new ≡ names.old)) }
@@ -86,7 +90,7 @@ fn take(
             Ok(Path::Each(paths))
         }
         Form::All(sort, body) => {
-            names.push(number(taking.sorts.len())?)?;
+            names.push(taking.sorts.len() as u32)?;
             taking.sorts.push(*sort)?;
             let path = take(body.get(), alloc, names, taking)?;
             names.pop();
@@ -109,6 +113,7 @@ fn take_pick(
     names: &mut List<u32>,
     taking: &mut Taking,
 ) -> Result<Path, Memory>
+    requires small { length taking.old.sorts + sum (map norm_size_of members.now) ≤ 2 ^ 32 }
     ensures { IfOk result (λ path. (path
         ≡ (pick_taken (map (opening []) members.now) (near names.old) (state_of taking.old)
         (state_of taking.old).choices).path)
@@ -118,12 +123,11 @@ fn take_pick(
 {
     match taking.choices.pop() {
         Some(choice) => {
-            let at = choice as usize;
-            if at >= members.len() {
+            if choice >= members.len() {
                 return Ok(Path::Leaf);
             }
-            let path = take(&members[at], alloc, names, taking)?;
-            Ok(Path::Pick(choice, Boxed::new(alloc, path)?))
+            let path = take(&members[choice], alloc, names, taking)?;
+            Ok(Path::Pick(choice as u32, Boxed::new(alloc, path)?))
         }
         None => Ok(Path::Leaf),
     }
@@ -137,6 +141,7 @@ fn take_each(
     names: &mut List<u32>,
     taking: &mut Taking,
 ) -> Result<List<Path>, Memory>
+    requires small { length taking.old.sorts + sum (map norm_size_of members.now) ≤ 2 ^ 32 }
     ensures { IfOk result (λ paths. (paths
         ≡ (each_taken (map (opening []) members.now) (near names.old) (state_of taking.old)).paths)
         × (state_of taking.new

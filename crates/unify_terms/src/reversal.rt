@@ -3,8 +3,8 @@ ghost use Rattle.std.specs.Prelude.{◌≡◌, reverse, IfOk};
 use std::alloc::Global;
 use tptp_base::{List, Memory};
 
-/// The numbers, the last one first.
-pub fn reversed(alloc: Global, items: List<u32>) -> Result<List<u32>, Memory>
+/// The list, the last member first.
+pub fn reversed<T: Drop>(alloc: Global, items: List<T>) -> Result<List<T>, Memory>
     ensures { IfOk result (λ list. list ≡ reverse items) }
 {
     let mut list = List::new(alloc);

@@ -23,12 +23,11 @@ use tptp_base::{List, Memory};
 #[derive(Drop)]
 pub struct Solution {
     pub subst: Subst,
-    pub choices: List<u32>,
+    pub choices: List<usize>,
 }
 
 /// A substitution that meets the goal, with the choices that it meets it under; None exactly where there is none. The
-/// members of an Any are tried in their order, and the first that leads to a substitution is taken. A member after
-/// the 2^32nd, whose number no choice can tell, is answered by want of memory.
+/// members of an Any are tried in their order, and the first that leads to a substitution is taken.
 pub fn solve(
     alloc: Global,
     signature: &Signature,
@@ -203,9 +202,6 @@ fn with_choice(found: Solution, at: usize) -> Result<Solution, Memory>
 {
     let Solution { subst, choices } = found;
     let mut choices = choices;
-    match u32::try_from(at) {
-        Ok(at) => choices.push(at)?,
-        Err(_) => return Err(Memory),
-    }
+    choices.push(at)?;
     Ok(Solution { subst, choices })
 }

@@ -1,10 +1,10 @@
-use Rattle.std.proofs.Common.{◌∙◌}
+use Rattle.std.proofs.Common.{◌∙◌, refl}
 use Rattle.clause_rules.proofs.PlaceCode.{listed_more, added}
 use Rattle.clause_rules.proofs.places.+add_term.Goals as goal
 
 pub add_all-loop-at-preserved : goal.add_all-loop-at-preserved
 add_all-loop-at-preserved t c =
-    listed_more c.args.terms.now c.loop-at.at c.in_ok-number.field-0 c.args.places.now c.args.steps.now c.loop-at.places c.loop-at.steps c.index-terms-at.result c.add_at.new.places c.add_at.new.steps c.loop-at-test.true c.index-terms-at.is c.in_ok-number.ensures c.loop-at.invariant c.in_ok-add_at.ensures
+    listed_more c.args.terms.now c.loop-at.at c.loop-at.at c.args.places.now c.args.steps.now c.loop-at.places c.loop-at.steps c.index-terms-at.result c.add_at.new.places c.add_at.new.steps c.loop-at-test.true c.index-terms-at.is refl c.loop-at.invariant c.in_ok-add_at.ensures
 
 pub add_term-returns-in-App : goal.add_term-returns-in-App
 add_term-returns-in-App t c =

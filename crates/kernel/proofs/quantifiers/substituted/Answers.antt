@@ -24,11 +24,11 @@ instantiate-requires-in-Some c =
     let sort = right_sort c.args.theory.now.vocabulary (scope_sorts c.args.scope.now) c.in-Some.left.now c.in-Some.right.now c.args.sort (c.requires.sorted _ c.in-Some.ensures.some) (c.if-not-has_sort.ensures.0 refl) in
     reach_of_body c.args.theory.now.vocabulary (scope_sorts c.args.scope.now) c.in-Some.right.now c.args.sort c.args.body.now c.requires.scope sort (c.if-not-body_fits.ensures.0 refl)
 
-pub returns-in_ok-new-in-Some : goal.returns-in_ok-new-in-Some
-returns-in_ok-new-in-Some c =
+pub returns-in_ok-whole-in-Some : goal.returns-in_ok-whole-in-Some
+returns-in_ok-whole-in-Some c =
     let same : c.get.result.now ≡ instance_at c.in-Some.left.now 0 c.args.body.now = search rules in
     let at : c.args.shown.now ≡ Some (instance_at c.in-Some.left.now 0 c.args.body.now) = rw (← same) (c.if-not-is_shown.ensures.0 refl) in
-    λ h p q cp cq. subst_yes c.args.theory.now (scope_sorts c.args.scope.now) h c.args.sort c.args.body.now p q c.args.sides.now c.args.shown.now (Some c.in_ok-new-in-Some.field-0) c.in-Some.left.now c.in-Some.right.now cp cq c.in-Some.ensures.some (c.if-not-has_sort.ensures.0 refl) (c.if-not-body_fits.ensures.0 refl) at (search rules)
+    λ h p q cp cq. subst_yes c.args.theory.now (scope_sorts c.args.scope.now) h c.args.sort c.args.body.now p q c.args.sides.now c.args.shown.now (Some _) c.in-Some.left.now c.in-Some.right.now cp cq c.in-Some.ensures.some (c.if-not-has_sort.ensures.0 refl) (c.if-not-body_fits.ensures.0 refl) at (search rules)
 
 pub returns-in-None : goal.returns-in-None
 returns-in-None c = λ h p q cp cq. subst_none c.args.theory.now (scope_sorts c.args.scope.now) h c.args.sort c.args.body.now p q c.args.sides.now cp c.in-None.ensures.none

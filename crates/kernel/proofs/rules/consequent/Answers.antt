@@ -1,12 +1,11 @@
 use Rattle.std.proofs.Common.{refl}
-use Rattle.kernel.proofs.Concluded.{ok_map, not_true, imp_e_yes, imp_e_no, imp_e_none}
+use Rattle.kernel.proofs.Concluded.{not_true, imp_e_yes, imp_e_no}
 use Rattle.kernel.proofs.rules.consequent.Goals as goal
 
-pub returns-then-is_shown : goal.returns-then-is_shown
-returns-then-is_shown c = ok_map c.copied.result (λ r e t v h p q cp cq. imp_e_yes t v h p q c.args.whole.now c.args.shown.now r c.in-Some.left.now c.in-Some.right.now cp cq c.in-Some.ensures.some (c.if-is_shown.ensures.0 refl) e) c.copied.ensures
+pub returns-then-is_antecedent : goal.returns-then-is_antecedent
+returns-then-is_antecedent c = λ t v h p q cp cq.
+    let s = c.if-is_antecedent.ensures.0 refl in
+    imp_e_yes t v h p q c.args.whole c.args.shown.now c.right_of.result s.0 s.1 cp cq s.2 s.3 (c.right_of.ensures.imp s.0 s.1 s.2)
 
-pub returns-else-is_shown : goal.returns-else-is_shown
-returns-else-is_shown c = λ t v h p q cp cq. imp_e_no t v h p q c.args.whole.now c.args.shown.now c.in-Some.left.now c.in-Some.right.now cp cq c.in-Some.ensures.some (λ e. absurd (not_true (c.if-is_shown.ensures.1 e)))
-
-pub returns-in-None : goal.returns-in-None
-returns-in-None c = λ t v h p q cp cq. imp_e_none t v h p q c.args.whole.now cp c.in-None.ensures.none
+pub returns : goal.returns
+returns c = λ t v h p q cp cq. imp_e_no t v h p q c.args.whole c.args.shown.now cp cq (λ s. absurd (not_true (c.if-is_antecedent.ensures.1 s)))

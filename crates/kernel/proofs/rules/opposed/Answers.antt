@@ -2,8 +2,8 @@ use Rattle.std.proofs.Common.{rules, refl, Some}
 use Rattle.kernel.proofs.Concluded.{not_true, not_e_yes, not_e_no, not_e_none}
 use Rattle.kernel.proofs.rules.opposed.Goals as goal
 
-pub returns-in_ok-new-in-Some : goal.returns-in_ok-new-in-Some
-returns-in_ok-new-in-Some c = λ t v h p q cp cq. not_e_yes t v h p q c.args.denied.now c.args.shown.now (Some c.in_ok-new-in-Some.field-0) c.in-Some.body.now cp cq c.in-Some.ensures.some (c.if-is_shown.ensures.0 refl) (search (rules, c.in_ok-new-in-Some.ensures))
+pub returns-in_ok-whole-in-Some : goal.returns-in_ok-whole-in-Some
+returns-in_ok-whole-in-Some c = λ t v h p q cp cq. not_e_yes t v h p q c.args.denied.now c.args.shown.now (Some _) c.in-Some.body.now cp cq c.in-Some.ensures.some (c.if-is_shown.ensures.0 refl) (search rules)
 
 pub returns-else-is_shown : goal.returns-else-is_shown
 returns-else-is_shown c = λ t v h p q cp cq. not_e_no t v h p q c.args.denied.now c.args.shown.now c.in-Some.body.now cp cq c.in-Some.ensures.some (λ e. absurd (not_true (c.if-is_shown.ensures.1 e)))

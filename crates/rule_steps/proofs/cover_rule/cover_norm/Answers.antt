@@ -1,8 +1,14 @@
+use Rattle.std.proofs.Common.{ap, arith, length}
+use Rattle.std.proofs.lemmas.List.{length-reverse}
 use Rattle.clause_form.specs.Covers.{scope_of}
 use Rattle.rule_steps.proofs.CoverEnds.{reached_found}
+use Rattle.rule_steps.proofs.GoalSorts.{few_sorts}
 use Rattle.rule_steps.proofs.CoverTop.{few_in_goal, goal_is_sorted, no_cover, some_cover, sorts_as, asks_as}
 use Rattle.clause_rules.proofs.Firsts.{ok_map}
 use Rattle.rule_steps.proofs.cover_rule.cover_norm.Goals as goal
+
+pub open-requires : goal.open-requires
+open-requires c = omega (arith, ap length c.in_ok-sorts.ensures, length-reverse c.args.line.now.sorts, few_sorts c.as_slice.result.now c.args.norm.now, c.requires.line.few, c.requires.small)
 
 pub solution_of-requires-clause-few : goal.solution_of-requires-clause-few
 solution_of-requires-clause-few c =

@@ -1,6 +1,5 @@
-use Rattle.std.proofs.Common.{below_more, refl, subst, sym}
-use Rattle.rule_steps.specs.code.EqFactorSearch.{FoundInParents}
-use Rattle.clause_rules.proofs.Firsts.{there_at, ok_map}
+use Rattle.std.proofs.Common.{below_more}
+use Rattle.clause_rules.proofs.Firsts.{there_at}
 use Rattle.rule_steps.proofs.FactorLoops.{none_in_slot, found_in_slot, none_among}
 use Rattle.rule_steps.proofs.eqfactor_rule.factor_among.Goals as goal
 
@@ -15,5 +14,4 @@ returns c = none_among c.args.sig.now c.args.clauses.now c.args.line.now c.loop-
 pub returns-in-Some : goal.returns-in-Some
 returns-in-Some c =
     let there = there_at c.args.clauses.now c.loop-a.a c.index-clauses-a.result c.loop-a-test.true c.index-clauses-a.is in
-    ok_map c.justified.result (λ just e. subst (FoundInParents c.args.sig.now c.args.clauses.now c.args.line.now) (sym e)
-    (found_in_slot c.args.sig.now c.args.clauses.now c.args.line.now c.loop-a.a _ there c.in_ok-found.found c.in-Some.factor _ c.in-Some.is c.in_ok-found.ensures refl)) c.justified.ensures
+    found_in_slot c.args.sig.now c.args.clauses.now c.args.line.now c.loop-a.a _ there c.in_ok-found.found c.in-Some.factor _ c.in-Some.is c.in_ok-found.ensures c.justified.ensures

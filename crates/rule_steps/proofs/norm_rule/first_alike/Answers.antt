@@ -1,12 +1,10 @@
-use Rattle.std.proofs.Common.{subst, sym, below_more}
+use Rattle.std.proofs.Common.{below_more}
 use Rattle.std.proofs.lemmas.Option.{slice_get-get_or}
-use Rattle.rule_steps.specs.code.NormRule.{IsFirstAlike}
 use Rattle.rule_steps.proofs.NormSteps.{alike_at, not_alike_at, alike_nowhere}
 use Rattle.rule_steps.proofs.norm_rule.first_alike.Goals as goal
 
 pub returns-then-is_alike : goal.returns-then-is_alike
 returns-then-is_alike c =
-    subst (IsFirstAlike c.args.parents.now c.args.made.now) (sym c.in_ok-number.ensures)
     (alike_at c.args.parents.now c.args.made.now c.loop-at.at _ (slice_get-get_or c.args.parents.now c.loop-at.at c.index-parents-at.result c.loop-at-test.true) c.in_ok-is_alike.is_alike c.in_ok-is_alike.ensures c.if-is_alike.true, c.loop-at.invariant)
 
 pub loop-at-preserved : goal.loop-at-preserved

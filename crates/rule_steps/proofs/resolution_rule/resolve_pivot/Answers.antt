@@ -1,7 +1,6 @@
-use Rattle.std.proofs.Common.{below_more, refl, subst, sym}
-use Rattle.rule_steps.specs.code.ResolutionSearch.{FoundPivot}
+use Rattle.std.proofs.Common.{below_more, subst}
 use Rattle.substitution_search.specs.Screens.{NeverPivot}
-use Rattle.clause_rules.proofs.Firsts.{there_at, ok_map}
+use Rattle.clause_rules.proofs.Firsts.{there_at}
 use Rattle.rule_steps.proofs.ResolutionLoops.{no_pivot, none_in_slot, found_in_slot, none_with}
 use Rattle.rule_steps.proofs.resolution_rule.resolve_pivot.Goals as goal
 
@@ -21,5 +20,4 @@ returns c = none_with c.args.sig.now c.args.clauses.now c.args.line.now c.args.l
 pub returns-in-Some : goal.returns-in-Some
 returns-in-Some c =
     let there = there_at c.args.clauses.now c.loop-b.b c.index-clauses-b.result c.loop-b-test.true c.index-clauses-b.is in
-    ok_map c.justified.result (λ just e. subst (FoundPivot c.args.sig.now c.args.clauses.now c.args.left.now c.args.line.now c.args.a c.args.i) (sym e)
-    (found_in_slot c.args.sig.now c.args.clauses.now c.args.line.now c.args.left.now c.loop-b.b _ there c.args.a c.args.i c.in_ok-found.found c.in-Some.found _ c.in-Some.is c.in_ok-found.ensures refl)) c.justified.ensures
+    found_in_slot c.args.sig.now c.args.clauses.now c.args.line.now c.args.left.now c.loop-b.b _ there c.args.a c.args.i c.in_ok-found.found c.in-Some.found _ c.in-Some.is c.in_ok-found.ensures c.justified.ensures

@@ -1,0 +1,14 @@
+use Rattle.std.proofs.Common.{◌↔◌, drop, take}
+use Rattle.fof_terms.specs.Scope.{scope_sorts}
+use Rattle.kernel.specs.code.Hypotheses.{hypotheses}
+use Rattle.kernel.specs.code.Concludes.{EachUnder}
+use Rattle.kernel.proofs.ConcludedLists.{AllFound}
+use Rattle.kernel.proofs.+conclude_in.Given as goal
+
+abbrev pub invariant-deduction::all_conclude-loop-i : goal.invariant-deduction::all_conclude-loop-i
+invariant-deduction::all_conclude-loop-i l =
+    EachUnder l.reach.theory.now (scope_sorts l.reach.scope.now) (hypotheses l.reach.hyps.now) l.goal (drop l.i l.cases) (drop l.i l.members)
+    ↔ EachUnder l.reach.theory.now (scope_sorts l.reach.scope.now) (hypotheses l.reach.hyps.now) l.goal l.cases l.members
+
+abbrev pub invariant-deduction::each_concluded-loop-part : goal.invariant-deduction::each_concluded-loop-part
+invariant-deduction::each_concluded-loop-part l = AllFound l.reach.theory.now (scope_sorts l.reach.scope.now) (hypotheses l.reach.hyps.now) (take l.part-index l.parts) l.forms
