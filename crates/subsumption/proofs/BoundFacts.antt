@@ -2,7 +2,9 @@
 use Rattle.std.proofs.Common.{ℕ, ◌≡◌, ◌<◌, ◌≤◌, List, [], ◌∷◌, ◌++◌, length, map, replicate, get_or, IsTrue, ◌↔◌, Option, Some, None, refl, sym, ap, subst, ◌∙◌, zero, suc, inl, inr, arith, append_assoc, append-nil, Bool, true, false}
 use Rattle.std.specs.Option.{option_map}
 use Rattle.std.specs.Borrow.{Bor}
-use Rattle.std.proofs.Math.ListN.{set}
+use Rattle.std.proofs.Math.ListN.{set, take, drop}
+use Rattle.std.proofs.Math.Seq.{take-append_seam}
+use Rattle.std.specs.List.{refill}
 use Rattle.std.proofs.lemmas.List.{length-set, get_or-set_same, get_or-set_other, get_or-map, map-set, length-map}
 use Rattle.std.proofs.lemmas.Bool.{cases_eq}
 use Rattle.fof_terms.specs.declared.term.Term.{Term, Var}
@@ -38,14 +40,22 @@ over_then a b c h g = record {
   size = g.size ∙ h.size;
 }
 
--- an image as it was read
-pub image_read : (b : Bindings) (k : ℕ) (o : Option (Bor Term)) → k < length (images_of b) → o ≡ get_or b.images.items k o → get_or (images_of b) k None ≡ option_map (λ r. r.now) o
-image_read b k o h e =
+-- an image as it was read from a lent list
+pub image_lent : (b : Bindings) (lent : List (Option (Bor Term))) (k : ℕ) (d o : Option (Bor Term)) → k < length (images_of b) → lent ≡ b.images.items → get_or lent k d ≡ o
+    → get_or (images_of b) k None ≡ option_map (λ r. r.now) o
+image_lent b lent k d o h same e =
     let within : k < length b.images.items = subst (λ n. k < n) (length-map b.images.items (option_map (λ r. r.now))) h in
-    get_or-map (option_map (λ r. r.now)) b.images.items k o None within ∙ ap (option_map (λ r. r.now)) (sym e)
+    get_or-map (option_map (λ r. r.now)) b.images.items k d None within ∙ ap (option_map (λ r. r.now)) (ap (λ xs. get_or xs k d) (sym same) ∙ e)
 
-pub image_written : (items : List (Option (Bor Term))) (k : ℕ) (r : Bor Term) → map (option_map (λ r. r.now)) (set items k (Some r)) ≡ set (map (option_map (λ r. r.now)) items) k (Some r.now)
-image_written items k r = map-set (option_map (λ r. r.now)) items k (Some r)
+refill_same : {X : Type 0} (xs ws : List X) → length ws ≡ length xs → refill (length xs) xs ws ≡ ws
+refill_same xs ws e = ap (λ n. take n (ws ++ drop (length ws) xs)) (sym e) ∙ take-append_seam ws (drop (length ws) xs)
+
+-- and as it was written to one
+pub image_written : (items lent : List (Option (Bor Term))) (k : ℕ) (o : Option (Bor Term)) → lent ≡ items
+    → map (option_map (λ r. r.now)) (refill (length items) items (set lent k o)) ≡ set (map (option_map (λ r. r.now)) items) k (option_map (λ r. r.now) o)
+image_written items lent k o same =
+    ap (λ xs. map (option_map (λ r. r.now)) (refill (length items) items (set xs k o))) same ∙ ap (map (option_map (λ r. r.now))) (refill_same items (set items k o) (length-set items k o))
+    ∙ map-set (option_map (λ r. r.now)) items k o
 
 -- a variable that was free is bound
 pub over_one : (old new : Bindings) (k : ℕ) (t : Term) → get_or (images_of old) k None ≡ None → images_of new ≡ set (images_of old) k (Some t) → trail_of new ≡ trail_of old ++ k ∷ [] → IsOver old new

@@ -1,10 +1,8 @@
 -- Variables are let go one by one, the last one first.
-use Rattle.std.proofs.Common.{ℕ, ◌≡◌, ◌+◌, ◌≤◌, List, [], ◌∷◌, ◌++◌, length, map, Option, None, refl, sym, ap, subst, ◌∙◌, arith, append_assoc, append-nil}
+use Rattle.std.proofs.Common.{ℕ, ◌≡◌, ◌+◌, ◌≤◌, List, [], ◌∷◌, ◌++◌, length, None, refl, sym, ap, subst, ◌∙◌, arith, append_assoc, append-nil}
 use Rattle.std.specs.Option.{option_map}
-use Rattle.std.specs.Borrow.{Bor}
 use Rattle.std.proofs.Math.ListN.{set}
-use Rattle.std.proofs.lemmas.List.{length-append, map-set, length-map}
-use Rattle.fof_terms.specs.declared.term.Term.{Term}
+use Rattle.std.proofs.lemmas.List.{length-append, length-map}
 use Rattle.subsumption.specs.declared.bindings.Bindings.{Bindings}
 use Rattle.subsumption.specs.code.Bound.{images_of, trail_of, cleared, IsUndone}
 use Rattle.subsumption.proofs.BoundFacts.{set_past}
@@ -24,9 +22,6 @@ one_more old mid new k h trail images = record {
   trail = h.trail ∙ ap (λ xs. xs ++ h.gone) trail ∙ append_assoc (trail_of new) (k ∷ []) h.gone;
   images = images ∙ ap (λ xs. set xs k None) h.images;
 }
-
-pub one_cleared : (items : List (Option (Bor Term))) (k : ℕ) → map (option_map (λ r. r.now)) (set items k None) ≡ set (map (option_map (λ r. r.now)) items) k None
-one_cleared items k = map-set (option_map (λ r. r.now)) items k None
 
 -- a variable past the end has no image
 pub none_cleared : (b : Bindings) (k : ℕ) → length b.images.items ≤ k → images_of b ≡ set (images_of b) k None

@@ -4,14 +4,16 @@ ghost use Rattle.subsumption.specs.code.Bound.{images_of, trail_of, IsOver, IsUn
 ghost use Rattle.subsumption.specs.code.Matched.{IsMatched, KeepsSort};
 
 use fof_terms::{Term, equal_term};
+use smallvec::SmallVec;
 use std::alloc::Global;
 use tptp_base::Memory;
 
-/// What the variables of a member are bound to, and which of them are bound, in order.
+/// What the variables of a member are bound to, and which of them are bound, in order. For few variables that takes no
+/// memory.
 #[derive(Drop)]
 pub struct Bindings<'a> {
-    images: Vec<Option<&'a Term>>,
-    trail: Vec<u32>,
+    images: SmallVec<Option<&'a Term>, 16>,
+    trail: SmallVec<u32, 16>,
 }
 
 /// So many variables, none of which is bound.
@@ -19,13 +21,13 @@ pub fn no_bindings<'a>(alloc: Global, variables: usize) -> Result<Bindings<'a>, 
     ensures images { IfOk result (λ b. images_of b ≡ replicate variables None) }
     ensures trail { IfOk result (λ b. trail_of b ≡ []) }
 {
-    let mut images = Vec::with_capacity(alloc, variables)?;
+    let mut images = SmallVec::with_capacity(alloc, variables)?;
     for _ in 0..variables {
         images.push(None)?;
     }
     Ok(Bindings {
         images,
-        trail: Vec::new(alloc),
+        trail: SmallVec::new(alloc),
     })
 }
 

@@ -9,6 +9,7 @@ use crate::screening::all_fit;
 use crate::task::Task;
 use clause_form::Clause;
 use fof_terms::Signature;
+use smallvec::SmallVec;
 use std::alloc::Global;
 use tptp_base::Memory;
 
@@ -44,7 +45,7 @@ fn have_places(alloc: Global, task: &Task<'_>) -> Result<bool, Memory>
         IsTrue answer ↔ Subsumes task.now.signature.now task.now.member.now task.now.clause.now) }
 {
     let mut bindings = no_bindings(alloc, task.member.sorts.len())?;
-    let mut taken = Vec::with_capacity(alloc, task.clause.lits.len())?;
+    let mut taken: SmallVec<bool, 16> = SmallVec::with_capacity(alloc, task.clause.lits.len())?;
     for _ in 0..task.clause.lits.len() {
         taken.push(false)?;
     }

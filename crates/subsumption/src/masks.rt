@@ -36,8 +36,8 @@ pub fn mask_of(clause: &Clause) -> u64
     bits
 }
 
-/// Whether the second mask has each bit of the first. Where it lacks one, no clause of the first mask subsumes one of the
-/// second.
+/// Whether the second mask has each bit of the first. Where it lacks one, no clause of the first mask subsumes one of
+/// the second.
 pub fn is_within(bits: u64, others: u64) -> bool
     ensures { IsTrue result ↔ HasNoMore bits others }
 {

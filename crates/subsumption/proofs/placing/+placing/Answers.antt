@@ -1,4 +1,4 @@
-use Rattle.std.proofs.Common.{◌<◌, ◌∙◌, sym, ap, subst, arith, true}
+use Rattle.std.proofs.Common.{◌<◌, ◌∙◌, sym, ap, subst, arith}
 use Rattle.std.proofs.lemmas.Option.{slice_get_within}
 use Rattle.std.proofs.lemmas.List.{length-set}
 use Rattle.clause_form.specs.declared.clause.Lit.{Lit}
@@ -30,7 +30,7 @@ place_from-returns t c =
 
 pub place_in_way-bounds-taken-place-2 : goal.place_in_way-bounds-taken-place-2
 place_in_way-bounds-taken-place-2 t c =
-    let size = c.place_from.auto.taken ∙ length-set c.args.taken.now c.args.place true in
+    let size = c.place_from.auto.taken ∙ length-set c.args.taken.now c.args.place _ in
     let within = slice_get_within c.args.taken.now c.args.place _ c.requires.free in
     omega arith
 
