@@ -1,7 +1,7 @@
 // What a proof concludes.
 ghost use Rattle.std.specs.Prelude.{ℕ, ◌≡◌, IfOk, reverse};
 ghost use Rattle.kernel.specs.Concludes.{Concludes, IsContext};
-ghost use Rattle.kernel.specs.code.Reaching.{Reaches, Shows, ShowsUnder, ShowsOver, ShowsOverUnder, ShowsAll, ShowsEach};
+ghost use Rattle.kernel.specs.code.Reaching.{Reaches, Shows, ShowsUnder, ShowsOver, ShowsOverUnder, ShowsEach};
 
 use crate::context::{Context, Hypotheses, Reach, hypothesis};
 use crate::finding::Shown;
@@ -16,7 +16,7 @@ use crate::theory::Theory;
 use crate::views::is_shown;
 use fof_terms::{Form, MAX_VARIABLES, Scope, SortId, well_sorted_in};
 use std::alloc::Global;
-use tptp_base::{List, Memory};
+use tptp_base::Memory;
 
 /// The formula that the rules give; None exactly where they give none. The context is well-sorted.
 pub fn conclude(
@@ -86,6 +86,7 @@ pub fn conclude_in<'f>(
 }
 
 // What the part concludes under the hypothesis, if that is well-sorted.
+#[inline(always)]
 #[cycle(conclude_in)]
 pub fn under<'f>(
     alloc: Global,
@@ -110,6 +111,7 @@ pub fn under<'f>(
 }
 
 // What the part concludes over one variable more.
+#[inline(always)]
 #[cycle(conclude_in)]
 pub fn over<'f>(
     alloc: Global,
@@ -135,6 +137,7 @@ pub fn over<'f>(
 }
 
 // What the part concludes over one variable more, under the hypothesis, if that is well-sorted.
+#[inline(always)]
 #[cycle(conclude_in)]
 pub fn over_under<'f>(
     alloc: Global,
@@ -158,26 +161,6 @@ pub fn over_under<'f>(
         room: reach.room - 1,
     };
     under(alloc, &inner, part, assumed)
-}
-
-// What each part concludes, if each concludes something.
-#[cycle(conclude_in)]
-pub fn each_concluded<'f>(
-    alloc: Global,
-    reach: &Reach<'f, '_>,
-    parts: &'f [Proof],
-) -> Result<Option<List<Form>>, Memory>
-    requires { Reaches reach.now }
-    ensures { IfOk result (λ found. ShowsAll reach.now parts.now found) }
-{
-    let mut forms = List::new(alloc);
-    for part in parts {
-        match conclude_in(alloc, reach, part)? {
-            Some(finding) => forms.push(finding.into_boxed(alloc)?.into_inner())?,
-            None => return Ok(None),
-        }
-    }
-    Ok(Some(forms))
 }
 
 // Whether each proof concludes the goal under the member at its place.

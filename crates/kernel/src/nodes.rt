@@ -6,12 +6,12 @@ ghost use Rattle.kernel.specs.declared.proof.Proof.{Raa, IffI, IffL, IffR, AllI,
 ghost use Rattle.kernel.specs.code.Reaching.{Reaches, Shows};
 
 use crate::context::Reach;
-use crate::deduction::{all_conclude, conclude_in, each_concluded, over, over_under, under};
+use crate::deduction::{all_conclude, conclude_in, over, over_under, under};
 use crate::finding::Shown;
 use crate::proof::Proof;
 use crate::quantifiers::{generalized, same_over, specialized, substituted, witnessed};
 use crate::rules::{
-    conjoined, conjunct, consequent, denial, equivalent, implied, kept, left_side, negated,
+    add, conjoined, conjunct, consequent, denial, equivalent, implied, kept, left_side, negated,
     opposed, or_introduced, right_side,
 };
 use crate::views::{disjunction, existential, is_falsehood};
@@ -30,8 +30,14 @@ pub fn and_i<'f>(
     requires { Reaches reach.now }
     ensures { IfOk result (λ answer. Shows reach.now (AndI parts.now) answer) }
 {
-    let found = each_concluded(alloc, reach, parts)?;
-    conjoined(alloc, found)
+    let mut forms = List::new(alloc);
+    for part in parts {
+        let shown = conclude_in(alloc, reach, part)?;
+        if !add(alloc, &mut forms, shown)? {
+            return Ok(None);
+        }
+    }
+    conjoined(alloc, forms)
 }
 
 /// A member of the conjunction.

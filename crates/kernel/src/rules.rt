@@ -1,14 +1,13 @@
 // The rules of the connectives: what a node concludes, from what its parts conclude.
-ghost use Rattle.std.specs.Prelude.{ℕ, ◌≡◌, ◌↔◌, List, Some, IsTrue, IfOk, slice_get};
+ghost use Rattle.std.specs.Prelude.{ℕ, ◌≡◌, ◌↔◌, List, [], ◌∷◌, ◌++◌, Some, None, IsTrue, IfOk, slice_get};
 ghost use Rattle.std.specs.Option.{option_copied};
 ghost use Rattle.fof_terms.specs.Sorts.{IsScope, Sorted};
 ghost use Rattle.fof_terms.specs.Scope.{scope_sorts};
 ghost use Rattle.fof_terms.specs.declared.form.Form.{Form as Formula, Not, And, Imp, Iff};
-ghost use Rattle.kernel.specs.declared.proof.Proof.{Proof as Deduction, Line, AndI, AndE, OrI, ImpI, ImpE, NotI, NotE, IffI};
+ghost use Rattle.kernel.specs.declared.proof.Proof.{Proof as Deduction, Line, AndE, OrI, ImpI, ImpE, NotI, NotE, IffI};
 ghost use Rattle.kernel.specs.declared.proof.Proof.{IffL, IffR};
 ghost use Rattle.kernel.specs.Statements.{Statements};
 ghost use Rattle.kernel.specs.Concludes.{Concludes};
-ghost use Rattle.kernel.specs.code.Rules.{ProveAll};
 ghost use Rattle.kernel.specs.code.Concludes.{ConcludesUnder, Kept};
 
 use crate::context::given;
@@ -34,21 +33,29 @@ pub fn line<'f>(theory: &'f Theory, number: u64) -> Shown<'f>
     }
 }
 
-/// The conjunction of what was concluded, if each part concluded something.
+/// Puts what was shown at the end, if something was.
 #[inline(never)]
-pub fn conjoined<'f>(alloc: Global, found: Option<List<Form>>) -> Result<Shown<'f>, Memory>
-    ensures { IfOk result (λ answer. (t : Statements) (v : List ℕ) (h : List Formula) (parts : List Deduction)
-        → IsScope t.vocabulary v
-        → ((as_ : List Formula) → (found ≡ Some as_) ↔ ProveAll t v h parts as_)
-        → Concludes t v h (AndI parts) answer) }
+pub fn add(alloc: Global, forms: &mut List<Form>, shown: Shown<'_>) -> Result<bool, Memory>
+    ensures some { IfOk result (λ is_added. IsTrue is_added
+        → (a : Formula) × (shown.entry ≡ Some a) × (forms.new ≡ forms.old ++ a ∷ [])) }
+    ensures none { IfOk result (λ is_added. (IsTrue is_added → ⊥) → shown.entry ≡ None) }
 {
-    match found {
-        Some(forms) => {
-            let whole = Boxed::new(alloc, Form::And(forms))?;
-            Ok(Some(Finding::made(whole)))
+    match shown {
+        Some(finding) => {
+            forms.push(finding.into_boxed(alloc)?.into_inner())?;
+            Ok(true)
         }
-        None => Ok(None),
+        None => Ok(false),
     }
+}
+
+/// The conjunction of the formulas.
+#[inline(never)]
+pub fn conjoined<'f>(alloc: Global, forms: List<Form>) -> Result<Shown<'f>, Memory>
+    ensures { IfOk result (λ answer. answer ≡ Some (And forms)) }
+{
+    let whole = Boxed::new(alloc, Form::And(forms))?;
+    Ok(Some(Finding::made(whole)))
 }
 
 /// The negation of the formula, in memory of its own.

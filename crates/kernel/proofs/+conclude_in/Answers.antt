@@ -1,4 +1,4 @@
-use Rattle.std.proofs.Common.{rules, IsTrue, ◌↔◌, ◌≡◌, ◌∷◌, ◌∙◌, arith, get_or, sym, subst, ap, refl, take, ◌++◌, ◌+◌, [], Some}
+use Rattle.std.proofs.Common.{rules, None, IsTrue, ◌↔◌, ◌≡◌, ◌∷◌, ◌∙◌, arith, get_or, sym, subst, ap, refl, take, ◌++◌, ◌+◌, [], Some}
 use Rattle.std.proofs.lemmas.List.{take_more, take_all}
 use Rattle.fof_terms.specs.Sorts.{Sorted}
 use Rattle.fof_terms.specs.Scope.{scope_sorts}
@@ -13,7 +13,7 @@ use Rattle.kernel.specs.code.Concludes.{ConcludesUnder, EachUnder, Kept}
 use Rattle.kernel.specs.declared.proof.Proof.{IffI}
 use Rattle.kernel.proofs.Concluded.{ok_map, not_true, hyp_shown}
 use Rattle.kernel.proofs.ConcludedOver.{ex_e_some, ex_e_none, inhabit_shown}
-use Rattle.kernel.proofs.ConcludedLists.{reach_under, reach_over, reach_lifts, shown_fits, under_yes, over_no, over_under_no, or_e_some, or_e_none, raa_shown, each_length, each_at, each_end, AllFound, found_none, found_more, found_missing, found_all}
+use Rattle.kernel.proofs.ConcludedLists.{reach_under, reach_over, reach_lifts, shown_fits, under_yes, over_no, over_under_no, or_e_some, or_e_none, raa_shown, each_length, each_at, each_end, AllFound, and_i_some, and_i_none, found_none, found_more, found_missing, found_all}
 use Rattle.kernel.proofs.+conclude_in.Goals as goal
 
 pub deduction::all_conclude-returns-then-cases-members : goal.deduction::all_conclude-returns-then-cases-members
@@ -46,19 +46,6 @@ deduction::all_conclude-returns t c = (
   λ e. refl,
 )
 
-pub deduction::each_concluded-loop-part-init : goal.deduction::each_concluded-loop-part-init
-deduction::each_concluded-loop-part-init t c = subst (AllFound c.args.reach.now.theory.now (scope_sorts c.args.reach.now.scope.now) (hypotheses c.args.reach.now.hyps.now) []) (sym c.new-forms.ensures) (found_none c.args.reach.now.theory.now (scope_sorts c.args.reach.now.scope.now) (hypotheses c.args.reach.now.hyps.now))
-
-pub deduction::each_concluded-returns-in-None : goal.deduction::each_concluded-returns-in-None
-deduction::each_concluded-returns-in-None t c = λ as_. (
-  λ e. cc,
-  λ w. absurd (found_missing c.args.reach.now.theory.now (scope_sorts c.args.reach.now.scope.now) (hypotheses c.args.reach.now.hyps.now) c.args.parts.now c.loop-part.part-index c.part-item.result c.part-item.result c.in_ok-finding.field-0 c.loop-part-test.true (sym c.part-item.is) c.in_ok-finding.ensures c.in-None.is as_ w),
-)
-
-pub deduction::each_concluded-returns : goal.deduction::each_concluded-returns
-deduction::each_concluded-returns t c =
-    found_all c.args.reach.now.theory.now (scope_sorts c.args.reach.now.scope.now) (hypotheses c.args.reach.now.hyps.now) c.args.parts.now c.loop-part.forms (subst (λ ps. AllFound c.args.reach.now.theory.now (scope_sorts c.args.reach.now.scope.now) (hypotheses c.args.reach.now.hyps.now) ps c.loop-part.forms) (take_all c.loop-part.part-index c.args.parts.now c.loop-part-test.false) c.loop-part.invariant)
-
 pub deduction::over-returns-then-not-has_room : goal.deduction::over-returns-then-not-has_room
 deduction::over-returns-then-not-has_room t c = over_no c.args.reach.now.theory.now (scope_sorts c.args.reach.now.scope.now) (all_over (hypotheses c.args.reach.now.hyps.now)) c.args.sort c.args.reach.now.room c.args.part.now c.requires.room_left (λ has. absurd (not_true (c.if-not-has_room.ensures.1 has)))
 
@@ -70,16 +57,6 @@ deduction::conclude_in-hypothesis-requires t c = reach_lifts c.args.reach.now.th
 
 pub deduction::conclude_in-returns-in-Hyp : goal.deduction::conclude_in-returns-in-Hyp
 deduction::conclude_in-returns-in-Hyp t c = rw c.in-Hyp.is (ok_map c.hypothesis.result (λ r e. hyp_shown c.args.reach.now.theory.now (scope_sorts c.args.reach.now.scope.now) (hypotheses c.args.reach.now.hyps.now) c.in-Hyp.number r c.requires.hyps_sorted e) c.hypothesis.ensures)
-
-pub deduction::each_concluded-loop-part-preserved : goal.deduction::each_concluded-loop-part-preserved
-deduction::each_concluded-loop-part-preserved t c =
-    let shown : c.in_ok-finding.field-0 ≡ Some c.into_inner.result = search (rules, c.in-Some.is, c.into_inner.ensures, c.in_ok-into_boxed-in-Some.ensures) in
-    let more : AllFound c.args.reach.now.theory.now (scope_sorts c.args.reach.now.scope.now) (hypotheses c.args.reach.now.hyps.now) (take c.loop-part.part-index c.args.parts.now ++ c.part-item.result ∷ []) (c.loop-part.forms ++ c.into_inner.result ∷ []) =
-    found_more c.args.reach.now.theory.now (scope_sorts c.args.reach.now.scope.now) (hypotheses c.args.reach.now.hyps.now) (take c.loop-part.part-index c.args.parts.now) c.loop-part.forms c.part-item.result c.in_ok-finding.field-0 c.into_inner.result c.loop-part.invariant c.in_ok-finding.ensures shown in
-    let longer : take (c.loop-part.part-index + 1) c.args.parts.now ≡ take c.loop-part.part-index c.args.parts.now ++ c.part-item.result ∷ [] =
-    take_more c.args.parts.now c.loop-part.part-index c.part-item.result c.loop-part-test.true ∙ ap (λ p. take c.loop-part.part-index c.args.parts.now ++ p ∷ []) (sym c.part-item.is) in
-    subst (λ ps. AllFound c.args.reach.now.theory.now (scope_sorts c.args.reach.now.scope.now) (hypotheses c.args.reach.now.hyps.now) ps c.push.new.self) (sym longer)
-    (subst (AllFound c.args.reach.now.theory.now (scope_sorts c.args.reach.now.scope.now) (hypotheses c.args.reach.now.hyps.now) (take c.loop-part.part-index c.args.parts.now ++ c.part-item.result ∷ [])) (sym c.in_ok-push-in-Some.ensures.ok) more)
 
 pub deduction::over-conclude_in-requires : goal.deduction::over-conclude_in-requires
 deduction::over-conclude_in-requires t c = (search (rules, the_lemmas), rw (scope_sorts-Under, hypotheses-Over) (reach_over c.args.reach.now.theory.now.vocabulary (scope_sorts c.args.reach.now.scope.now) (hypotheses c.args.reach.now.hyps.now) c.args.reach.now.room c.args.sort c.requires (c.if-not-has_room.ensures.0 refl)))
@@ -102,9 +79,6 @@ pub deduction::under-returns : goal.deduction::under-returns
 deduction::under-returns t c =
     let fits : Sorted c.args.reach.now.theory.now.vocabulary (scope_sorts c.args.reach.now.scope.now) c.args.assumed.now = rw c.signature.ensures at (c.if-not-well_sorted_in.ensures.0 refl) in
     ok_map c.conclude_in.result (λ r k. under_yes c.args.reach.now.theory.now (scope_sorts c.args.reach.now.scope.now) (hypotheses c.args.reach.now.hyps.now) c.args.assumed.now c.args.part.now r fits k) (rw hypotheses-Under at c.conclude_in.ensures)
-
-pub nodes::and_i-returns : goal.nodes::and_i-returns
-nodes::and_i-returns t c = ok_map c.conjoined.result (λ r k. k c.args.reach.now.theory.now (scope_sorts c.args.reach.now.scope.now) (hypotheses c.args.reach.now.hyps.now) c.args.parts.now c.requires.scope_fits c.in_ok-found.ensures) c.conjoined.ensures
 
 pub nodes::all_e-specialized-requires : goal.nodes::all_e-specialized-requires
 nodes::all_e-specialized-requires t c = shown_fits c.args.reach.now.theory.now (scope_sorts c.args.reach.now.scope.now) (hypotheses c.args.reach.now.hyps.now) _ _ c.in_ok-shown.ensures
@@ -154,3 +128,27 @@ nodes::raa-returns t c =
 
 pub nodes::subst-substituted-requires-clause-sorted : goal.nodes::subst-substituted-requires-clause-sorted
 nodes::subst-substituted-requires-clause-sorted t c = shown_fits c.args.reach.now.theory.now (scope_sorts c.args.reach.now.scope.now) (hypotheses c.args.reach.now.hyps.now) _ _ c.in_ok-sides.ensures
+
+pub nodes::and_i-loop-part-init : goal.nodes::and_i-loop-part-init
+nodes::and_i-loop-part-init t c = subst (AllFound c.args.reach.now.theory.now (scope_sorts c.args.reach.now.scope.now) (hypotheses c.args.reach.now.hyps.now) []) (sym c.new-forms.ensures) (found_none c.args.reach.now.theory.now (scope_sorts c.args.reach.now.scope.now) (hypotheses c.args.reach.now.hyps.now))
+
+pub nodes::and_i-returns-then-not-branch : goal.nodes::and_i-returns-then-not-branch
+nodes::and_i-returns-then-not-branch t c =
+    let none : c.in_ok-shown.shown ≡ None = c.in_ok-add.ensures.none (λ yes. not_true (rw c.if-not-branch.true at yes)) in
+    and_i_none c.args.reach.now.theory.now (scope_sorts c.args.reach.now.scope.now) (hypotheses c.args.reach.now.hyps.now) c.args.parts.now None (λ as_. (
+      λ e. cc,
+      λ w. absurd (found_missing c.args.reach.now.theory.now (scope_sorts c.args.reach.now.scope.now) (hypotheses c.args.reach.now.hyps.now) c.args.parts.now c.loop-part.part-index c.part-item.result c.part-item.result c.in_ok-shown.shown c.loop-part-test.true (sym c.part-item.is) c.in_ok-shown.ensures none as_ w),
+    )) refl
+
+pub nodes::and_i-loop-part-preserved : goal.nodes::and_i-loop-part-preserved
+nodes::and_i-loop-part-preserved t c =
+    let put = c.in_ok-add.ensures.some c.if-not-branch.false in
+    let more : AllFound c.args.reach.now.theory.now (scope_sorts c.args.reach.now.scope.now) (hypotheses c.args.reach.now.hyps.now) (take c.loop-part.part-index c.args.parts.now ++ c.part-item.result ∷ []) (c.loop-part.forms ++ put.0 ∷ []) =
+    found_more c.args.reach.now.theory.now (scope_sorts c.args.reach.now.scope.now) (hypotheses c.args.reach.now.hyps.now) (take c.loop-part.part-index c.args.parts.now) c.loop-part.forms c.part-item.result c.in_ok-shown.shown put.0 c.loop-part.invariant c.in_ok-shown.ensures put.1 in
+    let longer : take (c.loop-part.part-index + 1) c.args.parts.now ≡ take c.loop-part.part-index c.args.parts.now ++ c.part-item.result ∷ [] =
+    take_more c.args.parts.now c.loop-part.part-index c.part-item.result c.loop-part-test.true ∙ ap (λ p. take c.loop-part.part-index c.args.parts.now ++ p ∷ []) (sym c.part-item.is) in
+    subst (λ ps. AllFound c.args.reach.now.theory.now (scope_sorts c.args.reach.now.scope.now) (hypotheses c.args.reach.now.hyps.now) ps c.add.new.forms) (sym longer) (subst (AllFound c.args.reach.now.theory.now (scope_sorts c.args.reach.now.scope.now) (hypotheses c.args.reach.now.hyps.now) (take c.loop-part.part-index c.args.parts.now ++ c.part-item.result ∷ [])) (sym put.2) more)
+
+pub nodes::and_i-returns : goal.nodes::and_i-returns
+nodes::and_i-returns t c = ok_map c.conjoined.result (λ r e. and_i_some c.args.reach.now.theory.now (scope_sorts c.args.reach.now.scope.now) (hypotheses c.args.reach.now.hyps.now) c.args.parts.now (Some c.loop-part.forms) r c.loop-part.forms c.requires.scope_fits
+    (found_all c.args.reach.now.theory.now (scope_sorts c.args.reach.now.scope.now) (hypotheses c.args.reach.now.hyps.now) c.args.parts.now c.loop-part.forms (subst (λ ps. AllFound c.args.reach.now.theory.now (scope_sorts c.args.reach.now.scope.now) (hypotheses c.args.reach.now.hyps.now) ps c.loop-part.forms) (take_all c.loop-part.part-index c.args.parts.now c.loop-part-test.false) c.loop-part.invariant)) refl e) c.conjoined.ensures

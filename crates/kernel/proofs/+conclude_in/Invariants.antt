@@ -10,5 +10,5 @@ invariant-deduction::all_conclude-loop-i l =
     EachUnder l.reach.theory.now (scope_sorts l.reach.scope.now) (hypotheses l.reach.hyps.now) l.goal (drop l.i l.cases) (drop l.i l.members)
     ↔ EachUnder l.reach.theory.now (scope_sorts l.reach.scope.now) (hypotheses l.reach.hyps.now) l.goal l.cases l.members
 
-abbrev pub invariant-deduction::each_concluded-loop-part : goal.invariant-deduction::each_concluded-loop-part
-invariant-deduction::each_concluded-loop-part l = AllFound l.reach.theory.now (scope_sorts l.reach.scope.now) (hypotheses l.reach.hyps.now) (take l.part-index l.parts) l.forms
+abbrev pub invariant-nodes::and_i-loop-part : goal.invariant-nodes::and_i-loop-part
+invariant-nodes::and_i-loop-part l = AllFound l.reach.theory.now (scope_sorts l.reach.scope.now) (hypotheses l.reach.hyps.now) (take l.part-index l.parts) l.forms

@@ -7,7 +7,6 @@ use Rattle.kernel.specs.declared.proof.Proof.{Proof}
 use Rattle.kernel.specs.code.Hypotheses.{hypotheses}
 use Rattle.kernel.specs.Proves.{all_over}
 use Rattle.kernel.specs.Concludes.{Concludes}
-use Rattle.kernel.specs.code.Rules.{ProveAll}
 use Rattle.kernel.specs.code.Concludes.{ConcludesUnder, EachUnder, IsReach}
 
 -- the variables and the hypotheses are well-sorted, and the room is what is left
@@ -30,11 +29,6 @@ ShowsOver r sort p answer = Concludes r.theory.now (sort ∷ scope_sorts r.scope
 abbrev pub ShowsOverUnder : Reach → ℕ → Form → Proof → Option Form → Type 0
 ShowsOverUnder r sort b p answer =
     ConcludesUnder r.theory.now (sort ∷ scope_sorts r.scope.now) (all_over (hypotheses r.hyps.now)) b p answer
-
--- the answers are what the proofs conclude, if each concludes something
-abbrev pub ShowsAll : Reach → List Proof → Option (List Form) → Type 0
-ShowsAll r ps found = (as_ : List Form)
-    → (found ≡ Some as_) ↔ ProveAll r.theory.now (scope_sorts r.scope.now) (hypotheses r.hyps.now) ps as_
 
 -- each proof concludes the goal under the member at its place
 abbrev pub ShowsEach : Reach → Form → List Proof → List Form → Bool → Type 0
