@@ -46,8 +46,8 @@ fn found(alloc: Global, signature: &mut Signature, line: &Line<'_>) -> Result<St
         "conjunction" => forms::conjunction(alloc, line),
         "unify" | "agree" | "solve" | "circle" => unifiers::found(alloc, signature, line),
         "step" => steps::found(alloc, signature, line),
-        "order" | "sides" | "clash" | "weighs" | "eligible" | "partners" | "blind"
-        | "subsumes" => searches::found(alloc, signature, line),
+        "order" | "sides" | "clash" | "weighs" | "eligible" | "partners" | "blind" | "subsumes" =>
+            searches::found(alloc, signature, line),
         _ => bail!("no such call"),
     }
 }

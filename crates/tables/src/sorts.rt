@@ -1,17 +1,25 @@
 // Whether clauses are well-sorted.
-ghost use Rattle.std.specs.Prelude.{◌≡◌, ◌↔◌, IsTrue, reverse, true};
+ghost use Rattle.std.specs.Prelude.{◌≡◌, IsTrue, true};
+ghost use Rattle.std.specs.List.{All as Each};
 ghost use Rattle.clause_form.specs.Covers.{AreSorted, is_sorted_atom, scope_of};
 ghost use Rattle.fof_terms.specs.Scope.{scope_sorts};
 
-use clause_form::{AtomOf, Clause};
+use clause_form::{AtomOf, Clause, Lit};
 use fof_terms::{Kind, Scope, Signature, have_sorts, sort_of};
 
 /// Whether the literals of a clause are well-sorted over its sorts.
 pub fn are_sorted_lits(signature: &Signature, clause: &Clause) -> bool
-    ensures { IsTrue result ↔ AreSorted signature.now (scope_of clause.now) clause.now.lits }
+    ensures { IsTrue result → AreSorted signature.now (scope_of clause.now) clause.now.lits }
 {
-    for lit in clause.lits.as_slice() {
-        if !is_sorted(signature, &lit.atom, &Scope::Outside(clause.sorts.as_slice())) {
+    let scope = Scope::Outside(clause.sorts.as_slice());
+    all_sorted(signature, clause.lits.as_slice(), &scope)
+}
+
+fn all_sorted(signature: &Signature, lits: &[Lit], scope: &Scope<'_>) -> bool
+    ensures { IsTrue result → Each (λ l. is_sorted_atom signature.now (scope_sorts scope.now) l.atom ≡ true) lits.now }
+{
+    for lit in lits {
+        if !is_sorted(signature, &lit.atom, scope) {
             return false;
         }
     }
