@@ -1,5 +1,6 @@
 // What a proof concludes.
-ghost use Rattle.std.specs.Prelude.{ℕ, ◌≡◌, IfOk, reverse};
+ghost use Rattle.std.specs.Prelude.{ℕ, ◌≡◌, ◌↔◌, Ok, Option, Some, IsTrue, IfOk, reverse};
+ghost use Rattle.fof_terms.specs.declared.form.Form.{Form as Formula};
 ghost use Rattle.kernel.specs.Concludes.{Concludes, IsContext};
 ghost use Rattle.kernel.specs.code.Reaching.{Reaches, Shows, ShowsUnder, ShowsOver, ShowsOverUnder, ShowsEach};
 
@@ -57,7 +58,7 @@ pub fn conclude_in<'f>(
     ensures { IfOk result (λ answer. Shows reach.now proof.now answer) }
 {
     match proof {
-        Proof::Line(number) => Ok(line(reach.theory, *number)),
+        Proof::Line(number) => line(reach.theory, *number),
         Proof::Hyp(number) => hypothesis(alloc, reach.hyps, *number),
         Proof::AndI(parts) => and_i(alloc, reach, parts.as_slice()),
         Proof::AndE(member, part) => and_e(alloc, reach, *member, part.get()),
@@ -179,10 +180,19 @@ pub fn all_conclude<'f>(
         return Ok(false);
     }
     for i in 0..cases.len() {
-        let shown = under(alloc, reach, &cases[i], &members[i])?;
-        if !is_shown(&shown, goal) {
+        let answer = under(alloc, reach, &cases[i], &members[i]);
+        if !is_concluded(answer, goal)? {
             return Ok(false);
         }
     }
     Ok(true)
+}
+
+// Whether the answer is the goal.
+#[inline(never)]
+fn is_concluded(answer: Result<Shown<'_>, Memory>, goal: &Form) -> Result<bool, Memory>
+    ensures { IfOk result (λ is. (shown : Option Formula) × (answer.entry ≡ Ok shown)
+        × (IsTrue is ↔ (shown ≡ Some goal.now))) }
+{
+    Ok(is_shown(&answer?, goal))
 }

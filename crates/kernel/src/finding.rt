@@ -232,6 +232,7 @@ impl<'f> Finding<'f> {
     }
 
     /// The formula, in memory of its own.
+    #[inline(never)]
     pub fn into_boxed(self, alloc: Global) -> Result<Boxed<Form>, Memory>
         ensures { IfOk result (λ form. form ≡ self.entry) }
     {
@@ -255,6 +256,7 @@ impl<'f> Finding<'f> {
     }
 
     /// The formula over one variable more.
+    #[inline(never)]
     pub fn over(self, alloc: Global) -> Result<Finding<'f>, Memory>
         requires { lift_reach 1 0 self < 2 ^ 32 }
         ensures { IfOk result (λ moved. moved ≡ lifted 1 0 self.entry) }

@@ -32,8 +32,8 @@ pub fn and_i<'f>(
 {
     let mut forms = List::new(alloc);
     for part in parts {
-        let shown = conclude_in(alloc, reach, part)?;
-        if !add(alloc, &mut forms, shown)? {
+        let answer = conclude_in(alloc, reach, part);
+        if !add(alloc, &mut forms, answer)? {
             return Ok(None);
         }
     }
@@ -88,7 +88,7 @@ pub fn or_e<'f>(alloc: Global, reach: &Reach<'f, '_>, proof: &'f Proof) -> Resul
         None => Ok(None),
         Some(members) => {
             let all = all_conclude(alloc, &*reach, cases.as_slice(), members, goal.get())?;
-            Ok(kept(reach.theory, reach.scope, goal.get(), all))
+            kept(reach.theory, reach.scope, goal.get(), all)
         }
     }
 }
@@ -177,7 +177,7 @@ pub fn raa<'f>(
 {
     let denied = denial(alloc, goal)?;
     let shown = under(alloc, &*reach, &*part, denied.get())?;
-    Ok(kept(reach.theory, reach.scope, goal, is_falsehood(&shown)))
+    kept(reach.theory, reach.scope, goal, is_falsehood(&shown))
 }
 
 /// The equivalence.

@@ -1,5 +1,5 @@
 // The rules of the connectives: what a node concludes, from what its parts conclude.
-ghost use Rattle.std.specs.Prelude.{ℕ, ◌≡◌, ◌↔◌, List, [], ◌∷◌, ◌++◌, Some, None, IsTrue, IfOk, slice_get};
+ghost use Rattle.std.specs.Prelude.{ℕ, ◌≡◌, ◌↔◌, List, [], ◌∷◌, ◌++◌, Ok, Option, Some, None, IsTrue, IfOk, slice_get};
 ghost use Rattle.std.specs.Option.{option_copied};
 ghost use Rattle.fof_terms.specs.Sorts.{IsScope, Sorted};
 ghost use Rattle.fof_terms.specs.Scope.{scope_sorts};
@@ -23,24 +23,28 @@ use tptp_base::{Boxed, List, Memory};
 
 /// The formula of the theory.
 #[inline(never)]
-pub fn line<'f>(theory: &'f Theory, number: u64) -> Shown<'f>
-    ensures { (v : List ℕ) (h : List Formula) → IsScope theory.now.vocabulary v
-        → Concludes theory.now v h (Line number) result }
+pub fn line<'f>(theory: &'f Theory, number: u64) -> Result<Shown<'f>, Memory>
+    ensures { IfOk result (λ answer. (v : List ℕ) (h : List Formula) → IsScope theory.now.vocabulary v
+        → Concludes theory.now v h (Line number) answer) }
 {
     match theory.formula(number) {
-        Some(form) => Some(Finding::given(form)),
-        None => None,
+        Some(form) => Ok(Some(Finding::given(form))),
+        None => Ok(None),
     }
 }
 
 /// Puts what was shown at the end, if something was.
 #[inline(never)]
-pub fn add(alloc: Global, forms: &mut List<Form>, shown: Shown<'_>) -> Result<bool, Memory>
-    ensures some { IfOk result (λ is_added. IsTrue is_added
-        → (a : Formula) × (shown.entry ≡ Some a) × (forms.new ≡ forms.old ++ a ∷ [])) }
-    ensures none { IfOk result (λ is_added. (IsTrue is_added → ⊥) → shown.entry ≡ None) }
+pub fn add(
+    alloc: Global,
+    forms: &mut List<Form>,
+    answer: Result<Shown<'_>, Memory>,
+) -> Result<bool, Memory>
+    ensures { IfOk result (λ is_added. (shown : Option Formula) × (answer.entry ≡ Ok shown)
+        × (IsTrue is_added → (a : Formula) × (shown ≡ Some a) × (forms.new ≡ forms.old ++ a ∷ []))
+        × ((IsTrue is_added → ⊥) → shown ≡ None)) }
 {
-    match shown {
+    match answer? {
         Some(finding) => {
             forms.push(finding.into_boxed(alloc)?.into_inner())?;
             Ok(true)
@@ -218,14 +222,19 @@ pub fn left_side<'f>(whole: Shown<'f>, shown: &Shown<'_>) -> Shown<'f>
 
 /// The goal, if it is well-sorted and the rest of its rule holds.
 #[inline(never)]
-pub fn kept<'f>(theory: &Theory, scope: &Scope<'_>, goal: &'f Form, holds: bool) -> Shown<'f>
+pub fn kept<'f>(
+    theory: &Theory,
+    scope: &Scope<'_>,
+    goal: &'f Form,
+    holds: bool,
+) -> Result<Shown<'f>, Memory>
     requires { IsScope theory.now.vocabulary (scope_sorts scope.now) }
-    ensures { Kept theory.now (scope_sorts scope.now) goal.now holds result }
+    ensures { IfOk result (λ answer. Kept theory.now (scope_sorts scope.now) goal.now holds answer) }
 {
     if holds && well_sorted_in(goal, theory.signature(), scope) {
-        Some(Finding::given(goal))
+        Ok(Some(Finding::given(goal)))
     } else {
-        None
+        Ok(None)
     }
 }
 

@@ -9,7 +9,7 @@ use Rattle.kernel.specs.code.Hypotheses.{hypotheses}
 use Rattle.kernel.proofs.HypothesesFacts.{hypotheses-Under, hypotheses-Over}
 use Rattle.kernel.specs.Proves.{Proves, all_over}
 use Rattle.kernel.specs.Concludes.{Concludes}
-use Rattle.kernel.specs.code.Concludes.{ConcludesUnder, EachUnder, Kept}
+use Rattle.kernel.specs.code.Concludes.{ConcludesUnder, EachUnder}
 use Rattle.kernel.specs.declared.proof.Proof.{IffI}
 use Rattle.kernel.proofs.Concluded.{ok_map, not_true, hyp_shown}
 use Rattle.kernel.proofs.ConcludedOver.{ex_e_some, ex_e_none, inhabit_shown}
@@ -19,22 +19,24 @@ use Rattle.kernel.proofs.+conclude_in.Goals as goal
 pub deduction::all_conclude-returns-then-cases-members : goal.deduction::all_conclude-returns-then-cases-members
 deduction::all_conclude-returns-then-cases-members t c = (λ no. absurd (not_true no), λ e. absurd (c.if-cases-members.true (each_length _ _ _ _ c.args.cases.now c.args.members.now e)))
 
-pub deduction::all_conclude-returns-then-not-is_shown : goal.deduction::all_conclude-returns-then-not-is_shown
-deduction::all_conclude-returns-then-not-is_shown t c = (
+pub deduction::all_conclude-returns-then-not-branch : goal.deduction::all_conclude-returns-then-not-branch
+deduction::all_conclude-returns-then-not-branch t c = (
   λ no. absurd (not_true no),
   λ e.
+      let s = c.in_ok-is_concluded.ensures in
       let here = (each_at c.args.reach.now.theory.now (scope_sorts c.args.reach.now.scope.now) (hypotheses c.args.reach.now.hyps.now) c.args.goal.now c.args.cases.now c.args.members.now c.loop-i.i c.index-cases-i.result c.index-members-i.result c.loop-i-test.true (omega (arith, c.if-cases-members.false))).0 (c.loop-i.invariant.1 e) in
-      let told : ConcludesUnder c.args.reach.now.theory.now (scope_sorts c.args.reach.now.scope.now) (hypotheses c.args.reach.now.hyps.now) c.index-members-i.result c.index-cases-i.result c.in_ok-shown.shown = c.in_ok-shown.ensures in
+      let told : ConcludesUnder c.args.reach.now.theory.now (scope_sorts c.args.reach.now.scope.now) (hypotheses c.args.reach.now.hyps.now) c.index-members-i.result c.index-cases-i.result s.0 = rw s.1 at c.under-answer.ensures in
       let proved : Sorted c.args.reach.now.theory.now.vocabulary (scope_sorts c.args.reach.now.scope.now) c.index-members-i.result × Proves c.args.reach.now.theory.now (scope_sorts c.args.reach.now.scope.now) (c.index-members-i.result ∷ hypotheses c.args.reach.now.hyps.now) c.index-cases-i.result c.args.goal.now
       = rw (c.index-members-i.is, c.index-cases-i.is) here.0 in
-      c.if-not-is_shown.ensures.1 ((told c.args.goal.now).1 proved),
+      rw c.if-not-branch.true at (s.2.1 ((told c.args.goal.now).1 proved)),
 )
 
 pub deduction::all_conclude-loop-i-preserved : goal.deduction::all_conclude-loop-i-preserved
 deduction::all_conclude-loop-i-preserved t c =
+    let s = c.in_ok-is_concluded.ensures in
     let at = each_at c.args.reach.now.theory.now (scope_sorts c.args.reach.now.scope.now) (hypotheses c.args.reach.now.hyps.now) c.args.goal.now c.args.cases.now c.args.members.now c.loop-i.i c.index-cases-i.result c.index-members-i.result c.loop-i-test.true (omega (arith, c.if-cases-members.false)) in
-    let told : ConcludesUnder c.args.reach.now.theory.now (scope_sorts c.args.reach.now.scope.now) (hypotheses c.args.reach.now.hyps.now) c.index-members-i.result c.index-cases-i.result c.in_ok-shown.shown = c.in_ok-shown.ensures in
-    let proved = (told c.args.goal.now).0 (c.if-not-is_shown.ensures.0 refl) in
+    let told : ConcludesUnder c.args.reach.now.theory.now (scope_sorts c.args.reach.now.scope.now) (hypotheses c.args.reach.now.hyps.now) c.index-members-i.result c.index-cases-i.result s.0 = rw s.1 at c.under-answer.ensures in
+    let proved = (told c.args.goal.now).0 (s.2.0 c.if-not-branch.false) in
     let proved' : Sorted c.args.reach.now.theory.now.vocabulary (scope_sorts c.args.reach.now.scope.now) (get_or c.args.members.now c.loop-i.i c.index-members-i.result)
     × Proves c.args.reach.now.theory.now (scope_sorts c.args.reach.now.scope.now) (get_or c.args.members.now c.loop-i.i c.index-members-i.result ∷ hypotheses c.args.reach.now.hyps.now) (get_or c.args.cases.now c.loop-i.i c.index-cases-i.result) c.args.goal.now
     = rw (← c.index-members-i.is, ← c.index-cases-i.is) proved in
@@ -118,13 +120,12 @@ pub nodes::or_e-returns : goal.nodes::or_e-returns
 nodes::or_e-returns t c =
     let told : Concludes c.args.reach.now.theory.now (scope_sorts c.args.reach.now.scope.now) (hypotheses c.args.reach.now.hyps.now) c.in-OrE.part c.in_ok-shown.shown = rw c.get.ensures at c.in_ok-shown.ensures in
     let each : IsTrue c.in_ok-all-in-Some.all ↔ EachUnder c.args.reach.now.theory.now (scope_sorts c.args.reach.now.scope.now) (hypotheses c.args.reach.now.hyps.now) c.in-OrE.goal c.in-OrE.cases c.in-Some.members.now = rw (c.as_slice.ensures, c.get-in-Some.ensures) at c.in_ok-all-in-Some.ensures in
-    let keep : Kept c.args.reach.now.theory.now (scope_sorts c.args.reach.now.scope.now) c.in-OrE.goal c.in_ok-all-in-Some.all c.kept.result = rw c.get-in-Some-2.ensures at c.kept.ensures in
-    rw c.in-OrE.is (or_e_some c.args.reach.now.theory.now (scope_sorts c.args.reach.now.scope.now) (hypotheses c.args.reach.now.hyps.now) c.in-OrE.goal c.in-OrE.part c.in-OrE.cases c.in-Some.members.now c.in_ok-shown.shown c.in_ok-all-in-Some.all c.kept.result c.in-Some.ensures.some each keep told)
+    rw c.in-OrE.is (ok_map c.kept.result (λ r k. or_e_some c.args.reach.now.theory.now (scope_sorts c.args.reach.now.scope.now) (hypotheses c.args.reach.now.hyps.now) c.in-OrE.goal c.in-OrE.part c.in-OrE.cases c.in-Some.members.now c.in_ok-shown.shown c.in_ok-all-in-Some.all r c.in-Some.ensures.some each k told) (rw c.get-in-Some-2.ensures at c.kept.ensures))
 
 pub nodes::raa-returns : goal.nodes::raa-returns
 nodes::raa-returns t c =
     let told : ConcludesUnder c.args.reach.now.theory.now (scope_sorts c.args.reach.now.scope.now) (hypotheses c.args.reach.now.hyps.now) (Not c.args.goal.now) c.args.part.now c.in_ok-shown.shown = rw (c.get.ensures, c.in_ok-denied.ensures) at c.in_ok-shown.ensures in
-    raa_shown c.args.reach.now.theory.now (scope_sorts c.args.reach.now.scope.now) (hypotheses c.args.reach.now.hyps.now) c.args.goal.now c.args.part.now c.in_ok-shown.shown c.is_falsehood.result c.kept.result told c.is_falsehood.ensures c.kept.ensures
+    ok_map c.kept.result (λ r k. raa_shown c.args.reach.now.theory.now (scope_sorts c.args.reach.now.scope.now) (hypotheses c.args.reach.now.hyps.now) c.args.goal.now c.args.part.now c.in_ok-shown.shown c.is_falsehood.result r told c.is_falsehood.ensures k) c.kept.ensures
 
 pub nodes::subst-substituted-requires-clause-sorted : goal.nodes::subst-substituted-requires-clause-sorted
 nodes::subst-substituted-requires-clause-sorted t c = shown_fits c.args.reach.now.theory.now (scope_sorts c.args.reach.now.scope.now) (hypotheses c.args.reach.now.hyps.now) _ _ c.in_ok-sides.ensures
@@ -134,17 +135,21 @@ nodes::and_i-loop-part-init t c = subst (AllFound c.args.reach.now.theory.now (s
 
 pub nodes::and_i-returns-then-not-branch : goal.nodes::and_i-returns-then-not-branch
 nodes::and_i-returns-then-not-branch t c =
-    let none : c.in_ok-shown.shown ≡ None = c.in_ok-add.ensures.none (λ yes. not_true (rw c.if-not-branch.true at yes)) in
+    let s = c.in_ok-add.ensures in
+    let told : Concludes c.args.reach.now.theory.now (scope_sorts c.args.reach.now.scope.now) (hypotheses c.args.reach.now.hyps.now) c.part-item.result s.0 = rw s.1 at c.conclude_in-answer.ensures in
+    let none : s.0 ≡ None = s.3 (λ yes. not_true (rw c.if-not-branch.true at yes)) in
     and_i_none c.args.reach.now.theory.now (scope_sorts c.args.reach.now.scope.now) (hypotheses c.args.reach.now.hyps.now) c.args.parts.now None (λ as_. (
       λ e. cc,
-      λ w. absurd (found_missing c.args.reach.now.theory.now (scope_sorts c.args.reach.now.scope.now) (hypotheses c.args.reach.now.hyps.now) c.args.parts.now c.loop-part.part-index c.part-item.result c.part-item.result c.in_ok-shown.shown c.loop-part-test.true (sym c.part-item.is) c.in_ok-shown.ensures none as_ w),
+      λ w. absurd (found_missing c.args.reach.now.theory.now (scope_sorts c.args.reach.now.scope.now) (hypotheses c.args.reach.now.hyps.now) c.args.parts.now c.loop-part.part-index c.part-item.result c.part-item.result s.0 c.loop-part-test.true (sym c.part-item.is) told none as_ w),
     )) refl
 
 pub nodes::and_i-loop-part-preserved : goal.nodes::and_i-loop-part-preserved
 nodes::and_i-loop-part-preserved t c =
-    let put = c.in_ok-add.ensures.some c.if-not-branch.false in
+    let s = c.in_ok-add.ensures in
+    let told : Concludes c.args.reach.now.theory.now (scope_sorts c.args.reach.now.scope.now) (hypotheses c.args.reach.now.hyps.now) c.part-item.result s.0 = rw s.1 at c.conclude_in-answer.ensures in
+    let put = s.2 c.if-not-branch.false in
     let more : AllFound c.args.reach.now.theory.now (scope_sorts c.args.reach.now.scope.now) (hypotheses c.args.reach.now.hyps.now) (take c.loop-part.part-index c.args.parts.now ++ c.part-item.result ∷ []) (c.loop-part.forms ++ put.0 ∷ []) =
-    found_more c.args.reach.now.theory.now (scope_sorts c.args.reach.now.scope.now) (hypotheses c.args.reach.now.hyps.now) (take c.loop-part.part-index c.args.parts.now) c.loop-part.forms c.part-item.result c.in_ok-shown.shown put.0 c.loop-part.invariant c.in_ok-shown.ensures put.1 in
+    found_more c.args.reach.now.theory.now (scope_sorts c.args.reach.now.scope.now) (hypotheses c.args.reach.now.hyps.now) (take c.loop-part.part-index c.args.parts.now) c.loop-part.forms c.part-item.result s.0 put.0 c.loop-part.invariant told put.1 in
     let longer : take (c.loop-part.part-index + 1) c.args.parts.now ≡ take c.loop-part.part-index c.args.parts.now ++ c.part-item.result ∷ [] =
     take_more c.args.parts.now c.loop-part.part-index c.part-item.result c.loop-part-test.true ∙ ap (λ p. take c.loop-part.part-index c.args.parts.now ++ p ∷ []) (sym c.part-item.is) in
     subst (λ ps. AllFound c.args.reach.now.theory.now (scope_sorts c.args.reach.now.scope.now) (hypotheses c.args.reach.now.hyps.now) ps c.add.new.forms) (sym longer) (subst (AllFound c.args.reach.now.theory.now (scope_sorts c.args.reach.now.scope.now) (hypotheses c.args.reach.now.hyps.now) (take c.loop-part.part-index c.args.parts.now ++ c.part-item.result ∷ [])) (sym put.2) more)
