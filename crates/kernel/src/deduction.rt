@@ -180,8 +180,7 @@ pub fn all_conclude<'f>(
         return Ok(false);
     }
     for i in 0..cases.len() {
-        let answer = under(alloc, reach, &cases[i], &members[i]);
-        if !is_concluded(answer, goal)? {
+        if !is_concluded(under(alloc, reach, &cases[i], &members[i]), goal)? {
             return Ok(false);
         }
     }

@@ -32,8 +32,7 @@ pub fn and_i<'f>(
 {
     let mut forms = List::new(alloc);
     for part in parts {
-        let answer = conclude_in(alloc, reach, part);
-        if !add(alloc, &mut forms, answer)? {
+        if !add(alloc, &mut forms, conclude_in(alloc, reach, part))? {
             return Ok(None);
         }
     }

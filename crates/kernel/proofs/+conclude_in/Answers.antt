@@ -25,7 +25,7 @@ deduction::all_conclude-returns-then-not-branch t c = (
   λ e.
       let s = c.in_ok-is_concluded.ensures in
       let here = (each_at c.args.reach.now.theory.now (scope_sorts c.args.reach.now.scope.now) (hypotheses c.args.reach.now.hyps.now) c.args.goal.now c.args.cases.now c.args.members.now c.loop-i.i c.index-cases-i.result c.index-members-i.result c.loop-i-test.true (omega (arith, c.if-cases-members.false))).0 (c.loop-i.invariant.1 e) in
-      let told : ConcludesUnder c.args.reach.now.theory.now (scope_sorts c.args.reach.now.scope.now) (hypotheses c.args.reach.now.hyps.now) c.index-members-i.result c.index-cases-i.result s.0 = rw s.1 at c.under-answer.ensures in
+      let told : ConcludesUnder c.args.reach.now.theory.now (scope_sorts c.args.reach.now.scope.now) (hypotheses c.args.reach.now.hyps.now) c.index-members-i.result c.index-cases-i.result s.0 = rw s.1 at c.under.ensures in
       let proved : Sorted c.args.reach.now.theory.now.vocabulary (scope_sorts c.args.reach.now.scope.now) c.index-members-i.result × Proves c.args.reach.now.theory.now (scope_sorts c.args.reach.now.scope.now) (c.index-members-i.result ∷ hypotheses c.args.reach.now.hyps.now) c.index-cases-i.result c.args.goal.now
       = rw (c.index-members-i.is, c.index-cases-i.is) here.0 in
       rw c.if-not-branch.true at (s.2.1 ((told c.args.goal.now).1 proved)),
@@ -35,7 +35,7 @@ pub deduction::all_conclude-loop-i-preserved : goal.deduction::all_conclude-loop
 deduction::all_conclude-loop-i-preserved t c =
     let s = c.in_ok-is_concluded.ensures in
     let at = each_at c.args.reach.now.theory.now (scope_sorts c.args.reach.now.scope.now) (hypotheses c.args.reach.now.hyps.now) c.args.goal.now c.args.cases.now c.args.members.now c.loop-i.i c.index-cases-i.result c.index-members-i.result c.loop-i-test.true (omega (arith, c.if-cases-members.false)) in
-    let told : ConcludesUnder c.args.reach.now.theory.now (scope_sorts c.args.reach.now.scope.now) (hypotheses c.args.reach.now.hyps.now) c.index-members-i.result c.index-cases-i.result s.0 = rw s.1 at c.under-answer.ensures in
+    let told : ConcludesUnder c.args.reach.now.theory.now (scope_sorts c.args.reach.now.scope.now) (hypotheses c.args.reach.now.hyps.now) c.index-members-i.result c.index-cases-i.result s.0 = rw s.1 at c.under.ensures in
     let proved = (told c.args.goal.now).0 (s.2.0 c.if-not-branch.false) in
     let proved' : Sorted c.args.reach.now.theory.now.vocabulary (scope_sorts c.args.reach.now.scope.now) (get_or c.args.members.now c.loop-i.i c.index-members-i.result)
     × Proves c.args.reach.now.theory.now (scope_sorts c.args.reach.now.scope.now) (get_or c.args.members.now c.loop-i.i c.index-members-i.result ∷ hypotheses c.args.reach.now.hyps.now) (get_or c.args.cases.now c.loop-i.i c.index-cases-i.result) c.args.goal.now
@@ -136,7 +136,7 @@ nodes::and_i-loop-part-init t c = subst (AllFound c.args.reach.now.theory.now (s
 pub nodes::and_i-returns-then-not-branch : goal.nodes::and_i-returns-then-not-branch
 nodes::and_i-returns-then-not-branch t c =
     let s = c.in_ok-add.ensures in
-    let told : Concludes c.args.reach.now.theory.now (scope_sorts c.args.reach.now.scope.now) (hypotheses c.args.reach.now.hyps.now) c.part-item.result s.0 = rw s.1 at c.conclude_in-answer.ensures in
+    let told : Concludes c.args.reach.now.theory.now (scope_sorts c.args.reach.now.scope.now) (hypotheses c.args.reach.now.hyps.now) c.part-item.result s.0 = rw s.1 at c.conclude_in.ensures in
     let none : s.0 ≡ None = s.3 (λ yes. not_true (rw c.if-not-branch.true at yes)) in
     and_i_none c.args.reach.now.theory.now (scope_sorts c.args.reach.now.scope.now) (hypotheses c.args.reach.now.hyps.now) c.args.parts.now None (λ as_. (
       λ e. cc,
@@ -146,7 +146,7 @@ nodes::and_i-returns-then-not-branch t c =
 pub nodes::and_i-loop-part-preserved : goal.nodes::and_i-loop-part-preserved
 nodes::and_i-loop-part-preserved t c =
     let s = c.in_ok-add.ensures in
-    let told : Concludes c.args.reach.now.theory.now (scope_sorts c.args.reach.now.scope.now) (hypotheses c.args.reach.now.hyps.now) c.part-item.result s.0 = rw s.1 at c.conclude_in-answer.ensures in
+    let told : Concludes c.args.reach.now.theory.now (scope_sorts c.args.reach.now.scope.now) (hypotheses c.args.reach.now.hyps.now) c.part-item.result s.0 = rw s.1 at c.conclude_in.ensures in
     let put = s.2 c.if-not-branch.false in
     let more : AllFound c.args.reach.now.theory.now (scope_sorts c.args.reach.now.scope.now) (hypotheses c.args.reach.now.hyps.now) (take c.loop-part.part-index c.args.parts.now ++ c.part-item.result ∷ []) (c.loop-part.forms ++ put.0 ∷ []) =
     found_more c.args.reach.now.theory.now (scope_sorts c.args.reach.now.scope.now) (hypotheses c.args.reach.now.hyps.now) (take c.loop-part.part-index c.args.parts.now) c.loop-part.forms c.part-item.result s.0 put.0 c.loop-part.invariant told put.1 in
