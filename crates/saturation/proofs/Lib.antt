@@ -1,0 +1,13 @@
+pub mod Asked
+pub mod Covered
+pub mod Entries
+pub mod Givens
+pub mod Greatest
+pub mod Lists
+pub mod MadeWith
+pub mod Naming
+pub mod Offering
+pub mod Placed
+pub mod Ruled
+pub mod Turns
+pub mod UnderWay

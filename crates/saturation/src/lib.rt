@@ -1,0 +1,23 @@
+//! A search for the empty clause that always takes the lightest clause that is open.
+#![tactic(auto)]
+
+mod asking;
+mod covering;
+mod entering;
+mod given;
+mod inferences;
+mod inferring;
+mod known;
+mod member;
+mod offers;
+mod outcome;
+mod pairing;
+mod queue;
+mod saturation;
+mod sifting;
+mod weighing;
+
+pub use inferences::Inferences;
+pub use member::{Member, Origin};
+pub use outcome::Outcome;
+pub use saturation::search_by;

@@ -1,0 +1,14 @@
+pub mod Additions
+pub mod BestMade
+pub mod ConclusionFacts
+pub mod Factored
+pub mod Gathered
+pub mod InferLaws
+pub mod LeftSorts
+pub mod NamedFacts
+pub mod NotedFacts
+pub mod PairFacts
+pub mod Posed
+pub mod Resolved
+pub mod Superposed
+pub mod Unifying

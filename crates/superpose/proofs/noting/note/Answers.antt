@@ -1,0 +1,5 @@
+use Rattle.superpose.proofs.NotedFacts.{noted_past, noted_there, noted_one, found_place}
+use Rattle.superpose.proofs.noting.note.Goals as goal
+
+pub returns : goal.returns
+returns c = noted_one c.args.count c.args.variable c.args.noted.now c.push.new.self (c.if-variable-count.false) c.in_ok-push.ensures.ok

@@ -1,0 +1,83 @@
+//! Equality factoring of two positive equations.
+ghost use Rattle.std.specs.Prelude.{◌≡◌, ◌<◌, ◌++◌, ◌∷◌, [], length, remove, IfOk};
+ghost use Rattle.clause_form.specs.Covers.{scope_of};
+ghost use Rattle.clause_rules.specs.Steps.{unequal};
+ghost use Rattle.clause_order.specs.Eligible.{IsEligible};
+ghost use Rattle.superpose.specs.Drafts.{IsClause};
+ghost use Rattle.superpose.specs.Inferences.{FactorsEquationsAt};
+ghost use Rattle.superpose.specs.Made.{IsBestAt};
+
+use crate::concluding::conclude;
+use crate::made::Made;
+use crate::pairing::pair_of;
+use crate::resolution::all_but;
+use crate::sides::sides_of;
+use clause_form::{AtomOf, Clause, Lit};
+use clause_rules::scope_of_clause;
+use fof_terms::{Signature, Term};
+use std::alloc::Global;
+use tptp_base::{List, Memory};
+use unify_terms::{Scope, unify};
+
+/// The most general clause that equality factoring makes of the positive equations i and j, each read from the side
+/// that is said. None exactly where no substitution makes one.
+pub fn factor_equations_at(
+    alloc: Global,
+    sig: &Signature,
+    c: &Clause,
+    i: usize,
+    first_flipped: bool,
+    j: usize,
+    second_flipped: bool,
+) -> Result<Option<Made>, Memory>
+    requires c { IsClause sig.now c.now }
+    requires i { i < length c.now.lits }
+    requires j { j < length c.now.lits }
+    requires first { IsEligible c.now.lits i }
+    ensures { IfOk result (λ found.
+        IsBestAt sig.now (scope_of c.now) (FactorsEquationsAt c.now i first_flipped j second_flipped) found) }
+{
+    if i == j {
+        return Ok(None);
+    }
+    let lits = c.lits.as_slice();
+    let first = match sides_of(&lits[i], first_flipped) {
+        Some(sides) => sides,
+        None => return Ok(None),
+    };
+    let second = match sides_of(&lits[j], second_flipped) {
+        Some(sides) => sides,
+        None => return Ok(None),
+    };
+    let pairs = pair_of(alloc, first.left, second.left)?;
+    let scope = Scope {
+        sorts: scope_of_clause(alloc, c)?,
+        rigid: 0,
+    };
+    match unify(alloc, sig, &scope, pairs.as_slice())? {
+        Some(subst) => {
+            let left = with_unequal(alloc, lits, i, first.right, second.right)?;
+            Ok(Some(conclude(alloc, scope.sorts.as_slice(), &subst, left.as_slice())?))
+        }
+        None => Ok(None),
+    }
+}
+
+// The literals but the one at the place, and then the denied equation.
+fn with_unequal(
+    alloc: Global,
+    lits: &[Lit],
+    at: usize,
+    left: &Term,
+    right: &Term,
+) -> Result<List<Lit>, Memory>
+    requires { at < length lits.now }
+    ensures { IfOk result (λ all. all ≡ remove lits.now at ++ unequal left.now right.now ∷ []) }
+{
+    let mut all = all_but(alloc, lits, at)?;
+    all.push(Lit {
+        positive: false,
+        atom: AtomOf::Eq(left.copy(alloc)?, right.copy(alloc)?),
+    })?;
+    Ok(all)
+}

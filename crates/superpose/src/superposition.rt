@@ -1,0 +1,122 @@
+//! Superposition at a place of a literal.
+ghost use Rattle.std.specs.Prelude.{◌≡◌, ◌<◌, length, slice_get, option_copied, Some, false, IfOk};
+ghost use Rattle.fof_terms.specs.declared.term.Term.{Term as Inner};
+ghost use Rattle.clause_rules.specs.Steps.{equation, scope_of_both};
+ghost use Rattle.clause_order.specs.Eligible.{IsEligible, IsNotLess};
+ghost use Rattle.superpose.specs.Drafts.{IsClause};
+ghost use Rattle.superpose.specs.Inferences.{SuperposesAt};
+ghost use Rattle.superpose.specs.Made.{IsBestAt};
+ghost use Rattle.superpose.specs.code.Placed.{AreReplaced, HasPart, NeverEqual, NoneStands};
+
+use crate::concluding::conclude;
+use crate::made::Made;
+use crate::pairing::pair_of;
+use crate::resolution::{all_but, scope_of_two};
+use crate::sides::sides_of;
+use crate::used::Side;
+use clause_form::{Clause, Lit, copy_lits};
+use clause_rules::{kept_apart, put_in, term_in};
+use fof_terms::{Signature, Term};
+use std::alloc::Global;
+use tptp_base::{List, Memory};
+use unify_terms::unify;
+
+/// The most general clause that superposition makes of a side of a positive equation of the first clause, at a place of
+/// literal j of the second clause. None exactly where no substitution makes one.
+pub fn superpose_at(
+    alloc: Global,
+    sig: &Signature,
+    c: &Clause,
+    d: &Clause,
+    side: Side,
+    j: usize,
+    place: &[usize],
+) -> Result<Option<Made>, Memory>
+    requires c { IsClause sig.now c.now }
+    requires d { IsClause sig.now d.now }
+    requires i { side.lit < length c.now.lits }
+    requires j { j < length d.now.lits }
+    requires first { IsEligible c.now.lits side.lit }
+    requires second { IsEligible d.now.lits j }
+    requires not_less { (l r : Inner) → slice_get c.now.lits side.lit ≡ Some (equation side.flipped l r)
+        → IsNotLess l r }
+    ensures { IfOk result (λ found. IsBestAt sig.now (scope_of_both c.now d.now)
+        (SuperposesAt c.now d.now side.lit side.flipped j place.now) found) }
+{
+    let lits = c.lits.as_slice();
+    let sides = match sides_of(&lits[side.lit], side.flipped) {
+        Some(sides) => sides,
+        None => return Ok(None),
+    };
+    if !may_stand_at(sides.left, &d.lits.as_slice()[j], place) {
+        return Ok(None);
+    }
+    let apart = kept_apart(alloc, sig, d, c.sorts.len() as u32)?;
+    let apart = apart.as_slice();
+    let target = &apart[j];
+    let part = match part_in(target, place) {
+        Some(part) => part,
+        None => return Ok(None),
+    };
+    let pairs = pair_of(alloc, sides.left, part)?;
+    let scope = scope_of_two(alloc, c, d)?;
+    match unify(alloc, sig, &scope, pairs.as_slice())? {
+        Some(subst) => {
+            let mut left = all_but(alloc, lits, side.lit)?;
+            left.append(replaced(alloc, apart, j, place, sides.right)?)?;
+            Ok(Some(conclude(alloc, scope.sorts.as_slice(), &subst, left.as_slice())?))
+        }
+        None => Ok(None),
+    }
+}
+
+// Whether a term that is no variable stands at the place, and the side is a variable or has its head.
+fn may_stand_at(side: &Term, target: &Lit, place: &[usize]) -> bool
+    ensures { result ≡ false → NoneStands side.now target.now place.now }
+{
+    match term_in(target, place) {
+        Some(term) => may_be_equal(side, term),
+        None => false,
+    }
+}
+
+// Whether the second term is no variable, and the first one is a variable or has its head.
+fn may_be_equal(side: &Term, term: &Term) -> bool
+    ensures { result ≡ false → NeverEqual side.now term.now }
+{
+    match term {
+        Term::App(symbol, _) => match side {
+            Term::Var(_) => true,
+            Term::App(other, _) => symbol == other,
+        },
+        Term::Var(_) => false,
+    }
+}
+
+// The term at the place of the literal, if one stands there that is no variable.
+fn part_in<'a>(lit: &'a Lit, place: &[usize]) -> Option<&'a Term>
+    ensures { HasPart lit.now place.now (option_copied result) }
+{
+    let part = term_in(lit, place)?;
+    match part {
+        Term::App(_, _) => Some(part),
+        Term::Var(_) => None,
+    }
+}
+
+// The literals with another term at a place of one of them.
+fn replaced(
+    alloc: Global,
+    lits: &[Lit],
+    j: usize,
+    place: &[usize],
+    new: &Term,
+) -> Result<List<Lit>, Memory>
+    requires { j < length lits.now }
+    ensures { IfOk result (λ made. AreReplaced lits.now j place.now new.now made) }
+{
+    let mut made = copy_lits(alloc, lits)?;
+    let lit = put_in(alloc, &lits[j], place, new)?;
+    made.set(j, lit);
+    Ok(made)
+}
