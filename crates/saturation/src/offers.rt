@@ -39,7 +39,7 @@ pub fn offers_of(alloc: Global, lits: &[Lit], used: &Used) -> Result<Offers, Mem
 }
 
 // The predicate atoms of these literals.
-fn offered_atoms(alloc: Global, lits: &[Lit], numbers: &[u32]) -> Result<List<Offer>, Memory>
+fn offered_atoms(alloc: Global, lits: &[Lit], numbers: &[usize]) -> Result<List<Offer>, Memory>
     ensures { IfOk result (λ offers. offers ≡ atom_offers lits.now numbers.now) }
 {
     let mut offers = List::new(alloc);
@@ -88,10 +88,10 @@ fn keep(found: Option<Offer>, offers: &mut List<Offer>) -> Result<(), Memory>
 }
 
 // The literal's predicate atom as a term, if it has one.
-fn offered_atom(alloc: Global, lits: &[Lit], number: u32) -> Result<Option<Offer>, Memory>
+fn offered_atom(alloc: Global, lits: &[Lit], number: usize) -> Result<Option<Offer>, Memory>
     ensures { IfOk result (λ found. found ≡ atom_at lits.now number) }
 {
-    match lits.get(number as usize) {
+    match lits.get(number) {
         Some(lit) => match &lit.atom {
             AtomOf::Pred(symbol, args) => Ok(Some(Offer {
                 positive: lit.positive,
@@ -107,7 +107,7 @@ fn offered_atom(alloc: Global, lits: &[Lit], number: u32) -> Result<Option<Offer
 fn offered_side(alloc: Global, lits: &[Lit], side: &Side) -> Result<Option<Offer>, Memory>
     ensures { IfOk result (λ found. found ≡ side_at lits.now side.now) }
 {
-    match lits.get(side.lit as usize) {
+    match lits.get(side.lit) {
         Some(lit) => match &lit.atom {
             AtomOf::Eq(left, right) => {
                 let term = if side.flipped { right } else { left };
@@ -126,7 +126,7 @@ fn offered_side(alloc: Global, lits: &[Lit], side: &Side) -> Result<Option<Offer
 fn offered_spot(alloc: Global, lits: &[Lit], spot: &Spot) -> Result<Option<Offer>, Memory>
     ensures { IfOk result (λ found. found ≡ spot_at lits.now spot.now) }
 {
-    match lits.get(spot.lit as usize) {
+    match lits.get(spot.lit) {
         Some(lit) => match term_in(lit, spot.place.as_slice()) {
             Some(term) => Ok(Some(Offer {
                 positive: false,
