@@ -84,7 +84,8 @@ fn found_in(alloc: Global, theory: &mut Theory, form: &Form, line: &Line<'_>) ->
 }
 
 fn concluded(alloc: Global, theory: &mut Theory, proof: Part) -> Result<String> {
-    admit(theory, &Entry::Lemma(proof.into_inner()))?;
+    let entry = Boxed::new(alloc, Entry::Lemma(proof.into_inner()))?;
+    admit(theory, entry.get())?;
     let form = theory.formula(0).context("nothing is concluded")?;
     logged(alloc, form.copy(alloc)?)
 }

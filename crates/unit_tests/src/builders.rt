@@ -6,7 +6,7 @@ use kernel::Entry;
 use proof_log::read_log;
 use std::alloc::Global;
 use std::test::Fail;
-use tptp_base::List;
+use tptp_base::{Boxed, List};
 
 // The predicates p and q, the predicate r of one argument, and the constants c and d, in this order.
 const SYMBOLS: &str = "tptp-log 1\nD p 'p' 0\nD p 'q' 0\nD p 'r' 1 0\nD f 'c' 0 0\nD f 'd' 0 0\n";
@@ -34,7 +34,8 @@ fn members(alloc: Global, text: &str) -> Result<List<Form>, Fail> {
 fn shows(alloc: Global, premise: &str, conclusion: &str, proof: Part) -> Result<bool, Fail> {
     let mut theory = theory(alloc, SYMBOLS)?;
     let whole = imp_i(alloc, form(alloc, premise)?, proof)?;
-    theory.admit(&Entry::Lemma(whole.into_inner()))?;
+    let entry = Boxed::new(alloc, Entry::Lemma(whole.into_inner()))?;
+    theory.admit(entry.get())?;
     let text = format!(in alloc; "> {premise} {conclusion}")?;
     let want = form(alloc, text.as_str())?;
     Ok(match theory.formula(0) {

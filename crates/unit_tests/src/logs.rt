@@ -2,7 +2,7 @@
 use kernel::{Entry, Proof};
 use proof_log::{read_log, write_entry, write_header};
 use std::test::Fail;
-use tptp_base::{List, MemorySink, SinkFault, SteadySink};
+use tptp_base::{Boxed, List, MemorySink, SinkFault, SteadySink};
 
 const LOG: &[u8] = b"tptp-log 1
 D s 'it\\'s \\\\'
@@ -31,10 +31,10 @@ fn a_log_goes_on_behind_a_fault(rt: HostRuntime) -> Result<(), Fail> {
     let alloc = rt.alloc();
     let mut log = MemorySink::new(alloc, List::from_slice(alloc, &[2])?);
     write_header(&mut log)?;
-    let entry = Entry::Lemma(Proof::Line(12));
-    let failed = write_entry(alloc, &entry, &mut log);
+    let entry = Boxed::new(alloc, Entry::Lemma(Proof::Line(12)))?;
+    let failed = write_entry(alloc, entry.get(), &mut log);
     assert_eq!(rt; failed, Err(SinkFault::Failed));
-    write_entry(alloc, &entry, &mut log)?;
+    write_entry(alloc, entry.get(), &mut log)?;
     assert_eq!(rt; log.bytes(), b"tptp-log 1\nL line 12\n".as_slice());
     Ok(())
 }

@@ -4,7 +4,7 @@ use kernel::{Entry, Proof, Theory};
 use proof_log::read_log;
 use std::alloc::Global;
 use std::test::Fail;
-use tptp_base::List;
+use tptp_base::{Boxed, List};
 
 /// A theory to which the entries of a log were admitted, at first without formulas and over the sort of individuals
 /// alone.
@@ -20,7 +20,8 @@ pub fn theory(alloc: Global, log: &str) -> Result<Theory, Fail> {
 fn a_refused_entry_adds_nothing(rt: HostRuntime) -> Result<(), Fail> {
     // The conjunction without members is truth.
     let mut theory = theory(rt.alloc(), "tptp-log 1\nD s 's'\nL andi 0\n")?;
-    let refused = theory.admit(&Entry::Lemma(Proof::Line(1)));
+    let entry = Boxed::new(rt.alloc(), Entry::Lemma(Proof::Line(1)))?;
+    let refused = theory.admit(entry.get());
     assert!(rt; refused.is_err());
     assert_eq!(rt; theory.len(), 1);
     assert_eq!(rt; theory.signature().sort_count(), 2);
