@@ -7,6 +7,7 @@ pub mod Lists
 pub mod MadeWith
 pub mod Naming
 pub mod Offering
+pub mod Passing
 pub mod Placed
 pub mod Ruled
 pub mod Turns

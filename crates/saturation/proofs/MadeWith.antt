@@ -15,10 +15,11 @@ use Rattle.saturation.specs.declared.member.Origin.{Origin}
 use Rattle.saturation.specs.declared.offers.Offer.{Offer}
 use Rattle.saturation.specs.Members.{clauses_of}
 use Rattle.saturation.specs.Origins.{Makes, NamesOne}
-use Rattle.saturation.specs.code.Entered.{AreOffered, AreEntered}
+use Rattle.saturation.specs.code.Entered.{AreEntered}
 use Rattle.saturation.specs.code.Marked.{IsMarked}
-use Rattle.saturation.specs.code.Named.{FollowsOne, FollowsTwo, FollowFromOne, FollowIf, FollowMarked, FollowSoFar}
+use Rattle.saturation.specs.code.Named.{FollowsOne, FollowsTwo, FollowFromOne, FollowIf, FollowMarked}
 use Rattle.saturation.specs.code.Search.{IsInstanceOfOne, IsFound, IsMadeWith}
+use Rattle.saturation.proofs.Passing.{AreOffered, FollowSoFar}
 use Rattle.saturation.proofs.Lists.{no_member, each_of, got_append}
 use Rattle.saturation.proofs.Ruled.{no_into, no_from}
 

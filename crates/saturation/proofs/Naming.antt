@@ -11,7 +11,8 @@ use Rattle.superpose.specs.declared.made.Made.{Made}
 use Rattle.superpose.specs.Made.{IsMadeFrom, AddsFromOne, AddsFromTwo}
 use Rattle.superpose.specs.Inferences.{IsDraftOfOne, IsDraftOfTwo}
 use Rattle.saturation.specs.declared.member.Member.{Member}
-use Rattle.saturation.specs.code.Named.{named, AreNamed, IsNaming, FollowsOne, FollowsTwo, FollowFromOne, FollowIf}
+use Rattle.saturation.specs.code.Named.{named, AreNamed, FollowsOne, FollowsTwo, FollowFromOne, FollowIf}
+use Rattle.saturation.proofs.Passing.{IsNaming}
 use Rattle.saturation.proofs.Lists.{no_member}
 
 pub naming_start : (made : List Made) (a b : ℕ) (old : List Member) → IsNaming made made a b old old

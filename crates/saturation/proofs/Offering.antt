@@ -14,7 +14,8 @@ use Rattle.superpose.specs.declared.used.Used.{Used}
 use Rattle.superpose.specs.Used.{AreUsed}
 use Rattle.saturation.specs.declared.offers.Offer.{Offer}
 use Rattle.saturation.specs.code.Offers.{on_lit, offer_of_atom, offer_of_side, offer_of_term, atom_at, side_at, spot_at, atom_offers, side_offers, spot_offers}
-use Rattle.saturation.specs.code.Entered.{AreOffered, IsEntered, AreEntered}
+use Rattle.saturation.specs.code.Entered.{IsEntered, AreEntered}
+use Rattle.saturation.proofs.Passing.{AreOffered}
 use Rattle.saturation.proofs.Lists.{no_member, got_pushed, to_mapped}
 
 first_of : {X : Type 0} (x : X) → Contains (x ∷ []) x

@@ -26,8 +26,9 @@ use Rattle.clause_index.proofs.KeyFacts.{equal_no_clash}
 use Rattle.subsumption.specs.Mask.{head_number}
 use Rattle.superpose.specs.Inferences.{InfersFromTwo}
 use Rattle.saturation.specs.declared.offers.Offer.{Offer}
-use Rattle.saturation.specs.code.Entered.{AreOffered, IsEntered}
+use Rattle.saturation.specs.code.Entered.{IsEntered}
 use Rattle.saturation.specs.code.Marked.{IsRuledOut}
+use Rattle.saturation.proofs.Passing.{AreOffered}
 use Rattle.fof_terms.specs.declared.term.Term.TheOpen as term
 
 no_variable : (f k : ℕ) (ts : List Term) → App f ts ≡ Var k → ⊥

@@ -18,10 +18,11 @@ use Rattle.saturation.specs.Members.{clauses_of}
 use Rattle.saturation.specs.Origins.{IsMade, NamesOne}
 use Rattle.saturation.specs.code.Entered.{AreEntered}
 use Rattle.saturation.specs.code.Known.{AreKnown, IsKnown}
-use Rattle.saturation.specs.code.Search.{IsUnderWay, IsMadeWith, IsFound, IsQueued, IsTooHeavy, AreKept, IsTurning}
+use Rattle.saturation.specs.code.Search.{IsUnderWay, IsMadeWith, IsFound, IsQueued, IsTooHeavy, AreKept}
 use Rattle.saturation.specs.code.Steps.{Sifts, IsNext, AreCoveredIn, AnswersAs}
 use Rattle.saturation.proofs.Lists.{got_pushed}
 use Rattle.saturation.specs.code.Given.{AreGiven}
+use Rattle.saturation.proofs.Passing.{IsTurning}
 use Rattle.saturation.proofs.Givens.{given_under_way}
 use Rattle.saturation.proofs.UnderWay.{found_offered, waits, after_member, full_at, dry_at, heavy_at, full_by_heavy}
 

@@ -15,9 +15,11 @@ mod pairing;
 mod queue;
 mod saturation;
 mod sifting;
+mod superposition;
 mod weighing;
 
 pub use inferences::Inferences;
 pub use member::{Member, Origin};
 pub use outcome::Outcome;
-pub use saturation::search_by;
+pub use saturation::{search, search_by};
+pub use superposition::Superposition;

@@ -20,14 +20,42 @@ use crate::member::Member;
 use crate::outcome::Outcome;
 use crate::queue::Queue;
 use crate::sifting::sift;
+use crate::superposition::Superposition;
 use crate::weighing::heaviest_allowed;
 use clause_form::Clause;
-use clause_index::Partners;
+use clause_index::{Index, Partners};
 use fof_terms::Signature;
 use std::alloc::Global;
 use tptp_base::{List, Memory};
 
-/// Searches for the empty clause among at most `limit` members, with partners from the two indexes.
+/// Searches for the empty clause among at most `limit` members, by ordered resolution and superposition.
+pub fn search(
+    alloc: Global,
+    signature: &Signature,
+    inputs: &[Clause],
+    limit: u32,
+) -> Result<Outcome, Memory>
+    requires clauses { Each (IsClause signature.now) inputs.now }
+    requires light { Each (λ c. clause_weight c ≤ 100000000) inputs.now }
+    ensures limit { IfOk result (KeepsLimit limit) }
+    ensures origins { IfOk result (HasOrigins signature.now inputs.now) }
+    ensures ends { IfOk result (EndsWith signature.now inputs.now limit) }
+{
+    let mut literals = Index::new(alloc);
+    let mut terms = Index::new(alloc);
+    search_by(
+        alloc,
+        &Superposition,
+        signature,
+        inputs,
+        limit,
+        &mut literals,
+        &mut terms,
+    )
+}
+
+/// Searches for the empty clause among at most `limit` members, with the inferences of `rules` and with partners from
+/// the two indexes.
 pub fn search_by<R: Inferences, I: Partners>(
     alloc: Global,
     rules: &R,

@@ -18,8 +18,9 @@ use Rattle.superpose.specs.declared.made.Made.{Made}
 use Rattle.superpose.specs.Drafts.{Draft}
 use Rattle.superpose.specs.Inferences.{ResolvesAt, SuperposesAt, FactorsAt, ResolvesEquationAt, FactorsEquationsAt, IsDraftOfOne, IsDraftOfTwo}
 use Rattle.superpose.specs.Made.{IsBestAt, Adds}
-use Rattle.superpose.specs.code.Places.{FactorsRead, FactorsPair, FactorsBelow, FactorsWithSome, FromLit, FromBelow, SuperposesRead, SuperposesBelow, FromLits, WithBelow, WithSome, TwoBelow, NeverUsed}
+use Rattle.superpose.specs.code.Places.{FactorsRead, FactorsPair, FactorsBelow, FactorsWithSome, FromLit, SuperposesRead, FromLits, WithBelow, WithSome, NeverUsed}
 use Rattle.superpose.proofs.Additions.{adds_none, adds_found, adds_as, adds_both, adds_next}
+use Rattle.superpose.proofs.Below.{FromBelow, SuperposesBelow, TwoBelow}
 use Rattle.superpose.proofs.ConclusionFacts.{get_map}
 use Rattle.superpose.proofs.Superposed.{stood_at}
 

@@ -1,4 +1,5 @@
 pub mod Additions
+pub mod Below
 pub mod BestMade
 pub mod ConclusionFacts
 pub mod Factored
@@ -12,3 +13,4 @@ pub mod Posed
 pub mod Resolved
 pub mod Superposed
 pub mod Unifying
+pub mod UseFacts

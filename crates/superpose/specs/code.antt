@@ -6,3 +6,4 @@ pub mod Pairs
 pub mod Resolvable
 pub mod Placed
 pub mod Places
+pub mod Uses

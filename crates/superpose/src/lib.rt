@@ -30,4 +30,4 @@ pub use one_clause::add_from_one;
 pub use resolution::resolve_at;
 pub use superposition::superpose_at;
 pub use two_clauses::add_from_two;
-pub use used::{Side, Spot, Used};
+pub use used::{Side, Spot, Used, used_of};

@@ -93,8 +93,8 @@ fn may_be_equal(side: &Term, term: &Term) -> bool
     }
 }
 
-// The term at the place of the literal, if one stands there that is no variable.
-fn part_in<'a>(lit: &'a Lit, place: &[usize]) -> Option<&'a Term>
+/// The term at the place of the literal, if one stands there that is no variable.
+pub fn part_in<'a>(lit: &'a Lit, place: &[usize]) -> Option<&'a Term>
     ensures { HasPart lit.now place.now (option_copied result) }
 {
     let part = term_in(lit, place)?;

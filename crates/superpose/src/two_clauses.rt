@@ -1,20 +1,20 @@
 //! All inferences from two clauses.
-ghost use Rattle.std.specs.Prelude.{◌≡◌, ◌<◌, length, false, true, OnOk};
+ghost use Rattle.std.specs.Prelude.{◌<◌, length, OnOk};
 ghost use Rattle.clause_rules.specs.Steps.{scope_of_both};
 ghost use Rattle.clause_order.specs.Eligible.{IsEligible};
 ghost use Rattle.superpose.specs.Drafts.{IsClause};
 ghost use Rattle.superpose.specs.Inferences.{ResolvesAt};
 ghost use Rattle.superpose.specs.Made.{Adds, AddsFromTwo};
-ghost use Rattle.superpose.specs.code.Places.{FromLits, IsUsable, NeverUsed, SuperposesRead, WithSome};
+ghost use Rattle.superpose.specs.code.Places.{FromLits, SuperposesRead, WithSome};
 
 use crate::made::{Made, keep};
 use crate::naming::number;
 use crate::resolution::resolve_at;
-use crate::sides::sides_of;
+use crate::sides::is_usable;
 use crate::superposition::superpose_at;
 use crate::used::Side;
-use clause_form::{Clause, Lit};
-use clause_order::{eligible, is_greater};
+use clause_form::Clause;
+use clause_order::eligible;
 use clause_rules::places_of_lit;
 use fof_terms::Signature;
 use std::alloc::Global;
@@ -123,15 +123,4 @@ fn add_side(
         keep(made, found)?;
     }
     Ok(())
-}
-
-// Whether the literal, read so, is an equation whose side isn't less than the other one.
-fn is_usable(lit: &Lit, flipped: bool) -> bool
-    ensures never { result ≡ false → NeverUsed lit.now flipped }
-    ensures usable { result ≡ true → IsUsable lit.now flipped }
-{
-    match sides_of(lit, flipped) {
-        Some(sides) => !is_greater(sides.right, sides.left),
-        None => false,
-    }
 }

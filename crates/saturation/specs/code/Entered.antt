@@ -10,7 +10,6 @@ use Rattle.clause_rules.specs.Steps.{equation}
 use Rattle.clause_order.specs.Eligible.{IsEligible, IsNotLess}
 use Rattle.clause_index.specs.declared.entry.Entry.{Entry}
 use Rattle.clause_index.specs.Entries.{entry_of}
-use Rattle.saturation.specs.declared.offers.Offer.{Offer}
 
 -- a property of terms with signs holds of those that inferences use of the literals: of the predicate atoms of eligible
 -- ones, ..
@@ -27,12 +26,6 @@ HoldsOfSides lits P = (i : ℕ) (flipped : Bool) (l r : Term) → IsEligible lit
 abbrev pub HoldsOfSpots : List Lit → (Bool → Term → Type 0) → Type 0
 HoldsOfSpots lits P = (i : ℕ) (place : List ℕ) (k : Lit) (g : ℕ) (args : List Term) → IsEligible lits i
     → slice_get lits i ≡ Some k → lit_term_at place k ≡ Some (App g args) → P false (App g args)
-
--- the terms are among these
-pub record AreOffered (lits : List Lit) (literals terms : List Offer) : Type 0 where
-  pub atoms : HoldsOfAtoms lits (λ sign t. Contains literals (record { positive = sign; term = t }))
-  pub sides : HoldsOfSides lits (λ sign t. Contains terms (record { positive = sign; term = t }))
-  pub spots : HoldsOfSpots lits (λ sign t. Contains terms (record { positive = sign; term = t }))
 
 -- the terms of the clause of this number are entries
 pub record IsEntered (n : ℕ) (c : Clause) (literals terms : List Entry) : Type 0 where

@@ -1,5 +1,5 @@
 -- What was made, as members.
-use Rattle.std.specs.Prelude.{ℕ, ◌<◌, Bool, true, List, ◌≡◌, ◌⊎◌, length, Some, slice_get}
+use Rattle.std.specs.Prelude.{ℕ, Bool, true, List, ◌≡◌, ◌⊎◌, length, Some, slice_get}
 use Rattle.std.specs.List.{Contains}
 use Rattle.fof_terms.specs.declared.term.Term.{Term}
 use Rattle.fof_terms.specs.Vocabulary.{Vocabulary}
@@ -22,13 +22,6 @@ pub record AreNamed (made : List Made) (a b : ℕ) (old new : List Member) : Typ
   pub kept : (m : Member) → Contains old m → Contains new m
   pub there : (x : Made) → Contains made x → Contains new (named a b x)
   pub others : (m : Member) → Contains new m → Contains old m ⊎ ((x : Made) × Contains made x × (m ≡ named a b x))
-
--- the same under way: these are left
-pub record IsNaming (all left : List Made) (a b : ℕ) (old new : List Member) : Type 0 where
-  pub kept : (m : Member) → Contains old m → Contains new m
-  pub among : (x : Made) → Contains left x → Contains all x
-  pub there : (x : Made) → Contains all x → Contains left x ⊎ Contains new (named a b x)
-  pub others : (m : Member) → Contains new m → Contains old m ⊎ ((x : Made) × Contains all x × (m ≡ named a b x))
 
 -- the member follows from the clause of this number
 pub record FollowsOne (v : Vocabulary) (c : Clause) (a : ℕ) (m : Member) : Type 0 where
@@ -67,15 +60,4 @@ pub record FollowMarked (v : Vocabulary) (list : List Clause) (last : Clause) (n
   pub into_all : (n : ℕ) (c : Clause) → slice_get list n ≡ Some c → slice_get into n ≡ Some true
       → (e : Clause) (s : ℕ → Term) → InfersFromTwo v last c e s → IsInstanceOfOne v new e
   pub from_all : (n : ℕ) (c : Clause) → slice_get list n ≡ Some c → slice_get from n ≡ Some true
-      → (e : Clause) (s : ℕ → Term) → InfersFromTwo v c last e s → IsInstanceOfOne v new e
-
--- the same for the first clauses of the list
-pub record FollowSoFar (at : ℕ) (v : Vocabulary) (list : List Clause) (last : Clause) (number : ℕ) (into from : List Bool) (old new : List Member) : Type 0 where
-  pub kept : (m : Member) → Contains old m → Contains new m
-  pub others : (m : Member) → Contains new m → Contains old m ⊎ ((n : ℕ) × (c : Clause) × (slice_get list n ≡ Some c)
-      × (((slice_get into n ≡ Some true) × FollowsTwo v last c number n m)
-      ⊎ ((slice_get from n ≡ Some true) × FollowsTwo v c last n number m)))
-  pub into_all : (n : ℕ) (c : Clause) → n < at → slice_get list n ≡ Some c → slice_get into n ≡ Some true
-      → (e : Clause) (s : ℕ → Term) → InfersFromTwo v last c e s → IsInstanceOfOne v new e
-  pub from_all : (n : ℕ) (c : Clause) → n < at → slice_get list n ≡ Some c → slice_get from n ≡ Some true
       → (e : Clause) (s : ℕ → Term) → InfersFromTwo v c last e s → IsInstanceOfOne v new e

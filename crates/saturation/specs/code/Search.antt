@@ -1,5 +1,5 @@
 -- What holds of a search that is under way.
-use Rattle.std.specs.Prelude.{ℕ, ◌+◌, ◌<◌, ◌≤◌, List, [], ◌∷◌, ◌++◌, ◌≡◌, ◌⊎◌, Bool, true, false, length}
+use Rattle.std.specs.Prelude.{◌+◌, ◌<◌, ◌≤◌, List, [], ◌∷◌, ◌++◌, ◌≡◌, ◌⊎◌, Bool, true, false, length}
 use Rattle.std.specs.List.{Contains, All as Each}
 use Rattle.fof_terms.specs.Vocabulary.{Vocabulary}
 use Rattle.clause_form.specs.declared.clause.Clause.{Clause}
@@ -9,10 +9,7 @@ use Rattle.clause_order.specs.Weights.{clause_weight}
 use Rattle.superpose.specs.Drafts.{IsClause}
 use Rattle.superpose.specs.Inferences.{IsInference}
 use Rattle.saturation.specs.Lists.{bound_of, IsOffered, IsDone, IsLightestFirst}
-use Rattle.saturation.specs.Members.{clauses_of}
 use Rattle.saturation.specs.Origins.{IsMade, AreMade, NamesOne}
-use Rattle.saturation.specs.declared.known.Known.{Known}
-use Rattle.saturation.specs.code.Known.{AreKnown}
 
 -- an instance of one of the clauses
 abbrev pub IsInstanceOfOne : Vocabulary → List Member → Clause → Type 0
@@ -76,10 +73,3 @@ pub record HasJoined (old new : List Member) (m : Member) : Type 0 where
   pub there : Contains new m
   pub kept : (x : Member) → Contains old x → Contains new x
   pub others : (x : Member) → Contains new x → Contains old x ⊎ (x ≡ m)
-
--- what holds at each turn
-pub record IsTurning (v : Vocabulary) (whole : Bool) (inputs : List Clause) (limit : ℕ) (list : List Member) (known : List Known) (queue heavy : List Member) : Type 0 where
-  pub within : length list ≤ limit
-  pub under_way : IsUnderWay v whole inputs (clauses_of list) [] queue heavy
-  pub kept : AreKept v whole inputs list
-  pub facts : AreKnown (clauses_of list) known

@@ -1,5 +1,5 @@
 -- The drafts at some of the places, as the code goes through them.
-use Rattle.std.specs.Prelude.{ℕ, Bool, ◌≡◌, ◌<◌, ◌⊎◌, List, length, Some, slice_get}
+use Rattle.std.specs.Prelude.{ℕ, Bool, ◌≡◌, ◌<◌, ◌⊎◌, List, length}
 use Rattle.fof_terms.specs.declared.term.Term.{Term}
 use Rattle.clause_form.specs.declared.clause.Lit.{Lit}
 use Rattle.clause_form.specs.declared.clause.Clause.{Clause}
@@ -27,16 +27,9 @@ FactorsWithSome c i f = FactorsBelow c i (length c.lits) f
 abbrev pub FromLit : Clause → ℕ → Draft → Type 0
 FromLit c i f = ResolvesEquationAt c i f ⊎ FactorsWithSome c i f
 
-abbrev pub FromBelow : Clause → ℕ → Draft → Type 0
-FromBelow c n f = (i : ℕ) × (i < n) × FromLit c i f
-
 -- superposition from a side of literal i at some place of literal j
 abbrev pub SuperposesRead : Clause → Clause → ℕ → Bool → ℕ → Draft → Type 0
 SuperposesRead c d i flipped j f = (place : List ℕ) × SuperposesAt c d i flipped j place f
-
--- the same at one of the first n of these places
-abbrev pub SuperposesBelow : Clause → Clause → ℕ → Bool → ℕ → List (List ℕ) → ℕ → Draft → Type 0
-SuperposesBelow c d i flipped j places n f = (k : ℕ) × (k < n) × ((place : List ℕ) × (slice_get places k ≡ Some place) × SuperposesAt c d i flipped j place f)
 
 -- the inferences from two clauses at two eligible literals
 abbrev pub FromLits : Clause → Clause → ℕ → ℕ → Draft → Type 0
@@ -47,9 +40,6 @@ WithBelow c d i n f = (j : ℕ) × (j < n) × FromLits c d i j f
 
 abbrev pub WithSome : Clause → Clause → ℕ → Draft → Type 0
 WithSome c d i f = WithBelow c d i (length d.lits) f
-
-abbrev pub TwoBelow : Clause → Clause → ℕ → Draft → Type 0
-TwoBelow c d n f = (i : ℕ) × (i < n) × WithSome c d i f
 
 -- no side of the literal, read so, may be used
 abbrev pub NeverUsed : Lit → Bool → Type 0

@@ -1,5 +1,5 @@
 use Rattle.saturation.specs.Members.{clauses_of}
-use Rattle.saturation.specs.code.Named.{FollowSoFar}
+use Rattle.saturation.proofs.Passing.{FollowSoFar}
 use Rattle.saturation.proofs.inferring.add_marked.Given as goal
 
 abbrev pub invariant-loop-at : goal.invariant-loop-at

@@ -1,5 +1,5 @@
 use Rattle.std.proofs.Common.{length}
-use Rattle.saturation.specs.code.Named.{IsNaming}
+use Rattle.saturation.proofs.Passing.{IsNaming}
 use Rattle.saturation.proofs.pairing.name_all.Given as goal
 
 abbrev pub invariant-loop-next : goal.invariant-loop-next

@@ -2,7 +2,7 @@ use Rattle.std.proofs.Common.{◌≡◌, ◌-◌, true, length}
 use Rattle.saturation.specs.Lists.{bound_of}
 use Rattle.saturation.specs.Members.{clauses_of}
 use Rattle.saturation.specs.code.Entered.{AreEntered}
-use Rattle.saturation.specs.code.Search.{IsTurning}
+use Rattle.saturation.proofs.Passing.{IsTurning}
 use Rattle.saturation.proofs.saturation.take_turns.Given as goal
 
 abbrev pub invariant-turns : goal.invariant-turns

@@ -1,6 +1,6 @@
 use Rattle.clause_form.specs.Covers.{scope_of}
 use Rattle.superpose.specs.Made.{Adds}
-use Rattle.superpose.specs.code.Places.{FromBelow}
+use Rattle.superpose.proofs.Below.{FromBelow}
 use Rattle.superpose.proofs.one_clause.add_from_one.Given as goal
 
 abbrev pub invariant-loop-i : goal.invariant-loop-i

@@ -1,6 +1,6 @@
 use Rattle.clause_rules.specs.Steps.{scope_of_both}
 use Rattle.superpose.specs.Made.{Adds}
-use Rattle.superpose.specs.code.Places.{TwoBelow}
+use Rattle.superpose.proofs.Below.{TwoBelow}
 use Rattle.superpose.proofs.two_clauses.add_from_two.Given as goal
 
 abbrev pub invariant-loop-i : goal.invariant-loop-i

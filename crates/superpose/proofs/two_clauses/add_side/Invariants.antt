@@ -1,6 +1,6 @@
 use Rattle.clause_rules.specs.Steps.{scope_of_both}
 use Rattle.superpose.specs.Made.{Adds}
-use Rattle.superpose.specs.code.Places.{SuperposesBelow}
+use Rattle.superpose.proofs.Below.{SuperposesBelow}
 use Rattle.superpose.proofs.two_clauses.add_side.Given as goal
 
 abbrev pub invariant-loop-at : goal.invariant-loop-at
