@@ -1,7 +1,7 @@
 // The calls of tables.
 use crate::line::Line;
 use crate::reading::signature_of;
-use crate::{forms, graphs, kits, searches, steps, texts, unifiers};
+use crate::{forms, graphs, kits, saturating, searches, steps, texts, unifiers};
 use anyhow::{Result, bail};
 use fof_terms::Signature;
 use std::alloc::Global;
@@ -48,6 +48,7 @@ fn found(alloc: Global, signature: &mut Signature, line: &Line<'_>) -> Result<St
         "step" => steps::found(alloc, signature, line),
         "order" | "sides" | "clash" | "weighs" | "eligible" | "partners" | "blind" | "subsumes" =>
             searches::found(alloc, signature, line),
+        "search" | "members" | "blindly" => saturating::found(alloc, signature, line),
         _ => bail!("no such call"),
     }
 }

@@ -11,6 +11,7 @@ mod kits;
 mod line;
 mod problems;
 mod reading;
+mod saturating;
 mod searches;
 mod sorts;
 mod steps;

@@ -6,7 +6,7 @@ use kernel::Entry;
 use proof_log::{read_log, write_entry};
 use sort_check::{TextKind, denote};
 use std::alloc::Global;
-use tptp_base::{Boxed, Item, List, Region, SteadySink};
+use tptp_base::{Item, List, Region, SteadySink};
 use tptp_grammar::parse;
 use tptp_lexer::{Style, tokens};
 
@@ -82,9 +82,13 @@ fn named(alloc: Global, entries: &[Entry]) -> Result<Form> {
 
 /// The formula as logs have it.
 pub fn logged(alloc: Global, form: Form) -> Result<String> {
+    let entry = Entry::Name(0, form);
+    written(alloc, &entry)
+}
+
+fn written(alloc: Global, entry: &Entry) -> Result<String> {
     let mut sink = SteadySink::new(alloc);
-    let entry = Boxed::new(alloc, Entry::Name(0, form))?;
-    write_entry(alloc, entry.get(), &mut sink)?;
+    write_entry(alloc, entry, &mut sink)?;
     let line = String::from_utf8_lossy(alloc, sink.bytes())?;
     Ok(line.as_str().trim_end().to_string(alloc)?)
 }
