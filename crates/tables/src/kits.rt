@@ -84,8 +84,12 @@ fn found_in(alloc: Global, theory: &mut Theory, form: &Form, line: &Line<'_>) ->
 }
 
 fn concluded(alloc: Global, theory: &mut Theory, proof: Part) -> Result<String> {
-    let entry = Boxed::new(alloc, Entry::Lemma(proof.into_inner()))?;
-    admit(theory, entry.get())?;
+    let lemma = Entry::Lemma(proof.into_inner());
+    conclusion(alloc, theory, &lemma)
+}
+
+fn conclusion(alloc: Global, theory: &mut Theory, lemma: &Entry) -> Result<String> {
+    admit(theory, lemma)?;
     let form = theory.formula(0).context("nothing is concluded")?;
     logged(alloc, form.copy(alloc)?)
 }
