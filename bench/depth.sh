@@ -68,7 +68,7 @@ lemma "a formula of implications" 1 "impi $(nested 3997 "> a 0 0 " "a 0 0") " "h
 formula "implications to the right" 249 "p => ( " "p => q" " )"
 formula "implications to the left" 249 "( " "p => q" " ) => p"
 formula "equivalences to the right" 12 "p <=> ( " "p <=> q" " )"
-formula "negations" 249 "~ ( " "p" " )"
-formula "quantifiers" 249 "! [X] : ? [Y] : ( " "p" " )"
+formula "negations" 125 "~ ( " "p" " )"
+formula "quantifiers" 83 "! [X] : ? [Y] : ( " "p" " )"
 echo "$wrong runs differ in $stack KB of stack"
 test "$wrong" -eq 0
