@@ -1,0 +1,44 @@
+//! Lines that follow by an inference.
+ghost use Rattle.std.specs.Prelude.{IfOk};
+ghost use Rattle.clause_proofs.specs.Shown.{ShowsLine};
+ghost use Rattle.clause_rules.specs.Steps.{AreReady, IsReady};
+ghost use Rattle.inference_proofs.specs.Inferred.{IsInferred};
+
+use crate::covering::by_covering;
+use clause_form::Parent;
+use derive_kit::Part;
+use fof_terms::{Form, Signature};
+use rule_proofs::{by_eqfactor, by_paramodulation, by_resolution};
+use std::alloc::Global;
+use tptp_base::Memory;
+
+/// A proof of the line, which follows by an inference from two of the parents, or from one.
+///
+/// Resolution, superposition and equality factoring are steps by the rules `resolution`, `paramodulation` and
+/// `eqfactor`. The conclusion of factoring or of equality resolution covers the premise itself, so its proof needs no
+/// normal form.
+pub fn inference_proof(
+    alloc: Global,
+    signature: &Signature,
+    parents: &[Parent],
+    line: &Form,
+) -> Result<Part, Memory>
+    requires ready { AreReady signature.now parents.now }
+    requires line { IsReady signature.now line.now }
+    requires inferred { IsInferred signature.now parents.now line.now }
+    ensures { IfOk result (ShowsLine signature.now parents.now line.now) }
+{
+    if let Some(proof) = by_resolution(alloc, signature, parents, line)? {
+        return Ok(proof);
+    }
+    if let Some(proof) = by_paramodulation(alloc, signature, parents, line)? {
+        return Ok(proof);
+    }
+    if let Some(proof) = by_eqfactor(alloc, signature, parents, line)? {
+        return Ok(proof);
+    }
+    match by_covering(alloc, signature, parents, line)? {
+        Some(proof) => Ok(proof),
+        None => unreachable!(),
+    }
+}
