@@ -1,0 +1,10 @@
+pub mod ChosenFacts
+pub mod ExistentialsFacts
+pub mod InputFacts
+pub mod Placed
+pub mod RoomFacts
+pub mod RoomyFacts
+pub mod SkolemSorts
+pub mod SkolemizingFacts
+pub mod SkolemsFacts
+pub mod WaysFacts

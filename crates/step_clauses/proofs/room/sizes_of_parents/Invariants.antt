@@ -1,0 +1,6 @@
+use Rattle.std.proofs.Common.{◌≡◌, ◌^◌, ◌-◌, min, take, sum, map}
+use Rattle.step_clauses.specs.code.Counts.{small_size}
+use Rattle.step_clauses.proofs.room.sizes_of_parents.Given as goal
+
+abbrev pub invariant-loop-parent : goal.invariant-loop-parent
+invariant-loop-parent l = l.total ≡ min (sum (map (λ p. small_size p.form) (take l.parent-index l.parents))) (2 ^ 64 - 1)
