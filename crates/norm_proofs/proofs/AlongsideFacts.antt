@@ -27,16 +27,18 @@ use Rattle.clause_form.proofs.ReachedFacts.{around_append, whole_moved}
 use Rattle.kernel.specs.Statements.{Statements}
 use Rattle.kernel.specs.Proves.{Proves, over, all_over}
 use Rattle.kernel.proofs.Building.{shown_sorted, over_sorted, by_hyp, by_imp_i, by_imp_e, by_and_e, by_or_i, by_or_e, by_all_i, by_all_e_here}
-use Rattle.kernel.specs.declared.proof.Proof.{Proof, Hyp, AndE, OrI, OrE, ImpI, ImpE, AllI, AllE}
+use Rattle.kernel.specs.declared.proof.Proof.{Proof, Hyp, AndE, OrE, ImpI, ImpE, AllI, AllE}
 use Rattle.norm_proofs.specs.code.Steps.{Between}
 use Rattle.derive_kit.proofs.Members.{first, right_sorted}
 use Rattle.norm_proofs.specs.code.Joining.{numbered}
+use Rattle.norm_proofs.specs.code.Applying.{applied, is_itself}
+use Rattle.norm_proofs.proofs.ApplyingFacts.{same_sides, by_applied}
 use Rattle.norm_proofs.proofs.JoiningFacts.{numbered_each}
 use Rattle.norm_proofs.specs.code.Links.{PartsFrom}
 use Rattle.norm_proofs.proofs.LinksFacts.{each_own}
 use Rattle.derive_kit.proofs.Around.{twice_form, all_around, head_around}
 use Rattle.norm_proofs.proofs.NumberingFacts.{closed_sorted, by_general, StandAt, stand_between, near_shows, around_sorted, around_scope}
-use Rattle.norm_proofs.specs.code.Numbering.{general, near}
+use Rattle.norm_proofs.specs.code.Numbering.{near}
 use Rattle.norm_proofs.specs.code.Alongside.{chosen, by_segment, widened, member_tree, pick_tree, under_tree, ArmAt}
 
 abbrev pub each_tree : List Form → Clause → List Proof → Proof
@@ -150,9 +152,9 @@ member_shows t v h whole f k c cs r a q room gs sa w =
     subst (λ (m : ℕ). Proves t scope hs (by_segment as_ k m (near e n (Hyp 0))) (form_of_lits whole.lits)) many
     (subst (λ (x : Form). Proves t scope hs (by_segment as_ k (length ms) (near e n (Hyp 0))) x) (sym goal) segment) in
     let wide = by_general t 0 whole.sorts v (closed c ∷ a ∷ h) (by_segment as_ k (length c.lits) (near e n (Hyp 0))) (form_of_lits whole.lits) (omega arith) gs body in
-    by_imp_e t v (a ∷ h) (ImpI (closed c) (widened whole.sorts as_ e n k (length c.lits))) (ImpE q (Hyp 0)) (closed c) (closed whole)
+    by_imp_e t v (a ∷ h) (ImpI (closed c) (widened whole.sorts as_ e n k (length c.lits))) (applied q (Hyp 0)) (closed c) (closed whole)
     (by_imp_i t v (a ∷ h) (closed c) (closed whole) (widened whole.sorts as_ e n k (length c.lits)) sc wide)
-    (by_imp_e t v (a ∷ h) q (Hyp 0) a (closed c) (w (a ∷ h)) (first t v h a sa))
+    (by_applied t v (a ∷ h) q (Hyp 0) a (closed c) (w (a ∷ h)) (first t v h a sa))
 
 -- the clause that is reached is well-sorted where the formula is
 lits_sorted : (w : Vocabulary) (v : List ℕ) (a : Form) (c : Clause) → Suits a c → length c.sorts + length v < 2147483647 → Sorted w v a → SortedTo 0 w (around c.sorts v) (form_of_lits c.lits)
@@ -179,11 +181,23 @@ pub pick_shows : (n k : ℕ) (as_ : List Form) (a b : Form) (q : Proof) → slic
 pick_shows n k as_ a b q e l t v h room s =
     let each = sorted_of_and t.vocabulary v 2147483647 as_ s in
     let h1 = And as_ ∷ h in
-    by_imp_i t v h (And as_) b (ImpE q (AndE k (Hyp 0))) s
-    (by_imp_e t v h1 q (AndE k (Hyp 0)) a b (l t v h1 room (member_of (Sorted t.vocabulary v) as_ k a each e)) (by_and_e t v h1 k (Hyp 0) as_ a e (first t v h (And as_) s)))
+    by_imp_i t v h (And as_) b (applied q (AndE k (Hyp 0))) s
+    (by_applied t v h1 q (AndE k (Hyp 0)) a b (l t v h1 room (member_of (Sorted t.vocabulary v) as_ k a each e)) (by_and_e t v h1 k (Hyp 0) as_ a e (first t v h (And as_) s)))
 
-pub under_shows : (s : ℕ) (a : Form) (c : Clause) (q : Proof) → Between true (length c.sorts) q a (closed c) → Between true (length (s ∷ c.sorts)) (under_tree s a q) (All s a) (closed (within s c))
-under_shows s a c q l t v h room r =
+pub under_itself : (s : ℕ) (a : Form) (q : Proof) → is_itself q ≡ true → under_tree s a q ≡ ImpI (All s a) (Hyp 0)
+unfolding under_tree
+under_itself s a q is = rw is refl
+
+pub under_other : (s : ℕ) (a : Form) (q : Proof) → is_itself q ≡ false → under_tree s a q ≡ ImpI (All s a) (AllI s (ImpE q (AllE (Var 0) (Hyp 0))))
+unfolding under_tree
+under_other s a q is = rw is refl
+
+under_by : (s : ℕ) (a : Form) (c : Clause) (q : Proof) (b : Bool) → is_itself q ≡ b → Between true (length c.sorts) q a (closed c) → Between true (length (s ∷ c.sorts)) (under_tree s a q) (All s a) (closed (within s c))
+under_by s a c q true is l t v h room r =
+    let sa = raised t.vocabulary (s ∷ v) 2147483646 2147483647 a (omega arith) (sorted_of_all t.vocabulary v 2147483647 2147483646 s a (omega arith) (omega arith) r) in
+    let same : a ≡ closed c = same_sides t (s ∷ v) h q a (closed c) is (l t (s ∷ v) h (omega arith) sa) in
+    rw (under_itself s a q is) (subst (λ (x : Form). Proves t v h (ImpI (All s a) (Hyp 0)) (Imp (All s a) (All s x))) same (by_imp_i t v h (All s a) (All s a) (Hyp 0) r (first t v h (All s a) r)))
+under_by s a c q false is l t v h room r =
     let sa = raised t.vocabulary (s ∷ v) 2147483646 2147483647 a (omega arith) (sorted_of_all t.vocabulary v 2147483647 2147483646 s a (omega arith) (omega arith) r) in
     let h1 = All s a ∷ h in
     let hs = all_over h1 in
@@ -194,6 +208,10 @@ under_shows s a c q l t v h room r =
     let few : SortedTo 2147483646 t.vocabulary (s ∷ v) (closed c) = record { scope_fits = sc.scope_fits; few_binders = omega arith; fits = sc.fits } in
     let sw : Sorted t.vocabulary v (All s (closed c)) = all_sorted t.vocabulary v 2147483646 s (closed c) few in
     let own : Proves t (s ∷ v) hs (Hyp 0) (over (All s a)) = first t (s ∷ v) (all_over h) (over (All s a)) (over_sorted t v s (All s a) sa.scope_fits r) in
-    by_imp_i t v h (All s a) (All s (closed c)) (AllI s (ImpE q (AllE (Var 0) (Hyp 0)))) r
+    rw (under_other s a q is)
+    (by_imp_i t v h (All s a) (All s (closed c)) (AllI s (ImpE q (AllE (Var 0) (Hyp 0)))) r
     (by_all_i t v h1 s (closed c) (ImpE q (AllE (Var 0) (Hyp 0))) sw
-    (by_imp_e t (s ∷ v) hs q (AllE (Var 0) (Hyp 0)) a (closed c) w (by_all_e_here t v hs s a (Hyp 0) sa (subst (λ (x : Form). Proves t (s ∷ v) hs (Hyp 0) x) (lifted-All 1 0 s a) own))))
+    (by_imp_e t (s ∷ v) hs q (AllE (Var 0) (Hyp 0)) a (closed c) w (by_all_e_here t v hs s a (Hyp 0) sa (subst (λ (x : Form). Proves t (s ∷ v) hs (Hyp 0) x) (lifted-All 1 0 s a) own)))))
+
+pub under_shows : (s : ℕ) (a : Form) (c : Clause) (q : Proof) → Between true (length c.sorts) q a (closed c) → Between true (length (s ∷ c.sorts)) (under_tree s a q) (All s a) (closed (within s c))
+under_shows s a c q l = under_by s a c q (is_itself q) refl l

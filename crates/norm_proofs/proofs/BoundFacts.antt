@@ -14,10 +14,11 @@ use Rattle.clause_form.specs.Norm.{signed, quantifier, quantified}
 use Rattle.clause_form.proofs.NormFacts.{quantified-kept, quantified-dropped}
 use Rattle.kernel.specs.Statements.{Statements}
 use Rattle.kernel.specs.Proves.{Proves, over, all_over}
-use Rattle.kernel.proofs.Building.{shown_sorted, over_sorted, sorted_of_over, by_imp_i, by_imp_e, by_not_i, by_not_e, by_raa, by_all_i, by_all_e_here, by_ex_i_here, by_ex_e, by_inhabit}
-use Rattle.kernel.specs.declared.proof.Proof.{Proof, Hyp, ImpI, ImpE, NotI, NotE, Raa, AllI, AllE, ExI, ExE, Inhabit}
+use Rattle.kernel.proofs.Building.{shown_sorted, over_sorted, sorted_of_over, by_imp_i, by_not_i, by_not_e, by_raa, by_all_i, by_all_e_here, by_ex_i_here, by_ex_e, by_inhabit}
+use Rattle.kernel.specs.declared.proof.Proof.{Proof, Hyp}
 use Rattle.norm_proofs.specs.code.Steps.{Between, then_tree}
 use Rattle.derive_kit.proofs.Members.{first, second, third}
+use Rattle.norm_proofs.proofs.ApplyingFacts.{by_applied}
 use Rattle.norm_proofs.proofs.StepsFacts.{other_sorted, then_shows}
 use Rattle.norm_proofs.specs.code.Links.{kind_of}
 use Rattle.norm_proofs.specs.code.Bound.{at_variable, by_variable, bound_tree, dropped_tree}
@@ -70,7 +71,7 @@ module _ (n s : ℕ) (a b : Form) (q : Proof) (small : binder_depth b ≤ binder
       let h1 = All s a ∷ h in
       by_imp_i t v h (All s a) (All s b) _ r
       (by_all_i t v h1 s b _ sq
-      (by_imp_e t (s ∷ v) (all_over h1) q _ a b (l t (s ∷ v) (all_over h1) (omega arith) sa) (here_from_all t v s a (all_over h1) (Hyp 0) sa (first_over t v s h a (All s a) sa r))))
+      (by_applied t (s ∷ v) (all_over h1) q _ a b (l t (s ∷ v) (all_over h1) (omega arith) sa) (here_from_all t v s a (all_over h1) (Hyp 0) sa (first_over t v s h a (All s a) sa r))))
   bound_shows true true false l t v h room r =
       let ra = sorted_body t v s true a (omega arith) r in
       let sa = full t v s a ra in
@@ -79,7 +80,7 @@ module _ (n s : ℕ) (a b : Form) (q : Proof) (small : binder_depth b ≤ binder
       let h1 = All s b ∷ h in
       by_imp_i t v h (All s b) (All s a) _ sq
       (by_all_i t v h1 s a _ r
-      (by_imp_e t (s ∷ v) (all_over h1) q _ b a (l t (s ∷ v) (all_over h1) (omega arith) sa) (here_from_all t v s b (all_over h1) (Hyp 0) sb (first_over t v s h b (All s b) sb sq))))
+      (by_applied t (s ∷ v) (all_over h1) q _ b a (l t (s ∷ v) (all_over h1) (omega arith) sa) (here_from_all t v s b (all_over h1) (Hyp 0) sb (first_over t v s h b (All s b) sb sq))))
   bound_shows false true true l t v h room r =
       let ra = sorted_body t v s false a (omega arith) r in
       let sa = full t v s a ra in
@@ -89,7 +90,7 @@ module _ (n s : ℕ) (a b : Form) (q : Proof) (small : binder_depth b ≤ binder
       let h2 = a ∷ all_over h1 in
       by_imp_i t v h (Ex s a) (Ex s b) _ r
       (by_ex_e t v h1 (Ex s b) (Hyp 0) _ s a sq (first t v h (Ex s a) r)
-      (here_to_ex t v s b h2 _ (omega arith) sq (by_imp_e t (s ∷ v) h2 q (Hyp 0) a b (l t (s ∷ v) h2 (omega arith) sa) (first t (s ∷ v) (all_over h1) a sa))))
+      (here_to_ex t v s b h2 _ (omega arith) sq (by_applied t (s ∷ v) h2 q (Hyp 0) a b (l t (s ∷ v) h2 (omega arith) sa) (first t (s ∷ v) (all_over h1) a sa))))
   bound_shows false true false l t v h room r =
       let ra = sorted_body t v s false a (omega arith) r in
       let sa = full t v s a ra in
@@ -99,7 +100,7 @@ module _ (n s : ℕ) (a b : Form) (q : Proof) (small : binder_depth b ≤ binder
       let h2 = b ∷ all_over h1 in
       by_imp_i t v h (Ex s b) (Ex s a) _ sq
       (by_ex_e t v h1 (Ex s a) (Hyp 0) _ s b r (first t v h (Ex s b) sq)
-      (here_to_ex t v s a h2 _ (omega arith) r (by_imp_e t (s ∷ v) h2 q (Hyp 0) b a (l t (s ∷ v) h2 (omega arith) sa) (first t (s ∷ v) (all_over h1) b sb))))
+      (here_to_ex t v s a h2 _ (omega arith) r (by_applied t (s ∷ v) h2 q (Hyp 0) b a (l t (s ∷ v) h2 (omega arith) sa) (first t (s ∷ v) (all_over h1) b sb))))
   bound_shows true false true l t v h room rn =
       let r = sorted_of_not t.vocabulary v 2147483647 (All s a) rn in
       let ra = sorted_body t v s true a (omega arith) r in
@@ -111,7 +112,7 @@ module _ (n s : ℕ) (a b : Form) (q : Proof) (small : binder_depth b ≤ binder
       let h1 = Not (All s a) ∷ h in
       let h2 = Not (Ex s b) ∷ h1 in
       let h3 = Not a ∷ all_over h2 in
-      let inner = by_imp_e t (s ∷ v) h3 q (Hyp 0) (Not a) b (l t (s ∷ v) h3 (omega arith) sna) (first t (s ∷ v) (all_over h2) (Not a) sna) in
+      let inner = by_applied t (s ∷ v) h3 q (Hyp 0) (Not a) b (l t (s ∷ v) h3 (omega arith) sna) (first t (s ∷ v) (all_over h2) (Not a) sna) in
       by_imp_i t v h (Not (All s a)) (Ex s b) _ rn
       (by_raa t v h1 (Ex s b) _ sq
       (by_not_e t v h2 (Hyp 1) _ (All s a) (second t v h (Not (Ex s b)) (Not (All s a)) rn)
@@ -133,7 +134,7 @@ module _ (n s : ℕ) (a b : Form) (q : Proof) (small : binder_depth b ≤ binder
       (by_not_i t v h1 (All s a) _ r
       (by_ex_e t v h2 (Or []) (Hyp 1) _ s b none (second t v h (All s a) (Ex s b) sq)
       (none_over t v s h3 _
-      (by_not_e t (s ∷ v) h3 _ _ a (by_imp_e t (s ∷ v) h3 q (Hyp 0) b (Not a) (l t (s ∷ v) h3 (omega arith) sna) (first t (s ∷ v) (all_over h2) b sb))
+      (by_not_e t (s ∷ v) h3 _ _ a (by_applied t (s ∷ v) h3 q (Hyp 0) b (Not a) (l t (s ∷ v) h3 (omega arith) sna) (first t (s ∷ v) (all_over h2) b sb))
       (here_from_all t v s a h3 (Hyp 1) sa (second_over t v s h1 b (All s a) sb r))))))
   bound_shows false false true l t v h room rn =
       let r = sorted_of_not t.vocabulary v 2147483647 (Ex s a) rn in
@@ -146,7 +147,7 @@ module _ (n s : ℕ) (a b : Form) (q : Proof) (small : binder_depth b ≤ binder
       let h2 = a ∷ all_over h1 in
       by_imp_i t v h (Not (Ex s a)) (All s b) _ rn
       (by_all_i t v h1 s b _ sq
-      (by_imp_e t (s ∷ v) (all_over h1) q _ (Not a) b (l t (s ∷ v) (all_over h1) (omega arith) sna)
+      (by_applied t (s ∷ v) (all_over h1) q _ (Not a) b (l t (s ∷ v) (all_over h1) (omega arith) sna)
       (by_not_i t (s ∷ v) (all_over h1) a _ sa
       (by_not_e t (s ∷ v) h2 (Hyp 1) _ (over (Ex s a)) (denied_over t v s (Ex s a) h2 (Hyp 1) (second_over t v s h a (Not (Ex s a)) sa rn)) (here_to_ex t v s a h2 (Hyp 0) (omega arith) r (first t (s ∷ v) (all_over h1) a sa))))))
   bound_shows false false false l t v h room rn =
@@ -165,7 +166,7 @@ module _ (n s : ℕ) (a b : Form) (q : Proof) (small : binder_depth b ≤ binder
       (by_ex_e t v h2 (Or []) (Hyp 0) _ s a none (first t v h1 (Ex s a) r)
       (none_over t v s h3 _
       (by_not_e t (s ∷ v) h3 _ (Hyp 0) a
-      (by_imp_e t (s ∷ v) h3 q _ b (Not a) (l t (s ∷ v) h3 (omega arith) sna) (here_from_all t v s b h3 (Hyp 2) sb (third_over t v s h a (All s b) (Ex s a) sa sq)))
+      (by_applied t (s ∷ v) h3 q _ b (Not a) (l t (s ∷ v) h3 (omega arith) sna) (here_from_all t v s b h3 (Hyp 2) sb (third_over t v s h a (All s b) (Ex s a) sa sq)))
       (first t (s ∷ v) (all_over h2) a sa)))))
 
 module _ (n s : ℕ) (b : Form) (unused : has_variable 0 b ≡ false) where

@@ -1,4 +1,5 @@
 pub mod AlongsideFacts
+pub mod ApplyingFacts
 pub mod BoundFacts
 pub mod ConnectivesFacts
 pub mod FittingFacts
@@ -6,6 +7,7 @@ pub mod Gathered
 pub mod JoiningFacts
 pub mod LinksFacts
 pub mod Made
+pub mod NarrowingFacts
 pub mod NormsFacts
 pub mod NumberingFacts
 pub mod PlacedFacts

@@ -1,5 +1,5 @@
 -- Lemmas on what specs/code/Links defines.
-use Rattle.std.specs.Prelude.{ℕ, Bool, true, false, not, ◌+◌, ◌<◌, ◌≡◌, length, map, take, get_or, List, [], ◌∷◌, ◌++◌, Some, slice_get, refl}
+use Rattle.std.specs.Prelude.{ℕ, Bool, true, false, ◌+◌, ◌<◌, ◌≡◌, length, map, take, get_or, List, [], ◌∷◌, ◌++◌, Some, slice_get, refl}
 use Rattle.std.specs.Option.{option_map}
 use Rattle.std.specs.List.{AllByRecursion}
 use Rattle.std.proofs.Common.{arith, ap, ◌∙◌, zero, suc}
@@ -12,10 +12,11 @@ use Rattle.kernel.specs.Statements.{Statements}
 use Rattle.kernel.specs.Proves.{Proves}
 use Rattle.kernel.specs.code.Rules.{ProveAll}
 use Rattle.kernel.specs.Rules.{ProveEach}
-use Rattle.kernel.proofs.Building.{by_imp_i, by_imp_e, by_not_i, by_not_e, by_raa, by_or_i, by_or_e, by_and_i, by_and_e}
-use Rattle.kernel.specs.declared.proof.Proof.{Proof, Hyp, AndI, AndE, OrI, OrE, ImpI, ImpE, NotI, NotE, Raa}
+use Rattle.kernel.proofs.Building.{by_imp_i, by_not_i, by_not_e, by_raa, by_or_i, by_or_e, by_and_i, by_and_e}
+use Rattle.kernel.specs.declared.proof.Proof.{Proof, Hyp}
 use Rattle.norm_proofs.specs.code.Steps.{Between}
 use Rattle.derive_kit.proofs.Members.{first, second, third}
+use Rattle.norm_proofs.proofs.ApplyingFacts.{by_applied}
 use Rattle.norm_proofs.proofs.StepsFacts.{other_sorted}
 use Rattle.norm_proofs.specs.code.Links.{kind_of, link_tree, PartsFrom, Arm, Arms}
 
@@ -105,7 +106,7 @@ module _ (n : ℕ) (xs : List Form) (t : Statements) (v : List ℕ) (room : n + 
     and_forth k a p arm =
         let q = arm.1.0 in
         let h1 = And xs ∷ h in
-        rw arm.1.1 (by_imp_e t v h1 q _ a (norm_of true a) (arm.1.2 t v h1 room (at_place k a arm.0)) (by_and_e t v h1 k (Hyp 0) xs a arm.0 (first t v h (And xs) and_x)))
+        rw arm.1.1 (by_applied t v h1 q _ a (norm_of true a) (arm.1.2 t v h1 room (at_place k a arm.0)) (by_and_e t v h1 k (Hyp 0) xs a arm.0 (first t v h (And xs) and_x)))
 
     and_back : (k : ℕ) (a : Form) (p : Proof) → Arm true true false n xs k a p → Proves t v (And (map (norm_of true) xs) ∷ h) p a
     and_back k a p arm =
@@ -113,20 +114,20 @@ module _ (n : ℕ) (xs : List Form) (t : Statements) (v : List ℕ) (room : n + 
         let ys = map (norm_of true) xs in
         let h1 = And ys ∷ h in
         rw arm.1.1
-        (by_imp_e t v h1 q _ (norm_of true a) a (arm.1.2 t v h1 room (at_place k a arm.0)) (by_and_e t v h1 k (Hyp 0) ys (norm_of true a) (norm_at true xs k a arm.0) (first t v h (And ys) (and_y true sy))))
+        (by_applied t v h1 q _ (norm_of true a) a (arm.1.2 t v h1 room (at_place k a arm.0)) (by_and_e t v h1 k (Hyp 0) ys (norm_of true a) (norm_at true xs k a arm.0) (first t v h (And ys) (and_y true sy))))
 
     or_forth : (k : ℕ) (a : Form) (p : Proof) → Arm false true true n xs k a p → Proves t v (a ∷ h) p (Or (map (norm_of true) xs))
     or_forth k a p arm =
         let q = arm.1.0 in
         let h1 = a ∷ h in
         let sa = at_place k a arm.0 in
-        rw arm.1.1 (by_or_i t v h1 (map (norm_of true) xs) k _ (norm_of true a) (or_y true sy) (norm_at true xs k a arm.0) (by_imp_e t v h1 q (Hyp 0) a (norm_of true a) (arm.1.2 t v h1 room sa) (first t v h a sa)))
+        rw arm.1.1 (by_or_i t v h1 (map (norm_of true) xs) k _ (norm_of true a) (or_y true sy) (norm_at true xs k a arm.0) (by_applied t v h1 q (Hyp 0) a (norm_of true a) (arm.1.2 t v h1 room sa) (first t v h a sa)))
 
     or_back : (k : ℕ) (a : Form) (p : Proof) → Arm false true false n xs k a p → Proves t v (norm_of true a ∷ h) p (Or xs)
     or_back k a p arm =
         let q = arm.1.0 in
         let h1 = norm_of true a ∷ h in
-        rw arm.1.1 (by_or_i t v h1 xs k _ a or_x arm.0 (by_imp_e t v h1 q (Hyp 0) (norm_of true a) a (arm.1.2 t v h1 room (at_place k a arm.0)) (first t v h (norm_of true a) (norm_place true sy k a arm.0))))
+        rw arm.1.1 (by_or_i t v h1 xs k _ a or_x arm.0 (by_applied t v h1 q (Hyp 0) (norm_of true a) a (arm.1.2 t v h1 room (at_place k a arm.0)) (first t v h (norm_of true a) (norm_place true sy k a arm.0))))
 
   module _ (h : List Form) (sy : AllByRecursion (Sorted t.vocabulary v) (map (norm_of false) xs)) where
     not_and_forth : (k : ℕ) (a : Form) (p : Proof) → Arm true false true n xs k a p → Proves t v (Not (Or (map (norm_of false) xs)) ∷ h) p a
@@ -141,7 +142,7 @@ module _ (n : ℕ) (xs : List Form) (t : Statements) (v : List ℕ) (room : n + 
         rw arm.1.1
         (by_raa t v h1 a _ sa
         (by_not_e t v h2 (Hyp 1) _ (Or ys) (second t v h (Not a) (Not (Or ys)) sn)
-        (by_or_i t v h2 ys k _ (norm_of false a) (or_y false sy) (norm_at false xs k a arm.0) (by_imp_e t v h2 q (Hyp 0) (Not a) (norm_of false a) (arm.1.2 t v h2 room sna) (first t v h1 (Not a) sna)))))
+        (by_or_i t v h2 ys k _ (norm_of false a) (or_y false sy) (norm_at false xs k a arm.0) (by_applied t v h2 q (Hyp 0) (Not a) (norm_of false a) (arm.1.2 t v h2 room sna) (first t v h1 (Not a) sna)))))
 
     not_and_back : (k : ℕ) (a : Form) (p : Proof) → Arm true false false n xs k a p → Proves t v (norm_of false a ∷ And xs ∷ h) p (Or [])
     not_and_back k a p arm =
@@ -149,7 +150,7 @@ module _ (n : ℕ) (xs : List Form) (t : Statements) (v : List ℕ) (room : n + 
         let sna = not_sorted t.vocabulary v 2147483647 a (at_place k a arm.0) in
         let h1 = norm_of false a ∷ And xs ∷ h in
         rw arm.1.1
-        (by_not_e t v h1 _ _ a (by_imp_e t v h1 q (Hyp 0) (norm_of false a) (Not a) (arm.1.2 t v h1 room sna) (first t v (And xs ∷ h) (norm_of false a) (norm_place false sy k a arm.0)))
+        (by_not_e t v h1 _ _ a (by_applied t v h1 q (Hyp 0) (norm_of false a) (Not a) (arm.1.2 t v h1 room sna) (first t v (And xs ∷ h) (norm_of false a) (norm_place false sy k a arm.0)))
         (by_and_e t v h1 k (Hyp 1) xs a arm.0 (second t v h (norm_of false a) (And xs) and_x)))
 
     not_or_forth : (k : ℕ) (a : Form) (p : Proof) → Arm false false true n xs k a p → Proves t v (Not (Or xs) ∷ h) p (norm_of false a)
@@ -159,7 +160,7 @@ module _ (n : ℕ) (xs : List Form) (t : Statements) (v : List ℕ) (room : n + 
         let sn = not_sorted t.vocabulary v 2147483647 (Or xs) or_x in
         let h1 = Not (Or xs) ∷ h in
         rw arm.1.1
-        (by_imp_e t v h1 q _ (Not a) (norm_of false a) (arm.1.2 t v h1 room (not_sorted t.vocabulary v 2147483647 a sa))
+        (by_applied t v h1 q _ (Not a) (norm_of false a) (arm.1.2 t v h1 room (not_sorted t.vocabulary v 2147483647 a sa))
         (by_not_i t v h1 a _ sa (by_not_e t v (a ∷ h1) (Hyp 1) _ (Or xs) (second t v h a (Not (Or xs)) sn) (by_or_i t v (a ∷ h1) xs k (Hyp 0) a or_x arm.0 (first t v h1 a sa)))))
 
     not_or_back : (k : ℕ) (a : Form) (p : Proof) → Arm false false false n xs k a p → Proves t v (a ∷ Or xs ∷ And (map (norm_of false) xs) ∷ h) p (Or [])
@@ -170,7 +171,7 @@ module _ (n : ℕ) (xs : List Form) (t : Statements) (v : List ℕ) (room : n + 
         let h1 = a ∷ Or xs ∷ And ys ∷ h in
         rw arm.1.1
         (by_not_e t v h1 _ (Hyp 0) a
-        (by_imp_e t v h1 q _ (norm_of false a) (Not a) (arm.1.2 t v h1 room (not_sorted t.vocabulary v 2147483647 a sa)) (by_and_e t v h1 k (Hyp 2) ys (norm_of false a) (norm_at false xs k a arm.0) (third t v h a (Or xs) (And ys) (and_y false sy))))
+        (by_applied t v h1 q _ (norm_of false a) (Not a) (arm.1.2 t v h1 room (not_sorted t.vocabulary v 2147483647 a sa)) (by_and_e t v h1 k (Hyp 2) ys (norm_of false a) (norm_at false xs k a arm.0) (third t v h a (Or xs) (And ys) (and_y false sy))))
         (first t v (Or xs ∷ And ys ∷ h) a sa))
 
 -- the whole

@@ -4,13 +4,14 @@ use Rattle.std.proofs.Common.{ap, subst, ◌∙◌}
 use Rattle.fof_terms.specs.declared.form.Form.{Form, Not, And, Or, Imp, Iff}
 use Rattle.clause_form.specs.Norm.{signed, node, join, norm_of}
 use Rattle.clause_form.proofs.NormFacts.{norm_of-Not}
-use Rattle.kernel.specs.declared.proof.Proof.{Proof}
+use Rattle.kernel.specs.declared.proof.Proof.{Proof, Hyp, ImpI}
 use Rattle.norm_proofs.specs.code.Steps.{Between, then_tree, denied_tree}
 use Rattle.norm_proofs.proofs.StepsFacts.{denied_shows}
 use Rattle.norm_proofs.specs.code.Connectives.{sides, sides_back, both_sides, imp_tree, iff_tree}
 use Rattle.norm_proofs.proofs.ConnectivesFacts.{imp_shows, iff_shows}
 use Rattle.norm_proofs.specs.code.Links.{kind_of, arm_tree, Arms, link_tree}
-use Rattle.norm_proofs.proofs.NormsFacts.{norm_of_node, node_shows, pair_arms, by_other, norm_of_sides, norm_of_both}
+use Rattle.norm_proofs.proofs.LinksFacts.{link_shows}
+use Rattle.norm_proofs.proofs.NormsFacts.{norm_of_node, node_shows, unlinked_shows, pair_arms, by_other, norm_of_sides, norm_of_both}
 
 -- the normal forms by those of the members
 module _ (g : Bool) where
@@ -27,12 +28,22 @@ module _ (g : Bool) where
   both_norms ms l r x y is ex ey = rw (is, ex, ey) refl
 
 module _ (g forth : Bool) (n : ℕ) where
-  pub node_made : (conj k1 k2 : Bool) (ms n1 n2 n3 : List Form) (ps : List Proof) (made linked joined : Proof) (first last whole : Form) → made ≡ then_tree forth first last linked joined → first ≡ signed g whole → whole ≡ node conj ms
-      → last ≡ join k2 n3 → k1 ≡ kind_of conj g → k2 ≡ kind_of conj g → linked ≡ link_tree conj g forth ms n1 ps → n1 ≡ map (norm_of g) ms → n2 ≡ map (norm_of g) ms → n3 ≡ map (norm_of g) ms
-      → Between forth n joined (node k1 n2) (join k1 n2) → Arms conj g forth n ms ms ps → Between forth n made (signed g (node conj ms)) (norm_of g (node conj ms))
-  node_made conj k1 k2 ms n1 n2 n3 ps made linked joined first last whole em ef ew el e1 e2 ek f1 f2 f3 l arms =
-      let l' : Between forth n joined (node (kind_of conj g) (map (norm_of g) ms)) (join (kind_of conj g) (map (norm_of g) ms)) = rw (e1, f2) at l in
-      rw (em, ef, ew, el, e2, ek, f1, f3) (node_shows conj g forth n ms ps joined arms l')
+  pub node_made : (conj k1 k2 : Bool) (ms ns : List Form) (made linked joined : Proof) (first last whole : Form) → made ≡ then_tree forth first last linked joined → first ≡ signed g whole → whole ≡ node conj ms
+      → last ≡ join k2 ns → k1 ≡ kind_of conj g → k2 ≡ kind_of conj g → ns ≡ map (norm_of g) ms
+      → Between forth n linked (signed g (node conj ms)) (node (kind_of conj g) ns) → Between forth n joined (node k1 ns) (join k1 ns) → Between forth n made (signed g (node conj ms)) (norm_of g (node conj ms))
+  node_made conj k1 k2 ms ns made linked joined first last whole em ef ew el e1 e2 f k l =
+      let l' : Between forth n joined (node (kind_of conj g) (map (norm_of g) ms)) (join (kind_of conj g) (map (norm_of g) ms)) = rw (e1, f) at l in
+      let k' : Between forth n linked (signed g (node conj ms)) (node (kind_of conj g) (map (norm_of g) ms)) = rw f at k in
+      rw (em, ef, ew, el, e2, f) (node_shows conj g forth n ms linked joined k' l')
+
+  -- a node by the parts of its members, or of members that are their own normal forms
+  pub linked_made : (conj : Bool) (ms ns : List Form) (ps : List Proof) (made : Proof) → ns ≡ map (norm_of g) ms → made ≡ link_tree conj g forth ms ns ps → Arms conj g forth n ms ms ps
+      → Between forth n made (signed g (node conj ms)) (node (kind_of conj g) ns)
+  linked_made conj ms ns ps made f em arms = rw (em, f) (link_shows n ms ps conj g forth arms)
+
+  pub unlinked_made : (conj : Bool) (ms ns : List Form) (made : Proof) (whole : Form) → g ≡ true → ms ≡ ns → made ≡ ImpI whole (Hyp 0) → whole ≡ node conj ms
+      → Between forth n made (signed g (node conj ms)) (node (kind_of conj g) ns)
+  unlinked_made conj ms ns made whole eg es em ew = rw (em, ew, eg) (unlinked_shows conj forth n ms ns es)
 
   pub pair_made : (conj : Bool) (ms n1 n2 : List Form) (ps : List Proof) (one other p q : Proof) (x y a b : Form) → ps ≡ one ∷ other ∷ [] → one ≡ arm_tree conj g forth ms n1 0 x p → other ≡ arm_tree conj g forth ms n2 1 y q
       → x ≡ get_or ms 0 x → y ≡ get_or ms 1 y → n1 ≡ map (norm_of g) ms → n2 ≡ map (norm_of g) ms → ms ≡ a ∷ b ∷ [] → Between forth n p (signed g a) (norm_of g a) → Between forth n q (signed g b) (norm_of g b)

@@ -1,23 +1,21 @@
 -- Proofs between formulas and their normal forms, kind by kind.
 use Rattle.std.specs.Prelude.{ℕ, Bool, true, false, not, ◌≡◌, ◌+◌, ◌≤◌, ◌<◌, ◌^◌, ◌↔◌, IsTrue, length, map, flat_map, sum, List, [], ◌∷◌, Some, slice_get, refl}
 use Rattle.std.specs.List.{AllByRecursion}
-use Rattle.std.proofs.Common.{arith, subst, zero, suc}
+use Rattle.std.proofs.Common.{arith, subst, sym, zero, suc}
 use Rattle.fof_terms.specs.declared.form.Form.{Form, Not, And, Or, Imp, Iff}
 use Rattle.std.proofs.lemmas.List.{length-map}
-use Rattle.fof_terms.proofs.Induction.{form_induction}
 use Rattle.fof_terms.specs.Sorts.{binder_depth}
 use Rattle.clause_form.specs.Norm.{signed, node, members_of, join, quantifier, quantified, norm_of}
 use Rattle.clause_form.proofs.NormFacts.{norm_of-Not, norm_of-And, norm_of-Or, norm_of-Imp, norm_of-Iff, norm_of-All, norm_of-Ex}
 use Rattle.clause_form.proofs.NormSize.{norm_small, flat_size, norms_size}
 use Rattle.clause_form.specs.Sizes.{norm_size_of}
-use Rattle.clause_form.proofs.SizesFacts.{norm_size_of-Atom, norm_size_of-Eq, norm_size_of-Not, norm_size_of-And, norm_size_of-Or, norm_size_of-Imp, norm_size_of-Iff, norm_size_of-All, norm_size_of-Ex}
+use Rattle.clause_form.proofs.SizesFacts.{norm_size_of-Not, norm_size_of-And, norm_size_of-Or, norm_size_of-Imp, norm_size_of-Iff}
 use Rattle.clause_form.proofs.SizeLaws.{sum_cons, few_by_size, depth_within_size}
-use Rattle.kernel.specs.declared.proof.Proof.{Proof}
+use Rattle.kernel.specs.declared.proof.Proof.{Proof, Hyp, ImpI}
 use Rattle.norm_proofs.specs.code.Steps.{Between, then_tree, denied_tree, twice_denied_tree}
-use Rattle.norm_proofs.proofs.StepsFacts.{then_shows, denied_shows, twice_denied_shows}
+use Rattle.norm_proofs.proofs.StepsFacts.{same_shows, then_shows, denied_shows, twice_denied_shows}
 use Rattle.norm_proofs.specs.code.Connectives.{sides, sides_back, both_sides}
-use Rattle.norm_proofs.specs.code.Links.{kind_of, arm_tree, Arms, link_tree}
-use Rattle.norm_proofs.proofs.LinksFacts.{link_shows}
+use Rattle.norm_proofs.specs.code.Links.{kind_of, arm_tree, Arms}
 
 -- The normal forms by kind.
 pub norm_of_node : (conj g : Bool) (ms : List Form) → norm_of g (node conj ms) ≡ join (kind_of conj g) (map (norm_of g) ms)
@@ -93,12 +91,17 @@ pub not_minus : (g forth : Bool) (n : ℕ) (p q : Proof) (a b : Form) → g ≡ 
 not_minus true forth n p q a b e is l = absurd (let never : true ≡ false = e in cc)
 not_minus false forth n p q a b e is l = rw is (then_shows forth n _ p (Not (Not a)) a b (twice_denied_shows forth n a) l)
 
-pub node_shows : (conj g forth : Bool) (n : ℕ) (ms : List Form) (ps : List Proof) (q : Proof) → Arms conj g forth n ms ms ps
+pub node_shows : (conj g forth : Bool) (n : ℕ) (ms : List Form) (p q : Proof) → Between forth n p (signed g (node conj ms)) (node (kind_of conj g) (map (norm_of g) ms))
     → Between forth n q (node (kind_of conj g) (map (norm_of g) ms)) (join (kind_of conj g) (map (norm_of g) ms))
-    → Between forth n (then_tree forth (signed g (node conj ms)) (join (kind_of conj g) (map (norm_of g) ms)) (link_tree conj g forth ms (map (norm_of g) ms) ps) q) (signed g (node conj ms)) (norm_of g (node conj ms))
-node_shows conj g forth n ms ps q arms l =
+    → Between forth n (then_tree forth (signed g (node conj ms)) (join (kind_of conj g) (map (norm_of g) ms)) p q) (signed g (node conj ms)) (norm_of g (node conj ms))
+node_shows conj g forth n ms p q k l =
     rw (norm_of_node conj g ms)
-    (then_shows forth n _ q (signed g (node conj ms)) (node (kind_of conj g) (map (norm_of g) ms)) (join (kind_of conj g) (map (norm_of g) ms)) (link_shows n ms ps conj g forth arms) l)
+    (then_shows forth n p q (signed g (node conj ms)) (node (kind_of conj g) (map (norm_of g) ms)) (join (kind_of conj g) (map (norm_of g) ms)) k l)
+
+-- members that are their own normal forms
+pub unlinked_shows : (conj forth : Bool) (n : ℕ) (ms ns : List Form) → ms ≡ ns → Between forth n (ImpI (node conj ms) (Hyp 0)) (node conj ms) (node (kind_of conj true) ns)
+unlinked_shows true forth n ms ns e = rw (sym e) (same_shows forth n (And ms))
+unlinked_shows false forth n ms ns e = rw (sym e) (same_shows forth n (Or ms))
 
 -- a formula as another of the same normal form, or under minus both negated
 pub by_other : (g forth : Bool) (n : ℕ) (a b : Form) (p q : Proof) → Between forth n p (signed g a) (signed g b) → norm_of g b ≡ norm_of g a → Between forth n q (signed g b) (norm_of g b)

@@ -1,10 +1,12 @@
 -- What private contracts alone say of the code. Nothing public rests on this.
 pub mod Alongside
+pub mod Applying
 pub mod Bound
 pub mod Connectives
 pub mod Fitting
 pub mod Joining
 pub mod Links
+pub mod Narrowing
 pub mod Numbering
 pub mod Placed
 pub mod Recursion

@@ -8,9 +8,10 @@ ghost use Rattle.norm_proofs.specs.code.Steps.{Between};
 ghost use Rattle.norm_proofs.specs.code.Links.{kind_of};
 ghost use Rattle.norm_proofs.specs.code.Bound.{at_variable, by_variable, bound_tree, dropped_tree};
 
+use crate::applying::applied;
 use crate::links::Way;
 use crate::steps::{Normed, Whole, copy, denied, signed, then, under};
-use derive_kit::{Part, all_e, all_i, ex_e, ex_i, hyp, imp_e, inhabit, not_e, not_i, raa};
+use derive_kit::{Part, all_e, all_i, ex_e, ex_i, hyp, inhabit, not_e, not_i, raa};
 use fof_terms::{Form, SortId, Term, has_variable, instantiate, lift};
 use std::alloc::Global;
 use tptp_base::{Boxed, List, Memory};
@@ -64,11 +65,11 @@ fn bound(
         return denied_bound(alloc, way.conjunction, sort, body, norm, part);
     }
     if way.conjunction {
-        let none = imp_e(alloc, part, hyp(alloc, 0)?)?;
+        let none = applied(alloc, part, hyp(alloc, 0)?)?;
         let clash = not_e(alloc, none, here(alloc, hyp(alloc, 1)?)?)?;
         return no_one(alloc, true, sort, body, norm, 1, clash);
     }
-    let none = imp_e(alloc, part, here(alloc, hyp(alloc, 2)?)?)?;
+    let none = applied(alloc, part, here(alloc, hyp(alloc, 2)?)?)?;
     let clash = not_e(alloc, none, hyp(alloc, 0)?)?;
     no_one(alloc, false, sort, body, norm, 0, clash)
 }
@@ -108,14 +109,14 @@ fn plain_bound(
     ensures { IfOk result (λ made. made ≡ bound_tree way.conjunction true way.forth sort body.now norm.now part) }
 {
     if way.conjunction {
-        let own = imp_e(alloc, part, here(alloc, hyp(alloc, 0)?)?)?;
+        let own = applied(alloc, part, here(alloc, hyp(alloc, 0)?)?)?;
         let whole = all_i(alloc, sort, own)?;
         if way.forth {
             return under(alloc, quantifier(alloc, true, sort, body)?, whole);
         }
         return under(alloc, quantifier(alloc, true, sort, norm)?, whole);
     }
-    let own = imp_e(alloc, part, hyp(alloc, 0)?)?;
+    let own = applied(alloc, part, hyp(alloc, 0)?)?;
     if way.forth {
         return other_one(alloc, sort, body, norm, own);
     }
@@ -156,7 +157,7 @@ fn denied_bound(
     ensures { IfOk result (λ made. made ≡ bound_tree conjunction false true sort body.now norm.now part) }
 {
     if conjunction {
-        let found = one(alloc, sort, norm, imp_e(alloc, part, hyp(alloc, 0)?)?)?;
+        let found = one(alloc, sort, norm, applied(alloc, part, hyp(alloc, 0)?)?)?;
         let clash = not_e(alloc, hyp(alloc, 1)?, found)?;
         let own = raa(alloc, body.copy(alloc)?, clash)?;
         let clash = not_e(alloc, hyp(alloc, 1)?, all_i(alloc, sort, own)?)?;
@@ -171,7 +172,7 @@ fn denied_bound(
     let found = one(alloc, sort, body, hyp(alloc, 0)?)?;
     let clash = not_e(alloc, hyp(alloc, 1)?, found)?;
     let none = not_i(alloc, body.copy(alloc)?, clash)?;
-    let whole = all_i(alloc, sort, imp_e(alloc, part, none)?)?;
+    let whole = all_i(alloc, sort, applied(alloc, part, none)?)?;
     under(
         alloc,
         denied(alloc, quantifier(alloc, false, sort, body)?)?,

@@ -12,11 +12,11 @@ use crate::connectives::{both_sides, iff_sides, imp_sides, sides, sides_back, tw
 use crate::joins::{flatten, join_step};
 use crate::links::{Way, arm, link, toward};
 use crate::steps::{
-    Normed, Whole, between_denied, copy, denied, node, signed, then, twice_denied, unchanged,
+    Normed, Whole, between_denied, copy, denied, node, same, signed, then, twice_denied, unchanged,
 };
 use clause_form::{join_flat, norm_signed};
 use derive_kit::Part;
-use fof_terms::Form;
+use fof_terms::{Form, equal_all};
 use kernel::Proof;
 use std::alloc::Global;
 use tptp_base::{Boxed, List, Memory};
@@ -91,13 +91,36 @@ pub(crate) fn node_step(
         → Between way.forth n made.part (signed_of way.positive (node_of way.conjunction forms.now))
         (norm_of way.positive (node_of way.conjunction forms.now))) }
 {
-    let linked = link(alloc, way, forms, norms, parts)?;
+    let linked = linked(alloc, way, forms, norms, parts)?;
     let joined = join_step(alloc, way.kind(), way.forth, norms)?;
     let norm = joined_node(alloc, way.kind(), norms)?;
     let first = signed(alloc, way.positive, node(alloc, way.conjunction, forms)?)?;
     let last = copy(alloc, norm.get())?;
     let part = then(alloc, way.forth, first, last, linked, joined)?;
     Ok(Normed { norm, part })
+}
+
+// Between the node, or under minus its negation, and the node of the members' normal forms. Members that are their own
+// normal forms are not taken apart.
+fn linked(
+    alloc: Global,
+    way: Way,
+    forms: &[Form],
+    norms: &[Form],
+    parts: List<Proof>,
+) -> Result<Part, Memory>
+    requires { norms.now ≡ map (norm_of way.positive) forms.now }
+    ensures { IfOk result (λ made. (n : ℕ)
+        → Arms way.conjunction way.positive way.forth n forms.now forms.now parts
+        → Between way.forth n made (signed_of way.positive (node_of way.conjunction forms.now))
+        (node_of (kind_of way.conjunction way.positive) norms.now)) }
+{
+    if way.positive {
+        if equal_all(forms, norms) {
+            return same(alloc, node(alloc, way.conjunction, forms)?);
+        }
+    }
+    link(alloc, way, forms, norms, parts)
 }
 
 // The joined node.

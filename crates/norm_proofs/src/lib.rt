@@ -2,6 +2,7 @@
 //! reaches in it.
 #![tactic(auto)]
 
+mod applying;
 mod arms;
 mod bounds;
 mod connecting;
@@ -9,11 +10,14 @@ mod connectives;
 mod effort;
 mod joins;
 mod links;
+mod narrowing;
 mod normal;
 mod norms;
 mod paths;
 mod steps;
 mod widening;
 
+pub use applying::apply;
+pub use narrowing::{Narrowed, Rest, narrow_along, whole_path};
 pub use norms::{norm_back, norm_forth};
 pub use paths::path_proof;

@@ -3,8 +3,9 @@ ghost use Rattle.fof_terms.specs.declared.form.Form.{Not, Or};
 ghost use Rattle.kernel.specs.declared.proof.Proof.{ImpI, OrE, Hyp};
 ghost use Rattle.norm_proofs.specs.code.Links.{kind_of, arm_tree, link_tree};
 
+use crate::applying::applied;
 use crate::steps::{denied, node, under};
-use derive_kit::{Part, and_e, and_i, hyp, imp_e, not_e, not_i, or_e, or_i, raa};
+use derive_kit::{Part, and_e, and_i, hyp, not_e, not_i, or_e, or_i, raa};
 use fof_terms::{Form, copy_all};
 use kernel::Proof;
 use std::alloc::Global;
@@ -51,9 +52,9 @@ pub(crate) fn arm(
     if way.positive {
         if way.conjunction {
             let own = and_e(alloc, number, hyp(alloc, 0)?)?;
-            return imp_e(alloc, part, own);
+            return applied(alloc, part, own);
         }
-        let own = imp_e(alloc, part, hyp(alloc, 0)?)?;
+        let own = applied(alloc, part, hyp(alloc, 0)?)?;
         if way.forth {
             return or_i(alloc, copy_all(alloc, norms)?, number, own);
         }
@@ -63,11 +64,11 @@ pub(crate) fn arm(
         return denied_arm(alloc, way.conjunction, forms, norms, number, form, part);
     }
     if way.conjunction {
-        let none = imp_e(alloc, part, hyp(alloc, 0)?)?;
+        let none = applied(alloc, part, hyp(alloc, 0)?)?;
         return not_e(alloc, none, and_e(alloc, number, hyp(alloc, 1)?)?);
     }
     let own = and_e(alloc, number, hyp(alloc, 2)?)?;
-    not_e(alloc, imp_e(alloc, part, own)?, hyp(alloc, 0)?)
+    not_e(alloc, applied(alloc, part, own)?, hyp(alloc, 0)?)
 }
 
 // The same from the negation to the normal form.
@@ -83,7 +84,7 @@ fn denied_arm(
     ensures { IfOk result (λ made. made ≡ arm_tree conjunction false true forms.now norms.now number form.now part) }
 {
     if conjunction {
-        let own = imp_e(alloc, part, hyp(alloc, 0)?)?;
+        let own = applied(alloc, part, hyp(alloc, 0)?)?;
         let one = or_i(alloc, copy_all(alloc, norms)?, number, own)?;
         let clash = not_e(alloc, hyp(alloc, 1)?, one)?;
         return raa(alloc, form.copy(alloc)?, clash);
@@ -91,7 +92,7 @@ fn denied_arm(
     let one = or_i(alloc, copy_all(alloc, forms)?, number, hyp(alloc, 0)?)?;
     let clash = not_e(alloc, hyp(alloc, 1)?, one)?;
     let none = not_i(alloc, form.copy(alloc)?, clash)?;
-    imp_e(alloc, part, none)
+    applied(alloc, part, none)
 }
 
 // The proof for all members, by those for each.

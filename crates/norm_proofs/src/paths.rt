@@ -17,6 +17,7 @@ ghost use Rattle.norm_proofs.specs.code.Steps.{Between};
 ghost use Rattle.norm_proofs.specs.code.Alongside.{ArmAt, pick_tree, under_tree};
 ghost use Rattle.norm_proofs.specs.code.Routes.{IsAlong};
 
+use crate::applying::{applied, is_itself};
 use crate::steps::{copy, node, same, under};
 use crate::widening::widen;
 use clause_form::{Clause, Path, all_beside, clauses_of_paths, close, forms_of_lits};
@@ -137,7 +138,7 @@ fn pick(alloc: Global, members: &[Form], number: u32, part: Part) -> Result<Part
     ensures { IfOk result (λ made. made ≡ pick_tree members.now number part) }
 {
     let own = and_e(alloc, number, hyp(alloc, 0)?)?;
-    let last = imp_e(alloc, part, own)?;
+    let last = applied(alloc, part, own)?;
     under(alloc, node(alloc, true, members)?, last)
 }
 
@@ -145,9 +146,12 @@ fn pick(alloc: Global, members: &[Form], number: u32, part: Part) -> Result<Part
 fn below(alloc: Global, sort: SortId, body: &Form, part: Part) -> Result<Part, Memory>
     ensures { IfOk result (λ made. made ≡ under_tree sort body.now part) }
 {
+    let whole = Boxed::new(alloc, Form::All(sort, copy(alloc, body)?))?;
+    if is_itself(part.get()) {
+        return same(alloc, whole);
+    }
     let own = all_e(alloc, Term::Var(0), hyp(alloc, 0)?)?;
     let last = all_i(alloc, sort, imp_e(alloc, part, own)?)?;
-    let whole = Boxed::new(alloc, Form::All(sort, copy(alloc, body)?))?;
     under(alloc, whole, last)
 }
 

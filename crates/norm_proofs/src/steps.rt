@@ -4,6 +4,7 @@ ghost use Rattle.kernel.specs.declared.proof.Proof.{Hyp, ImpI};
 ghost use Rattle.clause_form.specs.Norm.{node as node_of, signed as signed_of};
 ghost use Rattle.norm_proofs.specs.code.Steps.{then_tree, denied_tree, twice_denied_tree};
 
+use crate::applying::{applied, is_itself};
 use derive_kit::{Part, hyp, imp_e, imp_i, not_e, not_i, raa};
 use fof_terms::{Form, copy_all};
 use std::alloc::Global;
@@ -75,7 +76,8 @@ pub(crate) fn unchanged(alloc: Global, form: Whole) -> Result<Normed, Memory>
     Ok(Normed { norm: form, part })
 }
 
-// From the first formula by a middle one to the last, or back.
+// From the first formula by a middle one to the last, or back. Where one of the parts goes from a formula to itself, the
+// other one does it alone.
 pub(crate) fn then(
     alloc: Global,
     forth: bool,
@@ -86,6 +88,12 @@ pub(crate) fn then(
 ) -> Result<Part, Memory>
     ensures { IfOk result (λ node. node ≡ then_tree forth first last before after) }
 {
+    if is_itself(before.get()) {
+        return Ok(after);
+    }
+    if is_itself(after.get()) {
+        return Ok(before);
+    }
     let own = hyp(alloc, 0)?;
     if forth {
         let middle = imp_e(alloc, before, own)?;
@@ -105,7 +113,7 @@ pub(crate) fn between_denied(
 ) -> Result<Part, Memory>
     ensures { IfOk result (λ node. node ≡ denied_tree forth first last part) }
 {
-    let own = imp_e(alloc, part, hyp(alloc, 0)?)?;
+    let own = applied(alloc, part, hyp(alloc, 0)?)?;
     let contrary = not_e(alloc, hyp(alloc, 1)?, own)?;
     if forth {
         let none = not_i(alloc, last.into_inner(), contrary)?;

@@ -5,6 +5,7 @@ ghost use Rattle.norm_proofs.specs.code.Joining.{numbered};
 ghost use Rattle.norm_proofs.specs.code.Numbering.{general as general_tree, near as near_tree};
 ghost use Rattle.norm_proofs.specs.code.Alongside.{chosen as chosen_tree, by_segment as segment_tree, member_tree};
 
+use crate::applying::applied;
 use crate::steps::{Whole, copy, node};
 use clause_form::{Clause, close};
 use derive_kit::{Part, all_e, all_i, hyp, imp_e, imp_i, or_e, or_i};
@@ -14,7 +15,7 @@ use std::alloc::Global;
 use tptp_base::{List, Memory};
 
 // All of the sorts over what the part shows, the first outermost.
-fn general(alloc: Global, sorts: &[SortId], part: Part) -> Result<Part, Memory>
+pub(crate) fn general(alloc: Global, sorts: &[SortId], part: Part) -> Result<Part, Memory>
     ensures { IfOk result (λ made. made ≡ general_tree sorts.now part) }
 {
     let mut made = part;
@@ -26,7 +27,7 @@ fn general(alloc: Global, sorts: &[SortId], part: Part) -> Result<Part, Memory>
 }
 
 // The instance at so many variables from the first on, the outermost of them first.
-fn near(alloc: Global, first: u32, count: usize, part: Part) -> Result<Part, Memory>
+pub(crate) fn near(alloc: Global, first: u32, count: usize, part: Part) -> Result<Part, Memory>
     requires { first + count ≤ 100000 }
     ensures { IfOk result (λ made. made ≡ near_tree first count part) }
 {
@@ -116,6 +117,6 @@ pub(crate) fn widen(
     let body = by_segment(alloc, members, number, clause.lits.len(), inner)?;
     let all = general(alloc, whole.sorts.as_slice(), body)?;
     let wide = imp_i(alloc, close(alloc, clause)?, all)?;
-    let from = imp_e(alloc, part, hyp(alloc, 0)?)?;
+    let from = applied(alloc, part, hyp(alloc, 0)?)?;
     imp_e(alloc, wide, from)
 }

@@ -1,5 +1,5 @@
 -- Lines whose normal form is that of a parent.
-use Rattle.std.specs.Prelude.{ℕ, ◌≡◌, ◌≤◌, true, List, [], length, Some, slice_get, get_or, Option}
+use Rattle.std.specs.Prelude.{ℕ, ◌≡◌, ◌<◌, ◌≤◌, true, List, [], length, Some, slice_get, get_or, Option}
 use Rattle.std.proofs.Common.{ap, sym, subst, ◌∙◌, arith}
 use Rattle.fof_terms.specs.declared.form.Form.{Form, Imp}
 use Rattle.fof_terms.specs.Vocabulary.{Vocabulary}
@@ -7,6 +7,7 @@ use Rattle.fof_terms.specs.Sorts.{Sorted}
 use Rattle.clause_form.specs.declared.path.Parent.{Parent}
 use Rattle.clause_form.specs.Norm.{norm_of, HasNorm}
 use Rattle.clause_rules.specs.NormRule.{HasLinesNorm}
+use Rattle.clause_proofs.proofs.BodySorts.{placed}
 use Rattle.clause_rules.specs.Answers.{IsAnswer, norm}
 use Rattle.clause_rules.specs.declared.just.Just.{Just}
 use Rattle.clause_rules.specs.declared.just.Just.TheVariants.{Norm}
@@ -33,6 +34,18 @@ norm_shown w line parent forth back ready line_ready alike f b formulas known =
     let sorted = full w parent.form ready in
     let own = by_imp_e t [] [] forth (Line parent.number) parent.form (norm_of true parent.form) (f t [] [] (omega arith) sorted) (by_line t [] [] parent.number parent.form sorted known) in
     by_imp_e t [] [] back _ (norm_of true line) line (b t [] [] (omega arith) (full w line line_ready)) (subst (λ (x : Form). Proves t [] [] (ImpE forth (Line parent.number)) x) norms own)
+
+-- a parent that is the line itself
+pub itself_shown : (w : Vocabulary) (line : Form) (parent : Parent) (own : Proof) → own ≡ Line parent.number → IsReady w parent.form → parent.form ≡ line
+    → (formulas : List Form) → slice_get formulas parent.number ≡ Some parent.form → Proves (theory_of w formulas) [] [] own line
+itself_shown w line parent own is ready same formulas known = rw (is, sym same) (by_line (theory_of w formulas) [] [] parent.number parent.form (full w parent.form ready) known)
+
+pub itself_alike : (parents : List Parent) (line : Form) (a k : ℕ) (r : Parent) → HasLinesNorm parents line a → k < length parents → r ≡ get_or parents k r → r.form ≡ line → HasLinesNorm parents line k
+itself_alike parents line a k r has lt is same = record {
+  made = has.made;
+  of_line = has.of_line;
+  of_parent = record { parent = r; there = placed parents k r lt is; alike = subst (λ (x : Form). HasNorm x has.made) (sym same) has.of_line };
+}
 
 -- the parent of that number has the line's normal form
 pub alike_at : (parents : List Parent) (line : Form) (a : ℕ) (r : Parent) → HasLinesNorm parents line a → r ≡ get_or parents a r → AreAlike r.form line

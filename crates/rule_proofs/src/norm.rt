@@ -2,6 +2,7 @@
 ghost use Rattle.std.specs.Prelude.{◌≡◌, [], Some, slice_get, List as ListOf, IfOk};
 ghost use Rattle.fof_terms.specs.declared.form.Form.{Form as Formula};
 ghost use Rattle.kernel.specs.Proves.{Proves};
+ghost use Rattle.clause_rules.specs.NormRule.{HasLinesNorm};
 ghost use Rattle.clause_rules.specs.Steps.{AreReady, IsReady};
 ghost use Rattle.clause_rules.specs.Answers.{norm as norm_rule};
 ghost use Rattle.rule_proofs.specs.ByRule.{AreAlike, IsByRule};
@@ -11,7 +12,7 @@ use clause_form::Parent;
 use clause_proofs::line as formula;
 use clause_rules::Just;
 use derive_kit::{Part, imp_e};
-use fof_terms::{Form, Signature};
+use fof_terms::{Form, Signature, equal};
 use norm_proofs::{norm_back, norm_forth};
 use rule_steps::norm_step;
 use std::alloc::Global;
@@ -30,6 +31,7 @@ pub fn by_norm(
 {
     match norm_step(alloc, signature, parents, line)? {
         Some(Just::Norm { parent }) => {
+            let parent = likest(parents, parent, line);
             let proof = normed(alloc, signature, &parents[parent], line)?;
             Ok(Some(proof))
         }
@@ -38,7 +40,20 @@ pub fn by_norm(
     }
 }
 
-/// A proof of the line, by a parent that has the line's normal form.
+// The number of a parent that is the line itself, or else of the one given.
+fn likest(parents: &[Parent], parent: usize, line: &Form) -> usize
+    requires { HasLinesNorm parents.now line.now parent }
+    ensures { HasLinesNorm parents.now line.now result }
+{
+    for number in 0..parents.len() {
+        if equal(&parents[number].form, line) {
+            return number;
+        }
+    }
+    parent
+}
+
+/// A proof of the line, by a parent that has the line's normal form. A line that is the parent itself is cited.
 pub fn normed(
     alloc: Global,
     signature: &Signature,
@@ -52,8 +67,12 @@ pub fn normed(
         → slice_get formulas parent.now.number ≡ Some parent.now.form
         → Proves (theory_of signature.now formulas) [] [] proof line.now) }
 {
+    let own = formula(alloc, parent.number)?;
+    if equal(&parent.form, line) {
+        return Ok(own);
+    }
     let forth = norm_forth(alloc, &parent.form)?;
-    let own = imp_e(alloc, forth, formula(alloc, parent.number)?)?;
+    let own = imp_e(alloc, forth, own)?;
     let back = norm_back(alloc, line)?;
     imp_e(alloc, back, own)
 }

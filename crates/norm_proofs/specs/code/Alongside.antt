@@ -1,5 +1,5 @@
 -- From a formula to the closed clause that a path reaches in it.
-use Rattle.std.specs.Prelude.{ℕ, zero, suc, ◌+◌, ◌≡◌, ◌<◌, false, List, [], ◌∷◌, length, Some, slice_get}
+use Rattle.std.specs.Prelude.{ℕ, zero, suc, ◌+◌, ◌≡◌, ◌<◌, false, List, [], ◌∷◌, length, Some, slice_get, if◌then◌else◌}
 use Rattle.fof_terms.specs.declared.term.Term.{Var}
 use Rattle.fof_terms.specs.declared.form.Form.{Form, And, All}
 use Rattle.fof_terms.specs.Sorts.{SortedTo, Sorted}
@@ -10,6 +10,7 @@ use Rattle.clause_form.specs.Reached.{around}
 use Rattle.kernel.specs.Statements.{Statements}
 use Rattle.kernel.specs.Proves.{Proves}
 use Rattle.kernel.specs.declared.proof.Proof.{Proof, Hyp, AndE, OrI, OrE, ImpI, ImpE, AllI, AllE}
+use Rattle.norm_proofs.specs.code.Applying.{applied, is_itself}
 use Rattle.norm_proofs.specs.code.Joining.{numbered}
 use Rattle.norm_proofs.specs.code.Numbering.{general, near}
 
@@ -31,13 +32,14 @@ widened sorts as_ e n k m = general sorts (by_segment as_ k m (near e n (Hyp 0))
 
 -- the same by the member that leads to that clause
 abbrev pub member_tree : Clause → Clause → List Form → ℕ → ℕ → Proof → Proof
-member_tree whole c as_ e k q = ImpE (ImpI (closed c) (widened whole.sorts as_ e (length c.sorts) k (length c.lits))) (ImpE q (Hyp 0))
+member_tree whole c as_ e k q = ImpE (ImpI (closed c) (widened whole.sorts as_ e (length c.sorts) k (length c.lits))) (applied q (Hyp 0))
 
 abbrev pub pick_tree : List Form → ℕ → Proof → Proof
-pick_tree as_ k q = ImpI (And as_) (ImpE q (AndE k (Hyp 0)))
+pick_tree as_ k q = ImpI (And as_) (applied q (AndE k (Hyp 0)))
 
-abbrev pub under_tree : ℕ → Form → Proof → Proof
-under_tree s a q = ImpI (All s a) (AllI s (ImpE q (AllE (Var 0) (Hyp 0))))
+-- itself, where the body leads to itself
+unfoldable pub under_tree : ℕ → Form → Proof → Proof
+under_tree s a q = if is_itself q then ImpI (All s a) (Hyp 0) else ImpI (All s a) (AllI s (ImpE q (AllE (Var 0) (Hyp 0))))
 
 abbrev pub ArmAt : Clause → List Form → ℕ → Form → Proof → Type 0
 ArmAt whole as_ k a p =

@@ -2,7 +2,8 @@
 use Rattle.std.specs.Prelude.{ℕ, Bool, true, false, not, ◌+◌, ◌≡◌, map, List, [], ◌∷◌, Some, slice_get}
 use Rattle.fof_terms.specs.declared.form.Form.{Form, Not, And, Or}
 use Rattle.clause_form.specs.Norm.{signed, norm_of}
-use Rattle.kernel.specs.declared.proof.Proof.{Proof, Hyp, AndI, AndE, OrI, OrE, ImpI, ImpE, NotI, NotE, Raa}
+use Rattle.kernel.specs.declared.proof.Proof.{Proof, Hyp, AndI, AndE, OrI, OrE, ImpI, NotI, NotE, Raa}
+use Rattle.norm_proofs.specs.code.Applying.{applied}
 use Rattle.norm_proofs.specs.code.Steps.{Between}
 
 -- the normal form of a conjunction is one too, and that of its negation is a disjunction
@@ -13,13 +14,13 @@ kind_of false g = not g
 -- the proof for a member, number k, of the formulas with those normal forms: of a conjunction or a disjunction, or
 -- under minus of its negation, to its normal form or back
 abbrev pub arm_tree : Bool → Bool → Bool → List Form → List Form → ℕ → Form → Proof → Proof
-arm_tree true true forth xs ys k a q = ImpE q (AndE k (Hyp 0))
-arm_tree false true true xs ys k a q = OrI ys k (ImpE q (Hyp 0))
-arm_tree false true false xs ys k a q = OrI xs k (ImpE q (Hyp 0))
-arm_tree true false true xs ys k a q = Raa a (NotE (Hyp 1) (OrI ys k (ImpE q (Hyp 0))))
-arm_tree true false false xs ys k a q = NotE (ImpE q (Hyp 0)) (AndE k (Hyp 1))
-arm_tree false false true xs ys k a q = ImpE q (NotI a (NotE (Hyp 1) (OrI xs k (Hyp 0))))
-arm_tree false false false xs ys k a q = NotE (ImpE q (AndE k (Hyp 2))) (Hyp 0)
+arm_tree true true forth xs ys k a q = applied q (AndE k (Hyp 0))
+arm_tree false true true xs ys k a q = OrI ys k (applied q (Hyp 0))
+arm_tree false true false xs ys k a q = OrI xs k (applied q (Hyp 0))
+arm_tree true false true xs ys k a q = Raa a (NotE (Hyp 1) (OrI ys k (applied q (Hyp 0))))
+arm_tree true false false xs ys k a q = NotE (applied q (Hyp 0)) (AndE k (Hyp 1))
+arm_tree false false true xs ys k a q = applied q (NotI a (NotE (Hyp 1) (OrI xs k (Hyp 0))))
+arm_tree false false false xs ys k a q = NotE (applied q (AndE k (Hyp 2))) (Hyp 0)
 
 -- the proof for all members, by those for each
 abbrev pub link_tree : Bool → Bool → Bool → List Form → List Form → List Proof → Proof

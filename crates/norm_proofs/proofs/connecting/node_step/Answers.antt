@@ -14,6 +14,6 @@ returns-clause-norm c = node_norm c.args.way.positive c.args.way.conjunction c.k
 
 pub returns-clause-part : goal.returns-clause-part
 returns-clause-part c = λ n arms.
-    node_made c.args.way.positive c.args.way.forth n c.args.way.conjunction c.kind.result c.kind-2.result c.args.forms.now c.args.norms.now c.args.norms.now c.args.norms.now c.args.parts
+    node_made c.args.way.positive c.args.way.forth n c.args.way.conjunction c.kind.result c.kind-2.result c.args.forms.now c.args.norms.now
     c.in_ok-part.part c.in_ok-linked.linked c.in_ok-joined.joined c.in_ok-first.first c.in_ok-last.last c.in_ok-node.field-0 c.in_ok-part.ensures c.in_ok-first.ensures c.in_ok-node.ensures
-    (c.in_ok-last.ensures ∙ c.get.ensures ∙ c.in_ok-norm.ensures) c.kind.ensures c.kind-2.ensures c.in_ok-linked.ensures c.requires.norms c.requires.norms c.requires.norms (c.in_ok-joined.ensures n) arms
+    (c.in_ok-last.ensures ∙ c.get.ensures ∙ c.in_ok-norm.ensures) c.kind.ensures c.kind-2.ensures c.requires.norms (c.in_ok-linked.ensures n arms) (c.in_ok-joined.ensures n)

@@ -1,10 +1,14 @@
+use Rattle.std.proofs.Common.{refl}
 use Rattle.derive_kit.proofs.Built.{ok_map}
-use Rattle.rule_proofs.proofs.NormLines.{norm_shown}
+use Rattle.rule_proofs.proofs.NormLines.{itself_shown, norm_shown}
 use Rattle.rule_proofs.proofs.norm.normed.Goals as goal
+
+pub returns-then-equal : goal.returns-then-equal
+returns-then-equal c = itself_shown c.args.signature.now c.args.line.now c.args.parent.now c.in_ok-own.own c.in_ok-own.ensures c.requires.parent (c.if-equal.ensures.0 refl)
 
 pub returns : goal.returns
 returns c =
     ok_map c.imp_e-2.result
-    (λ made e. rw e (rw c.in_ok-own.ensures (rw c.in_ok-line.ensures
+    (λ made e. rw e (rw c.in_ok-own-2.ensures (rw c.in_ok-own.ensures
     (norm_shown c.args.signature.now c.args.line.now c.args.parent.now c.in_ok-forth.forth c.in_ok-back.back c.requires.parent c.requires.line c.requires.alike c.in_ok-forth.ensures c.in_ok-back.ensures))))
     c.imp_e-2.ensures
