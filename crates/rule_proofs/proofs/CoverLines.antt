@@ -1,5 +1,9 @@
 -- A clause that a path reaches in a parent's normal form, and a line that covers it.
 use Rattle.std.specs.Prelude.{ℕ, ◌≡◌, ◌≤◌, true, false, List, [], ◌∷◌, ◌++◌, length, map, take, drop, reverse, get_or, slice_get, Some, refl}
+use Rattle.fof_terms.specs.Scope.{scope_sorts}
+use Rattle.fof_terms.specs.declared.sorting.Scope.{Outside}
+use Rattle.fof_terms.proofs.ScopeFacts.{scope_sorts-Outside}
+use Rattle.std.specs.Borrow.{Bor}
 use Rattle.std.proofs.Common.{ap, sym, subst, ◌∙◌, arith, append-nil}
 use Rattle.std.proofs.lemmas.List.{length-reverse}
 use Rattle.fof_terms.specs.declared.term.Term.{Term}
@@ -28,18 +32,18 @@ use Rattle.clause_rules.specs.Steps.{AreCovered, IsJoint, IsReady, images_of_par
 use Rattle.clause_rules.specs.declared.just.Just.TheVariants.{Cover}
 use Rattle.kernel.specs.Statements.{Statements}
 use Rattle.kernel.specs.Proves.{Proves}
-use Rattle.kernel.proofs.Building.{by_line, by_imp_e, shown_sorted}
-use Rattle.kernel.specs.declared.proof.Proof.{Proof, Line, ImpE}
+use Rattle.kernel.proofs.Building.{by_line, shown_sorted}
+use Rattle.kernel.specs.declared.proof.Proof.{Proof, Line}
 use Rattle.norm_proofs.specs.Placed.{SortedSomewhere}
 use Rattle.clause_proofs.specs.declared.opening.Opened.{Opened}
 use Rattle.clause_proofs.specs.declared.premises.Premise.{Premise}
 use Rattle.clause_proofs.specs.Bodies.{body_of, HasClause}
 use Rattle.clause_proofs.specs.Premises.{IsPremiseBy}
-use Rattle.rule_proofs.specs.code.Facts.{IsClosed, IsFact, ShowsAnywhere}
+use Rattle.rule_proofs.specs.code.Facts.{CoversIn, IsClosed, IsFact, IsFactUpTo, ShowsAnywhere}
 use Rattle.clause_proofs.specs.Refuting.{theory_of, ShowsBody}
 use Rattle.clause_proofs.proofs.BodySorts.{under_closed, body_sorted}
 use Rattle.clause_proofs.proofs.LineGoals.{Exist, closed_depth}
-use Rattle.rule_proofs.proofs.NormLines.{Forth}
+use Rattle.rule_proofs.proofs.NormLines.{Forth, Applies}
 use Rattle.clause_proofs.proofs.ReadyParents.{full, parent_at}
 use Rattle.clause_proofs.proofs.ImageParts.{part_length, part_within, part_images, part_lits, part_sorted}
 
@@ -64,20 +68,26 @@ more_has c n = or_has c c.lits refl n
 abbrev pub Along : Form → Path → Proof → Type 0
 Along norm path p = (t : Statements) (v : List ℕ) (h : List Form) (c : Clause) → length v ≤ 1000000000 → Sorted t.vocabulary v norm → reached path norm ≡ Some c → Proves t v h p (Imp norm (closed c))
 
-pub norm_shown : (w : Vocabulary) (parent : Parent) (forth : Proof) → IsReady w parent.form → Forth parent.form forth → IsFact w parent (norm_of true parent.form) (ImpE forth (Line parent.number))
-norm_shown w parent forth ready f =
+pub norm_shown : (n : ℕ) (w : Vocabulary) (parent : Parent) (a : Form) (own forth made : Proof) → n ≤ 1000000000 → Sorted w [] a → Forth a forth → Applies forth own made → IsFactUpTo n w parent a own → IsFactUpTo n w parent (norm_of true a) made
+norm_shown n w parent a own forth made le sorted f apply fact = record {
+  sorted = (sorted_of_imp w [] 2147483647 a (norm_of true a) (shown_sorted (theory_of w []) [] [] forth _ (f (theory_of w []) [] [] (omega arith) sorted))).1;
+  shows = λ formulas there v h sc few.
+      let t = theory_of w formulas in
+      apply t v h a (norm_of true a) (f t v h (omega arith) (closed_anywhere w v 2147483647 a sc sorted)) (fact.shows formulas there v h sc few);
+}
+
+-- the parent itself
+pub parent_shown : (n : ℕ) (w : Vocabulary) (parent : Parent) (own : Proof) → own ≡ Line parent.number → IsReady w parent.form → IsFactUpTo n w parent parent.form own
+parent_shown n w parent own is ready =
     let sorted = full w parent.form ready in
     record {
-      sorted = (sorted_of_imp w [] 2147483647 parent.form (norm_of true parent.form) (shown_sorted (theory_of w []) [] [] forth _ (f (theory_of w []) [] [] (omega arith) sorted))).1;
-      shows = λ formulas there v h sc few.
-          let t = theory_of w formulas in
-          let here = closed_anywhere w v 2147483647 parent.form sc sorted in
-          by_imp_e t v h forth (Line parent.number) parent.form (norm_of true parent.form) (f t v h few here) (by_line t v h parent.number parent.form here there);
+      sorted = sorted;
+      shows = λ formulas there v h sc few. rw is (by_line (theory_of w formulas) v h parent.number parent.form (closed_anywhere w v 2147483647 parent.form sc sorted) there);
     }
 
-module _ (w : Vocabulary) (parent : Parent) (made : Form) (own : Proof) (small : norm_size_of parent.form ≤ 100000) (same : made ≡ norm_of true parent.form) (fact : IsFact w parent (norm_of true parent.form) own) where
+module _ (w : Vocabulary) (parent : Parent) (a made : Form) (own : Proof) (small : norm_size_of a ≤ 100000) (same : made ≡ norm_of true a) (fact : IsFact w parent (norm_of true a) own) where
   pub made_small : norm_size_of made ≤ 100000
-  made_small = omega (arith, ap norm_size_of same, norm_small parent.form true, small)
+  made_small = omega (arith, ap norm_size_of same, norm_small a true, small)
 
   made_fact : IsFact w parent made own
   made_fact = subst (λ (x : Form). IsFact w parent x own) (sym same) fact
@@ -88,12 +98,15 @@ module _ (w : Vocabulary) (parent : Parent) (made : Form) (own : Proof) (small :
   pub made_roomy : IsRoomy made
   made_roomy = roomy_start made made_small made_somewhere
 
-  pub along_shown : (path : Path) (along : Proof) (c : Clause) → Along made path along → reached path made ≡ Some c → IsFact w parent (closed c) (ImpE along own)
-  along_shown path along c g is = record {
+  pub along_shown : (path : Path) (along last : Proof) (c : Clause) → Along made path along → reached path made ≡ Some c → Applies along own last → IsFact w parent (closed c) last
+  along_shown path along last c g is apply = record {
     sorted = (sorted_of_imp w [] 2147483647 made (closed c) (shown_sorted (theory_of w []) [] [] along _ (g (theory_of w []) [] [] c (omega arith) made_fact.sorted is))).1;
     shows = λ formulas there v h sc few.
-        by_imp_e (theory_of w formulas) v h along own made (closed c) (g (theory_of w formulas) v h c few (closed_anywhere w v 2147483647 made sc made_fact.sorted) is) (made_fact.shows formulas there v h sc few);
+        apply (theory_of w formulas) v h made (closed c) (g (theory_of w formulas) v h c (omega arith) (closed_anywhere w v 2147483647 made sc made_fact.sorted) is) (made_fact.shows formulas there v h sc few);
   }
+
+pub few_there : (lent : Bor (List ℕ)) (sorts : List ℕ) → lent.now ≡ sorts → length sorts ≤ 900000000 → length (scope_sorts (Outside lent)) ≤ 900000000
+few_there lent sorts e few = omega (arith, ap length (scope_sorts-Outside lent), length-reverse lent.now, ap length e)
 
 -- a clause whose closed formula is well-sorted
 module _ (w : Vocabulary) (o : Opened) (is : IsClosed w o) where
@@ -142,7 +155,7 @@ module _ (w : Vocabulary) (o : Opened) (is : IsClosed w o) where
             subst (λ (ss : List ℕ). AreSorted w ss p.lits) (sym here)
             (subst (AreSorted w whole) (sym lits_are) (part_sorted w whole (length e.sorts) images joint (scope_of e) (reverse o.clause.sorts) [] (length e.sorts) (length o.clause.sorts) whole_is front_length so_many o.clause.lits lits_there))
 
-        pub premise_shown : (formulas : List Form) → IsScope w v → length v ≤ 1000000000 → ShowsAnywhere w formulas (closed o.clause) own → ShowsBody w v formulas p.is_or p.lits p.part
+        pub premise_shown : (formulas : List Form) → IsScope w v → length v ≤ 900000000 → ShowsAnywhere w formulas (closed o.clause) own → ShowsBody w v formulas p.is_or p.lits p.part
         premise_shown formulas sc few shows =
             let within = part_within w whole (length e.sorts) images joint (scope_of e) (reverse o.clause.sorts) [] (length e.sorts) (length o.clause.sorts) whole_is front_length so_many in
             let fit = part_images w whole (length e.sorts) images joint (scope_of e) (reverse o.clause.sorts) [] (length e.sorts) (length o.clause.sorts) whole_is front_length so_many in
@@ -160,6 +173,20 @@ same_reached path a b x c e same f = let both : Some x ≡ Some c = sym e ∙ ap
 
 pub cover_holds : (w : Vocabulary) (parents : List Parent) (line : Form) (a : ℕ) (path : Path) (images : List Term) → Shows w parents line (Cover a path images) → IsCoverStep w parents line
 cover_holds w parents line a path images (c, e, joint, at) = (a, path, c, e, scope_of c, images_of_parents e images, at)
+
+-- what the justification shows, of the parent alone
+pub covers_in : (w : Vocabulary) (parents : List Parent) (line : Form) (a : ℕ) (path : Path) (images : List Term) (r : Parent) → Shows w parents line (Cover a path images) → r ≡ get_or parents a r → CoversIn w r.form line path images
+covers_in w parents line a path images r (c, e, joint, at) is =
+    let same : r ≡ at.reaches.parent = parent_at parents a at.reaches.parent r at.reaches.there is in
+    record {
+      clause = c;
+      own = e;
+      joint = joint;
+      small = rw same at.reaches.small;
+      reaches = rw same at.reaches.clause;
+      line_clause = at.line_clause;
+      covers = at.covers;
+    }
 
 pub there_is : (parents : List Parent) (a : ℕ) (p r : Parent) → slice_get parents a ≡ Some p → r ≡ get_or parents a r → slice_get parents a ≡ Some r
 there_is parents a p r at is = at ∙ ap Some (sym (parent_at parents a p r at is))

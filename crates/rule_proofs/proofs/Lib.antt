@@ -5,6 +5,7 @@ pub mod FewImages
 pub mod Fillings
 pub mod Joints
 pub mod Marks
+pub mod MemberLines
 pub mod NormLines
 pub mod Resolvents
 pub mod Rewritings

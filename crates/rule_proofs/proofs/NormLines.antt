@@ -14,8 +14,8 @@ use Rattle.clause_rules.specs.declared.just.Just.TheVariants.{Norm}
 use Rattle.clause_rules.specs.Steps.{IsReady}
 use Rattle.kernel.specs.Statements.{Statements}
 use Rattle.kernel.specs.Proves.{Proves}
-use Rattle.kernel.proofs.Building.{by_line, by_imp_e}
-use Rattle.kernel.specs.declared.proof.Proof.{Proof, Line, ImpE}
+use Rattle.kernel.proofs.Building.{by_line}
+use Rattle.kernel.specs.declared.proof.Proof.{Proof, Line}
 use Rattle.rule_proofs.specs.ByRule.{AreAlike}
 use Rattle.clause_proofs.specs.Refuting.{theory_of}
 use Rattle.clause_proofs.proofs.ReadyParents.{parent_at, full}
@@ -26,14 +26,18 @@ Forth a p = (t : Statements) (v : List ℕ) (h : List Form) → length v ≤ 100
 abbrev pub Back : Form → Proof → Type 0
 Back a p = (t : Statements) (v : List ℕ) (h : List Form) → length v ≤ 1000000000 → Sorted t.vocabulary v a → Proves t v h p (Imp (norm_of true a) a)
 
-pub norm_shown : (w : Vocabulary) (line : Form) (parent : Parent) (forth back : Proof) → IsReady w parent.form → IsReady w line → AreAlike parent.form line → Forth parent.form forth → Back line back
-    → (formulas : List Form) → slice_get formulas parent.number ≡ Some parent.form → Proves (theory_of w formulas) [] [] (ImpE back (ImpE forth (Line parent.number))) line
-norm_shown w line parent forth back ready line_ready alike f b formulas known =
+-- an implication that is applied to what a part shows
+abbrev pub Applies : Proof → Proof → Proof → Type 0
+Applies forth own made = (t : Statements) (v : List ℕ) (h : List Form) (a b : Form) → Proves t v h forth (Imp a b) → Proves t v h own a → Proves t v h made b
+
+pub norm_shown : (w : Vocabulary) (line : Form) (parent : Parent) (own forth middle back made : Proof) → own ≡ Line parent.number → IsReady w parent.form → IsReady w line → AreAlike parent.form line → Forth parent.form forth → Back line back
+    → Applies forth own middle → Applies back middle made → (formulas : List Form) → slice_get formulas parent.number ≡ Some parent.form → Proves (theory_of w formulas) [] [] made line
+norm_shown w line parent own forth middle back made is ready line_ready alike f b one two formulas known =
     let t = theory_of w formulas in
     let norms : norm_of true parent.form ≡ norm_of true line = alike.of_first.same ∙ sym alike.of_second.same in
     let sorted = full w parent.form ready in
-    let own = by_imp_e t [] [] forth (Line parent.number) parent.form (norm_of true parent.form) (f t [] [] (omega arith) sorted) (by_line t [] [] parent.number parent.form sorted known) in
-    by_imp_e t [] [] back _ (norm_of true line) line (b t [] [] (omega arith) (full w line line_ready)) (subst (λ (x : Form). Proves t [] [] (ImpE forth (Line parent.number)) x) norms own)
+    let half = one t [] [] parent.form (norm_of true parent.form) (f t [] [] (omega arith) sorted) (rw is (by_line t [] [] parent.number parent.form sorted known)) in
+    two t [] [] (norm_of true line) line (b t [] [] (omega arith) (full w line line_ready)) (subst (λ (x : Form). Proves t [] [] middle x) norms half)
 
 -- a parent that is the line itself
 pub itself_shown : (w : Vocabulary) (line : Form) (parent : Parent) (own : Proof) → own ≡ Line parent.number → IsReady w parent.form → parent.form ≡ line

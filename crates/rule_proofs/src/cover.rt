@@ -1,6 +1,7 @@
 //! Lines that cover a clause of a parent.
 ghost use Rattle.std.specs.Prelude.{◌≡◌, ◌≤◌, true, ℕ, [], length, Some, List as ListOf, IfOk};
 ghost use Rattle.fof_terms.specs.declared.form.Form.{Form as Formula};
+ghost use Rattle.fof_terms.specs.Sorts.{Sorted};
 ghost use Rattle.clause_form.specs.ClauseView.{closed as closed_form};
 ghost use Rattle.clause_form.specs.Covers.{scope_of};
 ghost use Rattle.clause_form.specs.Found.{IsRoomy};
@@ -15,20 +16,21 @@ ghost use Rattle.kernel.specs.Proves.{Proves};
 ghost use Rattle.clause_rules.specs.Answers.{cover as cover_rule};
 ghost use Rattle.clause_proofs.specs.Bodies.{HasClause};
 ghost use Rattle.clause_proofs.specs.code.Bodies.{IsReadyClause};
-ghost use Rattle.rule_proofs.specs.code.Facts.{IsClosed, IsFact, ShowsAnywhere};
+ghost use Rattle.rule_proofs.specs.code.Facts.{CoversIn, IsClosed, IsFact, IsFactUpTo, ShowsAnywhere, ShowsByParent};
 ghost use Rattle.rule_proofs.specs.ByRule.{IsByRule};
 ghost use Rattle.clause_proofs.specs.Shown.{ShowsLine};
 ghost use Rattle.clause_proofs.specs.Refuting.{theory_of};
 
+use crate::members::by_member;
 use clause_form::{Clause, FormFault, Parent, Path, clause_of_path, norm};
 use clause_proofs::{
     Opened, closed, few_variables_of, instance_of_part, known_clause, line as formula,
     refute_covered, some_images,
 };
 use clause_rules::Just;
-use derive_kit::{Part, imp_e};
+use derive_kit::Part;
 use fof_terms::{Form, Scope, Signature};
-use norm_proofs::{norm_forth, path_proof};
+use norm_proofs::{apply, norm_forth, path_proof};
 use rule_steps::cover_step;
 use std::alloc::Global;
 use tptp_base::Memory;
@@ -85,46 +87,89 @@ fn covered(
     ensures { IfOk result (ShowsLine signature.now parents.now line.now) }
 {
     let parent = &parents[parent];
+    if let Some(proof) = by_member(alloc, signature, parent, line, path)? {
+        return Ok(proof);
+    }
+    let own = formula(alloc, parent.number)?;
+    covered_in(
+        alloc,
+        signature,
+        parent,
+        &parent.form,
+        own,
+        line,
+        path,
+        subst,
+    )
+}
+
+/// A proof of the line by a formula and a part that shows it, wherever the parent stands: the line covers what the path
+/// reaches in the formula's normal form.
+pub(crate) fn covered_in(
+    alloc: Global,
+    signature: &Signature,
+    parent: &Parent,
+    form: &Form,
+    own: Part,
+    line: &Form,
+    path: &Path,
+    subst: &Subst,
+) -> Result<Part, Memory>
+    requires line { IsReady signature.now line.now }
+    requires fact { IsFact signature.now parent.now form.now own }
+    requires covers { CoversIn signature.now form.now line.now path.now subst.now }
+    ensures { IfOk result (ShowsByParent signature.now parent.now line.now) }
+{
     let opened = known_clause(alloc, line)?;
-    let Reached { clause, fact } = reached_by(alloc, signature, parent, path)?;
+    let Reached { clause, fact } = reached_by(alloc, signature, parent, form, own, path)?;
     cover_opened(alloc, signature, line, &opened, &clause, fact, subst)
 }
 
-// What the path reaches in the parent's normal form.
+// What the path reaches in the normal form of the formula, which the part shows wherever the parent stands.
 fn reached_by(
     alloc: Global,
     signature: &Signature,
     parent: &Parent,
+    form: &Form,
+    own: Part,
     path: &Path,
 ) -> Result<Reached, Memory>
-    requires parent { IsReady signature.now parent.now.form }
-    requires small { norm_size_of parent.now.form ≤ 100000 }
-    requires fits { (c : Disjunction) × (reached path.now (norm_of true parent.now.form) ≡ Some c) }
-    ensures reached { IfOk result (λ made. reached path.now (norm_of true parent.now.form) ≡ Some made.clause.clause) }
+    requires own { IsFact signature.now parent.now form.now own }
+    requires small { norm_size_of form.now ≤ 100000 }
+    requires fits { (c : Disjunction) × (reached path.now (norm_of true form.now) ≡ Some c) }
+    ensures reached { IfOk result (λ made. reached path.now (norm_of true form.now) ≡ Some made.clause.clause) }
     ensures clause { IfOk result (λ made. IsClosed signature.now made.clause) }
     ensures few { IfOk result (λ made. length made.clause.clause.sorts ≤ 100000) }
     ensures fact { IfOk result (λ made. IsFact signature.now parent.now (closed_form made.clause.clause) made.fact) }
 {
-    let own = norm_fact(alloc, signature, parent)?;
-    let norm = small_norm(alloc, &parent.form)?;
+    let own = norm_fact(alloc, signature, parent, form, own)?;
+    let norm = small_norm(alloc, form)?;
     let clause = reached_clause(alloc, &norm, path)?;
     let along = path_proof(alloc, &norm, path)?;
-    let fact = imp_e(alloc, along, own)?;
+    let fact = apply(alloc, along, own)?;
     Ok(Reached { clause, fact })
 }
 
-// A part that shows the parent's normal form.
-fn norm_fact(alloc: Global, signature: &Signature, parent: &Parent) -> Result<Part, Memory>
-    requires parent { IsReady signature.now parent.now.form }
-    requires small { norm_size_of parent.now.form ≤ 100000 }
-    ensures { IfOk result (IsFact signature.now parent.now (norm_of true parent.now.form)) }
+/// A part that shows the normal form of the formula that the other part shows.
+pub(crate) fn norm_fact(
+    alloc: Global,
+    signature: &Signature,
+    parent: &Parent,
+    form: &Form,
+    own: Part,
+) -> Result<Part, Memory>
+    requires sorted { Sorted signature.now [] form.now }
+    requires small { norm_size_of form.now ≤ 100000 }
+    ensures { IfOk result (λ made. (n : ℕ) → n ≤ 1000000000
+        → IsFactUpTo n signature.now parent.now form.now own
+        → IsFactUpTo n signature.now parent.now (norm_of true form.now) made) }
 {
-    let forth = norm_forth(alloc, &parent.form)?;
-    imp_e(alloc, forth, formula(alloc, parent.number)?)
+    let forth = norm_forth(alloc, form)?;
+    apply(alloc, forth, own)
 }
 
-// The normal form of the formula, whose norm size is within the limit.
-fn small_norm(alloc: Global, form: &Form) -> Result<Form, Memory>
+/// The normal form of the formula, whose norm size is within the limit.
+pub(crate) fn small_norm(alloc: Global, form: &Form) -> Result<Form, Memory>
     requires { norm_size_of form.now ≤ 100000 }
     ensures { IfOk result (λ made. made ≡ norm_of true form.now) }
 {
@@ -187,7 +232,7 @@ fn cover_opened(
     let own = opened.clause.sorts.as_slice();
     let sorts = clause.clause.sorts.as_slice();
     let reach = few_variables_of(alloc, own, sorts, &[])?;
-    if reach.sorts.len() > 1_000_000_000 {
+    if reach.sorts.len() > 900_000_000 {
         return Err(Memory);
     }
     let images = some_images(alloc, subst, own.len(), sorts.len())?;

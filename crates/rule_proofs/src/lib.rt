@@ -3,6 +3,7 @@
 
 mod cover;
 mod eqfactor;
+mod members;
 mod norm;
 mod paramodulation;
 mod resolution;

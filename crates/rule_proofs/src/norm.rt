@@ -11,9 +11,9 @@ ghost use Rattle.clause_proofs.specs.Refuting.{theory_of};
 use clause_form::Parent;
 use clause_proofs::line as formula;
 use clause_rules::Just;
-use derive_kit::{Part, imp_e};
+use derive_kit::Part;
 use fof_terms::{Form, Signature, equal};
-use norm_proofs::{norm_back, norm_forth};
+use norm_proofs::{apply, norm_back, norm_forth};
 use rule_steps::norm_step;
 use std::alloc::Global;
 use tptp_base::Memory;
@@ -72,7 +72,7 @@ pub fn normed(
         return Ok(own);
     }
     let forth = norm_forth(alloc, &parent.form)?;
-    let own = imp_e(alloc, forth, own)?;
+    let own = apply(alloc, forth, own)?;
     let back = norm_back(alloc, line)?;
-    imp_e(alloc, back, own)
+    apply(alloc, back, own)
 }

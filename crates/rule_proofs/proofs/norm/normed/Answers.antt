@@ -8,7 +8,6 @@ returns-then-equal c = itself_shown c.args.signature.now c.args.line.now c.args.
 
 pub returns : goal.returns
 returns c =
-    ok_map c.imp_e-2.result
-    (λ made e. rw e (rw c.in_ok-own-2.ensures (rw c.in_ok-own.ensures
-    (norm_shown c.args.signature.now c.args.line.now c.args.parent.now c.in_ok-forth.forth c.in_ok-back.back c.requires.parent c.requires.line c.requires.alike c.in_ok-forth.ensures c.in_ok-back.ensures))))
-    c.imp_e-2.ensures
+    ok_map c.apply-2.result
+    (λ made two. norm_shown c.args.signature.now c.args.line.now c.args.parent.now c.in_ok-own.own c.in_ok-forth.forth c.in_ok-own-2.own c.in_ok-back.back made c.in_ok-own.ensures c.requires.parent c.requires.line c.requires.alike c.in_ok-forth.ensures c.in_ok-back.ensures c.in_ok-own-2.ensures two)
+    c.apply-2.ensures
