@@ -30,8 +30,9 @@ pub struct Given {
     pub read: u64,
 }
 
-/// What the problem in the file gives, with all that it includes. The first fault is refused.
-#[tactic(auto, using(crate::proofs::Checks::given_is, crate::proofs::Checks::include_refused, crate::proofs::Checks::sort_refused, crate::proofs::Absences::problem_said, crate::proofs::Absences::sorts_said))]
+/// What the problem in the file gives, with all that it includes. The first fault is refused. The problem is let go
+/// before the theory is made.
+#[tactic(auto, using(crate::proofs::Checks::given_is, crate::proofs::Checks::theory_is, crate::proofs::Checks::include_refused, crate::proofs::Checks::sort_refused, crate::proofs::Absences::problem_said, crate::proofs::Absences::sorts_said))]
 pub fn read_given<S: Store>(
     alloc: Global,
     store: &mut S,
@@ -52,11 +53,11 @@ pub fn read_given<S: Store>(
     ensures more_faults { S.faults store.old ≤ S.faults store.new }
 {
     let files = read_files(alloc, store, root, file)?;
-    let theory = read_theory(alloc, &files)?;
-    Ok(Given {
-        theory,
-        read: files.read,
-    })
+    let meaning = read_meaning(alloc, &files)?;
+    let read = files.read;
+    drop(files);
+    let theory = theory_of(alloc, meaning)?;
+    Ok(Given { theory, read })
 }
 
 /// The theory of what the problem gives. Its first fault is refused.
@@ -74,14 +75,17 @@ pub fn read_theory(alloc: Global, problem: &Problem) -> Result<Theory, Halt>
     Ok(theory_of(alloc, meaning)?)
 }
 
-// The theory of what the lines of a problem give.
+// The theory of what the lines of a problem give. The lines are let go as soon as what they give is copied, and that as
+// soon as its formulas are.
 fn theory_of(alloc: Global, meaning: Meaning) -> Result<Theory, Memory>
     requires sorted { AreSorted meaning.signature meaning.lines }
     ensures { IfOk result (λ theory. theory ≡ given_theory meaning.lines meaning.signature) }
 {
     let Meaning { lines, signature } = meaning;
     let entries = given(alloc, lines.as_slice())?;
+    drop(lines);
     let forms = forms_of(alloc, entries.as_slice())?;
+    drop(entries);
     Theory::start(alloc, signature, forms)
 }
 
