@@ -1,7 +1,9 @@
 pub mod ChosenFacts
 pub mod ExistentialsFacts
+pub mod FreeFacts
 pub mod InputFacts
 pub mod Placed
+pub mod PutFacts
 pub mod RoomFacts
 pub mod RoomyFacts
 pub mod SkolemSorts
