@@ -3,6 +3,7 @@
 #![tactic(auto)]
 
 mod bytes;
+mod changing;
 mod difference;
 mod ending;
 mod fault;
@@ -11,6 +12,8 @@ mod reading;
 mod row;
 mod running;
 mod setting;
+mod slow_sink;
+mod stops;
 mod toolchain;
 mod trial;
 

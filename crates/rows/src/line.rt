@@ -1,5 +1,15 @@
 // One line of a file of rows.
 
+/// What a line says of a file of the store. The texts are those behind the line's first word.
+#[derive(Clone, Copy)]
+pub enum FileSetting<'a> {
+    Text(&'a str),
+    LastLog(&'a str),
+    FromCall(&'a str),
+    GoneAt(&'a str),
+    Endless(&'a str),
+}
+
 /// What a line of a row sets. The texts are those behind the line's first word.
 #[derive(Clone, Copy)]
 pub enum Setting<'a> {
@@ -7,11 +17,11 @@ pub enum Setting<'a> {
     Name(&'a str),
     Words(&'a str),
     Word(&'a str),
-    File(&'a str),
-    LastLog(&'a str),
+    File(FileSetting<'a>),
     StoreFails(&'a str),
     OutFails(&'a str),
     LogFails(&'a str),
+    EachFails(&'a str),
     Status(&'a str),
     Plain,
     Out,
@@ -72,11 +82,15 @@ fn read_setting<'a>(first: &str, rest: &'a str) -> Option<Setting<'a>> {
     match first {
         "words" => Some(Setting::Words(rest)),
         "word" => Some(Setting::Word(rest)),
-        "file" => Some(Setting::File(rest)),
-        "last-log" => Some(Setting::LastLog(rest)),
+        "file" => Some(Setting::File(FileSetting::Text(rest))),
+        "last-log" => Some(Setting::File(FileSetting::LastLog(rest))),
+        "from-call" => Some(Setting::File(FileSetting::FromCall(rest))),
+        "gone-at" => Some(Setting::File(FileSetting::GoneAt(rest))),
+        "endless" => Some(Setting::File(FileSetting::Endless(rest))),
         "store-fails" => Some(Setting::StoreFails(rest)),
         "out-fails" => Some(Setting::OutFails(rest)),
         "log-fails" => Some(Setting::LogFails(rest)),
+        "each-fails" => Some(Setting::EachFails(rest)),
         "status" => Some(Setting::Status(rest)),
         _ => None,
     }

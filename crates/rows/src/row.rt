@@ -7,13 +7,27 @@ pub enum Source {
     Text(Vec<u8>),
     /// The log that the row before has written.
     LastLog,
+    /// This text, and line feeds behind it without an end.
+    Endless(Vec<u8>),
+    /// There is no such file.
+    Gone,
 }
 
 /// A file of the store.
 #[derive(Drop)]
 pub struct Given {
     pub name: String,
+    /// The call of the store from which on the file is this one.
+    pub from: u64,
     pub source: Source,
+}
+
+/// Numbers of calls.
+#[derive(Clone, Copy)]
+pub struct Calls {
+    pub reads: u64,
+    pub writes: u64,
+    pub entries: u64,
 }
 
 /// What the log must have taken.
@@ -38,6 +52,8 @@ pub struct Row {
     pub failing_writes: Vec<u64>,
     /// The calls of the log that fail.
     pub failing_entries: Vec<u64>,
+    /// How many calls of the store, the output and the log there are, where each is to fail in a run of its own.
+    pub each: Option<Calls>,
     pub status: u8,
     pub out: Vec<u8>,
     pub log: WantedLog,
@@ -54,6 +70,7 @@ impl Row {
             failing_reads: Vec::new(alloc),
             failing_writes: Vec::new(alloc),
             failing_entries: Vec::new(alloc),
+            each: None,
             status: 0,
             out: Vec::new(alloc),
             log: WantedLog::Text(Vec::new(alloc)),
@@ -65,5 +82,11 @@ impl Row {
         !self.failing_reads.is_empty()
             || !self.failing_writes.is_empty()
             || !self.failing_entries.is_empty()
+    }
+
+    /// Whether some file changes while the run goes on, is said to be gone, or has no end.
+    pub fn has_changing_files(&self) -> bool {
+        self.files.iter().any(|file| file.from > 1
+            || matches!(file.source, Source::Endless(_) | Source::Gone))
     }
 }

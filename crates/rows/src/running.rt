@@ -1,12 +1,11 @@
 // The files of rows that a program is called with.
 use crate::difference::differences;
 use crate::reading::read_drafts;
-use crate::row::Row;
 use crate::setting::row_of;
+use crate::stops::wrong_stops;
 use crate::toolchain::Toolchain;
-use crate::trial::{run_plainly, run_slowly};
+use crate::trial::{Failing, Trial, run_plainly, run_slowly};
 use anyhow::{Context, Result, bail};
-use std::alloc::Global;
 use std::process::ExitCode;
 use std::rt::{Env, Files};
 use std::{env, fs};
@@ -54,7 +53,12 @@ fn run_file<R: Files + Print + AllocGlobal, T: Toolchain>(
     let mut last_log = Vec::new(alloc);
     for draft in &drafts {
         let row = row_of(alloc, draft).context(name)?;
-        let tried = try_row(toolchain, alloc, &row, &last_log)?;
+        let trial = Trial {
+            alloc,
+            row: &row,
+            last_log: &last_log,
+        };
+        let tried = try_row(toolchain, trial)?;
         last_log = tried.log;
         if !tried.said.is_empty() {
             differing = differing.saturating_add(1);
@@ -75,25 +79,36 @@ struct Tried {
     log: Vec<u8>,
 }
 
-// Runs a row over the log that the row before has written. It is run once more, over a store that gives a byte at a
-// time, where nothing differs, no call is to fail, and the row does not want the plain store alone.
-fn try_row<T: Toolchain>(
-    toolchain: &T,
-    alloc: Global,
-    row: &Row,
-    last_log: &[u8],
-) -> Result<Tried, Memory> {
-    let plain = run_plainly(toolchain, alloc, row, last_log)?;
-    let mut said = differences(alloc, row, &plain)?;
-    if said.is_empty() && !row.is_plain && !row.has_failing_calls() {
-        let slow = run_slowly(toolchain, alloc, row, last_log)?;
-        let differs = differences(alloc, row, &slow)?;
-        if !differs.is_empty() {
-            said = format!(in alloc; "  over a store that gives a byte at a time:\n{differs}")?;
-        }
+// Runs a row. Where nothing differs it is run once more a byte at a time, and once for each call that is to fail.
+fn try_row<T: Toolchain>(toolchain: &T, trial: Trial<'_>) -> Result<Tried, Memory> {
+    let plain = run_plainly(toolchain, trial, Failing::of(trial.row))?;
+    let mut said = differences(trial.alloc, trial.row, &plain)?;
+    if said.is_empty() {
+        said = try_slowly(toolchain, trial)?;
+    }
+    if let (true, Some(calls)) = (said.is_empty(), trial.row.each) {
+        said = wrong_stops(toolchain, trial, &plain, calls)?;
     }
     Ok(Tried {
         said,
         log: plain.log,
     })
+}
+
+// Runs a row over a store that gives a byte at a time, and sinks that take one, where no call is to fail, no file
+// changes, and the row does not want the plain store alone. It says what differs.
+fn try_slowly<T: Toolchain>(toolchain: &T, trial: Trial<'_>) -> Result<String, Memory> {
+    let Trial { alloc, row, .. } = trial;
+    if row.is_plain || row.has_failing_calls() || row.has_changing_files() {
+        return Ok(String::new(alloc));
+    }
+    let slow = run_slowly(toolchain, trial)?;
+    let differs = differences(alloc, row, &slow)?;
+    if differs.is_empty() {
+        return Ok(differs);
+    }
+    let said = format!(in alloc;
+        "  over a store and sinks that take a byte at a time:\n{differs}"
+    )?;
+    Ok(said)
 }

@@ -1,9 +1,9 @@
 // A row, set line by line.
 use crate::bytes::append_line;
 use crate::fault::{LineFault, RowFault};
-use crate::line::Setting;
+use crate::line::{FileSetting, Setting};
 use crate::reading::Draft;
-use crate::row::{Given, Row, Source, WantedLog};
+use crate::row::{Calls, Given, Row, Source, WantedLog};
 use std::alloc::Global;
 
 // What the lines of text that follow belong to.
@@ -41,14 +41,11 @@ fn set(alloc: Global, row: &mut Row, part: Part, setting: Setting<'_>) -> Result
             }
         }
         Setting::Word(word) => row.words.push(word.to_string(alloc)?)?,
-        Setting::File(name) => {
-            give(alloc, &mut row.files, name, Source::Text(Vec::new(alloc)))?;
-            return Ok(Part::LastFile);
-        }
-        Setting::LastLog(name) => give(alloc, &mut row.files, name, Source::LastLog)?,
+        Setting::File(file) => return set_file(alloc, row, file),
         Setting::StoreFails(calls) => add_calls(&mut row.failing_reads, calls)?,
         Setting::OutFails(calls) => add_calls(&mut row.failing_writes, calls)?,
         Setting::LogFails(calls) => add_calls(&mut row.failing_entries, calls)?,
+        Setting::EachFails(counts) => row.each = Some(counts_of(alloc, counts)?),
         Setting::Status(status) => row.status = status.parse().map_err(|_| LineFault::Number)?,
         Setting::Plain => row.is_plain = true,
         Setting::Out => {
@@ -71,16 +68,40 @@ fn set(alloc: Global, row: &mut Row, part: Part, setting: Setting<'_>) -> Result
     Ok(Part::Nothing)
 }
 
-// Puts a file behind the others.
+// Sets what a line says of a file.
+fn set_file(alloc: Global, row: &mut Row, file: FileSetting<'_>) -> Result<Part, LineFault> {
+    let empty = Vec::new(alloc);
+    match file {
+        FileSetting::Text(name) => give(alloc, row, 1, name, Source::Text(empty)),
+        FileSetting::LastLog(name) => give(alloc, row, 1, name, Source::LastLog),
+        FileSetting::FromCall(rest) => give_from(alloc, row, rest, Source::Text(empty)),
+        FileSetting::GoneAt(rest) => give_from(alloc, row, rest, Source::Gone),
+        FileSetting::Endless(name) => give(alloc, row, 1, name, Source::Endless(empty)),
+    }
+}
+
+// Puts a file behind the others, and tells that the lines of text that follow are its own.
 fn give(
     alloc: Global,
-    files: &mut Vec<Given>,
+    row: &mut Row,
+    from: u64,
     name: &str,
     source: Source,
-) -> Result<(), LineFault> {
+) -> Result<Part, LineFault> {
     let name = name.to_string(alloc)?;
-    files.push(Given { name, source })?;
-    Ok(())
+    row.files.push(Given { name, from, source })?;
+    Ok(Part::LastFile)
+}
+
+// Puts a file behind the others that is so from a call on: the number of the call stands before the first blank.
+fn give_from(alloc: Global, row: &mut Row, rest: &str, source: Source) -> Result<Part, LineFault> {
+    match rest.split_once(' ') {
+        Some((call, name)) => match call.parse() {
+            Ok(from) => give(alloc, row, from, name, source),
+            Err(_) => Err(LineFault::Number),
+        },
+        None => Err(LineFault::Number),
+    }
 }
 
 // The numbers of calls, with single blanks between them.
@@ -92,6 +113,20 @@ fn add_calls(into: &mut Vec<u64>, calls: &str) -> Result<(), LineFault> {
         }
     }
     Ok(())
+}
+
+// Three numbers: how many calls there are of the store, the output and the log.
+fn counts_of(alloc: Global, counts: &str) -> Result<Calls, LineFault> {
+    let mut numbers = Vec::new(alloc);
+    add_calls(&mut numbers, counts)?;
+    match numbers.as_slice() {
+        [reads, writes, entries] => Ok(Calls {
+            reads: *reads,
+            writes: *writes,
+            entries: *entries,
+        }),
+        _ => Err(LineFault::Number),
+    }
 }
 
 // What the lines of text of a part go to.
@@ -106,7 +141,7 @@ fn text_of(row: &mut Row, part: Part) -> Option<&mut Vec<u8>> {
         Part::LastFile => match row.files.last_mut() {
             Some(
                 Given {
-                    source: Source::Text(text),
+                    source: Source::Text(text) | Source::Endless(text),
                     ..
                 },
             ) => Some(text),
