@@ -11,7 +11,7 @@ use superpose::{Made, Used};
 use tptp_base::{List, Memory};
 
 /// What makes the most general inferences from one clause and from two. What inferences use of a clause is computed
-/// once, for the indexes too. The other methods are given it: it says where to look, and they may do without it.
+/// once, for the indexes too. The other methods are given it: it says at which literals, sides and places to look.
 pub trait Inferences {
     /// What inferences use of the clause.
     fn used_of(&self, alloc: Global, clause: &Clause) -> Result<Used, Memory>

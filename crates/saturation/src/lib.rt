@@ -1,6 +1,7 @@
 //! A search for the empty clause that always takes the lightest clause that is open.
 #![tactic(auto)]
 
+mod admission;
 mod asking;
 mod covering;
 mod entering;
@@ -18,6 +19,7 @@ mod sifting;
 mod superposition;
 mod weighing;
 
+pub use admission::are_searchable;
 pub use inferences::Inferences;
 pub use member::{Member, Origin};
 pub use outcome::Outcome;

@@ -6,6 +6,7 @@ use superpose::{Made, Used, add_from_one, add_from_two, used_of};
 use tptp_base::{List, Memory};
 
 /// Makes the inferences of ordered resolution and superposition.
+#[derive(Drop)]
 pub struct Superposition;
 
 impl Inferences for Superposition {
@@ -18,10 +19,10 @@ impl Inferences for Superposition {
         alloc: Global,
         signature: &Signature,
         c: &Clause,
-        _used: &Used,
+        used: &Used,
         made: &mut List<Made>,
     ) -> Result<(), Memory> {
-        add_from_one(alloc, signature, c, made)
+        add_from_one(alloc, signature, c, used, made)
     }
 
     fn add_from_two(
@@ -29,11 +30,11 @@ impl Inferences for Superposition {
         alloc: Global,
         signature: &Signature,
         c: &Clause,
-        _used_of_c: &Used,
+        used_of_c: &Used,
         d: &Clause,
-        _used_of_d: &Used,
+        used_of_d: &Used,
         made: &mut List<Made>,
     ) -> Result<(), Memory> {
-        add_from_two(alloc, signature, c, d, made)
+        add_from_two(alloc, signature, c, used_of_c, d, used_of_d, made)
     }
 }

@@ -1,9 +1,10 @@
-pub mod BoundFacts
-pub mod Undoing
-pub mod MatchedFacts
 pub mod BecomingFacts
-pub mod SubsumesFacts
+pub mod BoundFacts
+pub mod DecidedFacts
+pub mod Exchanged
 pub mod MaskFacts
+pub mod MatchedFacts
 pub mod PlacedFacts
 pub mod ScreenFacts
-pub mod DecidedFacts
+pub mod SubsumesFacts
+pub mod Undoing

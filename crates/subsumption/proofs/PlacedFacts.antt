@@ -1,6 +1,6 @@
 -- Lemmas on places for literals.
 use Rattle.std.proofs.Common.{ℕ, ◌≡◌, ◌+◌, ◌<◌, ◌≤◌, List, [], ◌∷◌, length, get_or, Some, refl, sym, ap, subst, ◌∙◌, zero, suc, inl, inr, arith, Bool, true, false}
-use Rattle.std.specs.Prelude.{slice_get, nat_lt, if◌then◌else◌}
+use Rattle.std.specs.Prelude.{slice_get, nat_lt, if◌then◌else◌, Option, None}
 use Rattle.std.proofs.Math.ListN.{set}
 use Rattle.std.proofs.lemmas.Bool.{lt-ltb, le-ltb}
 use Rattle.std.proofs.lemmas.Option.{slice_get_within, slice_get-get_or, get_or_from_slice_get}
@@ -17,11 +17,11 @@ use Rattle.subsumption.specs.declared.bindings.Bindings.{Bindings}
 use Rattle.subsumption.specs.declared.task.Task.{Task}
 use Rattle.subsumption.specs.code.Bound.{images_of, trail_of, cleared, Agrees, AreOfSorts, IsOver, IsBack, IsUndone}
 use Rattle.subsumption.specs.code.Matched.{Becomes, IsInto, IsTable, IsTried}
-use Rattle.subsumption.specs.code.Placed.{ArePlaced, Places, HasPlaces, HasNone, IsPlaced, Anywhere, IsThere, IsAt}
+use Rattle.subsumption.specs.code.Placed.{ArePlaced, Places, HasPlaces, HasNone, IsPlaced, IsTrial, Anywhere, IsThere, IsAt}
 use Rattle.subsumption.proofs.BoundFacts.{undone_back}
 
 -- taken places
-set_free : (xs : List Bool) (i : ℕ) (x y : Bool) → slice_get xs i ≡ Some y → set (set xs i x) i y ≡ xs
+pub set_free : (xs : List Bool) (i : ℕ) (x y : Bool) → slice_get xs i ≡ Some y → set (set xs i x) i y ≡ xs
 set_free [] i x y e = cc
 set_free (z ∷ xs) zero x y e = let same : z ≡ y = cc in ap (λ b. b ∷ xs) (sym same)
 set_free (z ∷ xs) (suc i) x y e = ap (λ ys. z ∷ ys) (set_free xs i x y e)
@@ -33,7 +33,7 @@ free_elsewhere (x ∷ xs) zero (suc j) e = (λ is. cc, e)
 free_elsewhere (x ∷ xs) (suc i) zero e = (λ is. cc, e)
 free_elsewhere (x ∷ xs) (suc i) (suc j) e = let rest = free_elsewhere xs i j e in (λ is. rest.0 (omega arith), rest.1)
 
-still_free : (xs : List Bool) (i j : ℕ) → (j ≡ i → ⊥) → slice_get xs j ≡ Some false → slice_get (set xs i true) j ≡ Some false
+pub still_free : (xs : List Bool) (i j : ℕ) → (j ≡ i → ⊥) → slice_get xs j ≡ Some false → slice_get (set xs i true) j ≡ Some false
 still_free [] i j ne e = e
 still_free (x ∷ xs) zero zero ne e = absurd (ne refl)
 still_free (x ∷ xs) zero (suc j) ne e = e
@@ -87,12 +87,12 @@ module _ (lits targets : List Lit) (taken : List Bool) (from place : ℕ) (s : �
     ];
   }
 
-becomes_same : (exchanged : Bool) (s : ℕ → Term) (k l : Lit) → Becomes exchanged k l s → IsSame (lit_image s k) l
+pub becomes_same : (exchanged : Bool) (s : ℕ → Term) (k l : Lit) → Becomes exchanged k l s → IsSame (lit_image s k) l
 becomes_same true s k l h = inr h
 becomes_same false s k l h = inl h
 
 -- what is bound, as it stands after a way back
-agrees_back : (old new : Bindings) → IsBack old new → (s : ℕ → Term) → Agrees s (images_of old) → Agrees s (images_of new)
+pub agrees_back : (old new : Bindings) → IsBack old new → (s : ℕ → Term) → Agrees s (images_of old) → Agrees s (images_of new)
 agrees_back old new back s g = subst (Agrees s) (sym back.images) g
 
 pub table_back : (task : Task) (old new : Bindings) → IsBack old new → IsTable task old → IsTable task new
@@ -104,10 +104,10 @@ table_back task old new back h = record {
 back_itself : (b : Bindings) → IsBack b b
 back_itself b = record { images = refl; trail = refl }
 
-back_then : (a b c : Bindings) → IsBack a b → IsBack b c → IsBack a c
+pub back_then : (a b c : Bindings) → IsBack a b → IsBack b c → IsBack a c
 back_then a b c h g = record { images = g.images ∙ h.images; trail = g.trail ∙ h.trail }
 
-over_back : (a b c : Bindings) → IsOver a b → IsBack b c → IsOver a c
+pub over_back : (a b c : Bindings) → IsOver a b → IsBack b c → IsOver a c
 over_back a b c h g = record {
   added = h.added;
   trail = g.trail ∙ h.trail;
@@ -279,10 +279,29 @@ places_back task old mid new taken left from back same found = record {
   places = λ s g. let r = found.places s g in (subst (Agrees s) back.images r.0, subst (λ xs. Places task xs from s found.at) same r.1);
 }
 
+pub none_back : (task : Task) (old mid new : Bindings) (taken left last : List Bool) (from : ℕ) → IsBack old mid → left ≡ taken → HasNone task mid new left last from Anywhere → HasNone task old new taken last from Anywhere
+none_back task old mid new taken left last from back same h = record {
+  back = back_then old mid new back h.back;
+  left_free = h.left_free ∙ same;
+  none = λ more s at into g p any. h.none more s at into (agrees_back old mid back s g) (subst (λ xs. Places task xs from s at) (sym same) p) any;
+}
+
 pub second_way : (task : Task) (old mid new : Bindings) (taken left last : List Bool) (from place : ℕ) (k : Lit) → slice_get task.member.now.lits from ≡ Some k
-    → HasNone task old mid taken left from (IsAt task from place false) → (b : Bool) → IsPlaced task mid new left last from (IsAt task from place true) b → IsPlaced task old new taken last from (IsThere from place) b
-second_way task old mid new taken left last from place k here first true found = places_back task old mid new taken left from first.back first.left_free found
-second_way task old mid new taken left last from place k here first false second = in_neither_way task old mid new taken left last from place k here first second
+    → HasNone task old mid taken left from (IsAt task from place false) → (o : Option Bool) → IsTrial task mid new left last from (IsAt task from place true) o → IsTrial task old new taken last from (IsThere from place) o
+second_way task old mid new taken left last from place k here first (Some true) found = places_back task old mid new taken left from first.back first.left_free found
+second_way task old mid new taken left last from place k here first (Some false) none = none_back task old mid new taken left last from first.back first.left_free none
+second_way task old mid new taken left last from place k here first None second = in_neither_way task old mid new taken left last from place k here first second
+
+pub trial_none : (task : Task) (old new : Bindings) (taken left : List Bool) (from : ℕ) (P : (ℕ → Term) → (ℕ → ℕ) → Type 0) (o : Option Bool) → o ≡ None → IsTrial task old new taken left from P o → HasNone task old new taken left from P
+trial_none task old new taken left from P o is h = subst (IsTrial task old new taken left from P) is h
+
+pub trial_some : (task : Task) (old new : Bindings) (taken left : List Bool) (from : ℕ) (P : (ℕ → Term) → (ℕ → ℕ) → Type 0) (o : Option Bool) (b : Bool) → o ≡ Some b → IsTrial task old new taken left from P o → IsPlaced task old new taken left from Anywhere b
+trial_some task old new taken left from P o b is h = subst (IsTrial task old new taken left from P) is h
+
+-- a try that decides ends the search
+pub search_decides : (task : Task) (old mid new : Bindings) (taken left last : List Bool) (from i : ℕ) → IsSearching task old mid taken left from i → (b : Bool) → IsPlaced task mid new left last from Anywhere b → IsPlaced task old new taken last from Anywhere b
+search_decides task old mid new taken left last from i h true found = places_back task old mid new taken left from h.back h.left_free found
+search_decides task old mid new taken left last from i h false none = none_back task old mid new taken left last from h.back h.left_free none
 
 -- an element that was read from a lent list
 pub lent_at : {X : Type 0} (lent xs : List X) (i : ℕ) (x : X) → lent ≡ xs → i < length xs → x ≡ get_or lent i x → slice_get xs i ≡ Some x

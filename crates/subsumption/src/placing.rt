@@ -2,7 +2,7 @@
 ghost use Rattle.std.specs.Prelude.{◌≡◌, ◌<◌, ◌≤◌, false, length, Some, slice_get, IfOk};
 ghost use Rattle.clause_form.specs.Covers.{AreSorted, scope_of};
 ghost use Rattle.subsumption.specs.code.Matched.{IsTable};
-ghost use Rattle.subsumption.specs.code.Placed.{Anywhere, AreSortedIn, IsAt, IsPlaced, IsThere};
+ghost use Rattle.subsumption.specs.code.Placed.{Anywhere, AreSortedIn, IsAt, IsPlaced, IsThere, IsTrial};
 
 use crate::becoming::becomes;
 use crate::bindings::Bindings;
@@ -28,14 +28,14 @@ pub fn place_from<'a>(
         return Ok(true);
     }
     for place in 0..taken.len() {
-        if place_at(task, bindings, taken, from, place)? {
-            return Ok(true);
+        if let Some(answer) = place_at(task, bindings, taken, from, place)? {
+            return Ok(answer);
         }
     }
     Ok(false)
 }
 
-// The same, with the first of these at this place.
+// The same, with the first of these at this place; None where this place will not do, and others may.
 #[cycle(placing)]
 fn place_at<'a>(
     task: &Task<'a>,
@@ -43,28 +43,29 @@ fn place_at<'a>(
     taken: &mut [bool],
     from: usize,
     place: usize,
-) -> Result<bool, Memory>
+) -> Result<Option<bool>, Memory>
     requires sorted { AreSortedIn task.now }
     requires table { IsTable task.now bindings.old }
     requires size { length taken.old ≡ length task.now.clause.now.lits }
     requires from { from < length task.now.member.now.lits }
     requires place { place < length taken.old }
     ensures { IfOk result (λ answer.
-        IsPlaced task.now bindings.old bindings.new taken.old taken.new from (IsThere from place) answer) }
+        IsTrial task.now bindings.old bindings.new taken.old taken.new from (IsThere from place) answer) }
 {
     if taken[place] {
-        return Ok(false);
+        return Ok(None);
     }
-    if place_in_way(task, bindings, taken, from, place, false)? {
-        return Ok(true);
+    if let Some(answer) = place_in_way(task, bindings, taken, from, place, false)? {
+        return Ok(Some(answer));
     }
     match &task.member.lits.as_slice()[from].atom {
         AtomOf::Eq(_, _) => place_in_way(task, bindings, taken, from, place, true),
-        _ => Ok(false),
+        _ => Ok(None),
     }
 }
 
-// The same, with its sides exchanged or not.
+// The same, with its sides exchanged or not. Where no variable had to be bound for it, no other place serves better: what
+// stands there could stand here.
 #[cycle(placing)]
 fn place_in_way<'a>(
     task: &Task<'a>,
@@ -73,13 +74,13 @@ fn place_in_way<'a>(
     from: usize,
     place: usize,
     exchanged: bool,
-) -> Result<bool, Memory>
+) -> Result<Option<bool>, Memory>
     requires sorted { AreSortedIn task.now }
     requires table { IsTable task.now bindings.old }
     requires size { length taken.old ≡ length task.now.clause.now.lits }
     requires from { from < length task.now.member.now.lits }
     requires free { slice_get taken.old place ≡ Some false }
-    ensures { IfOk result (λ answer. IsPlaced task.now bindings.old bindings.new taken.old taken.new from
+    ensures { IfOk result (λ answer. IsTrial task.now bindings.old bindings.new taken.old taken.new from
         (IsAt task.now from place exchanged) answer) }
 {
     let count = bindings.count();
@@ -87,13 +88,17 @@ fn place_in_way<'a>(
     let target = &task.clause.lits.as_slice()[place];
     if !becomes(task, bindings, lit, target, exchanged)? {
         bindings.undo(count);
-        return Ok(false);
+        return Ok(None);
     }
+    let bound = bindings.count();
     taken[place] = true;
     if place_from(task, bindings, taken, from + 1)? {
-        return Ok(true);
+        return Ok(Some(true));
     }
     taken[place] = false;
     bindings.undo(count);
-    Ok(false)
+    if bound == count {
+        return Ok(Some(false));
+    }
+    Ok(None)
 }

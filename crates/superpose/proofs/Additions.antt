@@ -6,7 +6,7 @@ use Rattle.std.proofs.Common.{sym, subst, ◌∙◌, arith, inl, inr, append-nil
 use Rattle.std.proofs.lemmas.List.Elements.{Contains-push, Contains-push_cases, Contains-append_left}
 use Rattle.fof_terms.specs.Vocabulary.{Vocabulary}
 use Rattle.superpose.specs.declared.made.Made.{Made}
-use Rattle.superpose.specs.Drafts.{Draft, IsMadeBy}
+use Rattle.superpose.specs.Drafts.{Draft}
 use Rattle.superpose.specs.Made.{IsMadeFrom, IsBestAt, IsSettledBy, Adds}
 
 module _ (v : Vocabulary) (scope : List ℕ) where

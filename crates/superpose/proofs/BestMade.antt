@@ -1,5 +1,5 @@
 -- The clause that is concluded by a most general unifier is the most general one.
-use Rattle.std.specs.Prelude.{ℕ, ◌≡◌, List, [], ◌∷◌, length, map, reverse, Option, Some, None, slice_get, refl}
+use Rattle.std.specs.Prelude.{ℕ, ◌≡◌, List, [], ◌∷◌, length, map, reverse, Some, None, refl}
 use Rattle.std.specs.List.{AllByRecursion}
 use Rattle.std.proofs.Common.{ap, sym, subst, ◌∙◌}
 use Rattle.std.proofs.lemmas.List.{reverse-reverse}
@@ -11,8 +11,8 @@ use Rattle.clause_form.specs.declared.clause.Lit.{Lit}
 use Rattle.clause_form.specs.declared.clause.Clause.{Clause}
 use Rattle.clause_form.specs.Images.{image, IsImages}
 use Rattle.clause_form.proofs.ImagesFacts.{AgreeOn, image_image, image_sorted}
-use Rattle.clause_form.specs.Covers.{lit_image, scope_of, AreSorted, IsInstance}
-use Rattle.clause_form.proofs.ClauseLaws.{instance_then, lit_image_image, lits_agree, lits_sorted}
+use Rattle.clause_form.specs.Covers.{scope_of, AreSorted, IsInstance}
+use Rattle.clause_form.proofs.ClauseLaws.{instance_then, lits_agree, lits_sorted}
 use Rattle.clause_rules.specs.Steps.{instances}
 use Rattle.clause_rules.proofs.LitImages.{lits_twice}
 use Rattle.substitution_search.specs.Ways.{zip_pairs}
@@ -21,11 +21,11 @@ use Rattle.unify_terms.specs.Substitution.{image_at}
 use Rattle.unify_terms.specs.Unifiers.{Unified}
 use Rattle.superpose.specs.declared.made.Made.{Made}
 use Rattle.superpose.specs.Drafts.{Draft, IsMadeBy, IsClause, SortsExist}
-use Rattle.superpose.specs.Made.{IsMadeFrom, IsBestAt}
+use Rattle.superpose.specs.Made.{IsBestAt}
 use Rattle.superpose.specs.MostGeneral.{IsMostGeneral}
 use Rattle.superpose.specs.code.Conclusions.{IsConclusion}
 use Rattle.superpose.proofs.Unifying.{Asks, AreSame, most_general, never_unified, same_for, unifier_unifies}
-use Rattle.superpose.proofs.InferLaws.{made_is_instance, made_sorted}
+use Rattle.superpose.proofs.InferLaws.{made_sorted}
 
 -- equal terms stay equal under a further substitution
 twice_same : (t s : ℕ → Term) (ls rs : List Term) → AreSame s ls rs → AreSame (λ k. image t (s k)) ls rs

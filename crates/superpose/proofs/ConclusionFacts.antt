@@ -1,5 +1,5 @@
 -- What is left under a substitution, with new numbers for its variables.
-use Rattle.std.specs.Prelude.{ℕ, ◌<◌, ◌≤◌, ◌≡◌, nat_lt, if◌then◌else◌, List, [], ◌++◌, length, map, reverse, get_or, Some, slice_get, refl, ◌∷◌}
+use Rattle.std.specs.Prelude.{ℕ, ◌<◌, ◌≤◌, ◌≡◌, nat_lt, if◌then◌else◌, List, [], length, map, reverse, get_or, Some, slice_get, refl, ◌∷◌}
 use Rattle.std.specs.List.{All as Each, AllByRecursion, Contains}
 use Rattle.std.proofs.Common.{ap, sym, subst, ◌∙◌, arith, zero, suc}
 use Rattle.std.proofs.lemmas.Bool.{lt-ltb, le-ltb}
@@ -13,7 +13,7 @@ use Rattle.fof_terms.proofs.SortsFacts.{sort_of_term-Var}
 use Rattle.clause_form.specs.declared.clause.Lit.{Lit}
 use Rattle.clause_form.specs.Images.{image, IsImages}
 use Rattle.clause_form.proofs.ImagesFacts.{AgreeOn, image-Var, image_image}
-use Rattle.clause_form.specs.Covers.{lit_image, scope_of, AreSorted}
+use Rattle.clause_form.specs.Covers.{scope_of, AreSorted}
 use Rattle.clause_form.proofs.ClauseLaws.{lits_agree}
 use Rattle.clause_rules.specs.Steps.{instances}
 use Rattle.clause_rules.proofs.LitImages.{lits_twice}

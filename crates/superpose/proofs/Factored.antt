@@ -1,11 +1,8 @@
 -- Factoring, equality resolution and equality factoring at places of one clause.
-use Rattle.std.specs.Prelude.{ℕ, ◌<◌, ◌≡◌, ◌≢◌, Bool, true, false, List, [], ◌∷◌, ◌++◌, length, remove, Option, Some, None, slice_get, refl}
-use Rattle.std.specs.List.{AllByRecursion}
-use Rattle.std.proofs.Common.{ap, sym, subst, ◌∙◌}
+use Rattle.std.specs.Prelude.{ℕ, ◌≡◌, ◌≢◌, Bool, true, false, List, [], ◌∷◌, ◌++◌, remove, Some, None, slice_get, refl}
+use Rattle.std.proofs.Common.{ap, sym, ◌∙◌}
 use Rattle.fof_terms.specs.declared.term.Term.{Term}
 use Rattle.fof_terms.specs.Vocabulary.{Vocabulary}
-use Rattle.fof_terms.specs.Sorts.{sort_of_term}
-use Rattle.clause_form.specs.declared.clause.AtomOf.{AtomOf}
 use Rattle.clause_form.specs.declared.clause.Lit.{Lit}
 use Rattle.clause_form.specs.declared.clause.Clause.{Clause}
 use Rattle.clause_form.specs.ClauseView.{stated}
@@ -20,12 +17,11 @@ use Rattle.unify_terms.specs.declared.pair.Pair.{Pair}
 use Rattle.unify_terms.specs.declared.scope.Scope.{Scope}
 use Rattle.unify_terms.specs.Unifiers.{Unified, AreSorted}
 use Rattle.superpose.specs.declared.made.Made.{Made}
-use Rattle.superpose.specs.declared.sides.Sides.{Sides}
-use Rattle.superpose.specs.Drafts.{Draft, IsClause, IsMadeBy}
+use Rattle.superpose.specs.Drafts.{Draft, IsClause}
 use Rattle.superpose.specs.Inferences.{FactorsAt, ResolvesEquationAt, FactorsEquationsAt}
 use Rattle.superpose.specs.Made.{IsBestAt}
 use Rattle.superpose.specs.code.Conclusions.{IsConclusion}
-use Rattle.superpose.specs.code.Pairs.{ArePairsOf, IsPairing, HasSides, HasDeniedSides, NotPositive}
+use Rattle.superpose.specs.code.Pairs.{ArePairsOf, HasSides, HasDeniedSides, NotPositive}
 use Rattle.superpose.proofs.LeftSorts.{sorted_at, equation_sorts, unequal_sorts, factored_left, equation_left, equations_left}
 use Rattle.superpose.proofs.PairFacts.{args_found, asks_atoms, never_atoms, asks_terms}
 use Rattle.superpose.proofs.Posed.{IsPosed, IsScope, asked_sorted, none_best, some_best}

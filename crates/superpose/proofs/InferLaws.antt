@@ -1,11 +1,11 @@
 -- Each inference is an instance of the one under a most general unifier.
-use Rattle.std.specs.Prelude.{ℕ, List, ◌≡◌, map}
+use Rattle.std.specs.Prelude.{ℕ, List, map}
 use Rattle.std.proofs.Common.{ap, sym, subst, ◌∙◌}
 use Rattle.std.proofs.lemmas.Simd.{map-map}
 use Rattle.fof_terms.specs.declared.term.Term.{Term}
 use Rattle.fof_terms.specs.Vocabulary.{Vocabulary}
 use Rattle.clause_form.specs.declared.clause.Clause.{Clause}
-use Rattle.clause_form.specs.Images.{image, IsImages}
+use Rattle.clause_form.specs.Images.{image}
 use Rattle.clause_form.proofs.ImagesFacts.{image_sorted}
 use Rattle.clause_form.specs.Covers.{lit_image, scope_of, AreSorted, IsInstance}
 use Rattle.clause_form.proofs.ClauseLaws.{instance_then, lit_image_image, lits_agree, lits_sorted}

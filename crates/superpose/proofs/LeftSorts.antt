@@ -1,5 +1,5 @@
 -- What an inference leaves is well-sorted.
-use Rattle.std.specs.Prelude.{ℕ, ◌+◌, Bool, true, false, List, [], ◌∷◌, ◌++◌, ◌≡◌, ◌⊎◌, map, remove, take, drop, Option, Some, None, slice_get, slice_set, length, refl}
+use Rattle.std.specs.Prelude.{ℕ, Bool, true, false, List, [], ◌∷◌, ◌++◌, ◌≡◌, remove, take, drop, Option, Some, None, slice_get, slice_set, length, refl}
 use Rattle.std.proofs.Common.{ap, sym, subst, ◌∙◌, inl, inr, suc}
 use Rattle.std.proofs.lemmas.List.Elements.{All-append, All-take, All-drop, All-set, All-cons, All-nil}
 use Rattle.std.proofs.lemmas.List.{length-reverse}
@@ -8,7 +8,6 @@ use Rattle.std.proofs.lemmas.Bool.{eqb-true, eq-eqb}
 use Rattle.fof_terms.specs.declared.term.Term.{Term, App}
 use Rattle.fof_terms.specs.Vocabulary.{Vocabulary}
 use Rattle.fof_terms.specs.Sorts.{one_sort, sort_of_term}
-use Rattle.clause_form.specs.declared.clause.AtomOf.TheVariants.{Eq}
 use Rattle.clause_form.specs.declared.clause.Lit.{Lit}
 use Rattle.clause_form.specs.declared.clause.Clause.{Clause}
 use Rattle.clause_form.specs.Images.{image, IsImages}
@@ -19,7 +18,7 @@ use Rattle.clause_rules.specs.Steps.{scope_of_both, apart_from, equation, unequa
 use Rattle.clause_rules.proofs.JointImages.{sorted_further, sorted_apart}
 use Rattle.rule_steps.proofs.PlaceSorts.{replaced_fits, term_found}
 use Rattle.superpose.specs.Drafts.{Draft}
-use Rattle.superpose.specs.Inferences.{ResolvesAt, SuperposesAt, FactorsAt, ResolvesEquationAt, FactorsEquationsAt, Factors, IsDraftOfOne, IsDraftOfTwo}
+use Rattle.superpose.specs.Inferences.{ResolvesAt, SuperposesAt, FactorsAt, ResolvesEquationAt, FactorsEquationsAt, IsDraftOfOne, IsDraftOfTwo}
 
 pub one_sort_both : (l r : Option ℕ) → one_sort l r ≡ true → (q : ℕ) × (l ≡ Some q) × (r ≡ Some q)
 one_sort_both l None e = cc

@@ -1,4 +1,6 @@
 pub mod Additions
+pub mod Admitted
+pub mod Agreed
 pub mod Below
 pub mod BestMade
 pub mod ConclusionFacts

@@ -1,10 +1,9 @@
 -- New numbers of variables.
-use Rattle.std.specs.Prelude.{ℕ, ◌+◌, ◌<◌, ◌≤◌, ◌≡◌, List, [], ◌∷◌, ◌++◌, map, length, get_or, Option, Some, slice_get, refl}
+use Rattle.std.specs.Prelude.{ℕ, ◌+◌, ◌<◌, ◌≡◌, List, [], ◌∷◌, ◌++◌, length, get_or, Some, slice_get, refl}
 use Rattle.std.specs.List.{All as Each, Contains}
 use Rattle.std.proofs.Common.{ap, sym, subst, ◌∙◌, arith, zero, suc, append_assoc, append-nil, below_more}
 use Rattle.std.proofs.lemmas.List.{length-append}
 use Rattle.std.proofs.lemmas.List.Elements.{All-append, All-cons, All-nil, Contains-append_left}
-use Rattle.std.proofs.lemmas.Option.{slice_get-get_or, slice_get_within, get_or_from_slice_get}
 use Rattle.fof_terms.specs.declared.term.Term.{Term, Var}
 use Rattle.unify_terms.specs.Substitution.{image_at}
 use Rattle.superpose.specs.code.Named.{HasSortAt, HasName, IsGrown, IsNameOf, IsNamedBy, AreNamed, IsMissing}

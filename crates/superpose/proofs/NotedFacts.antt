@@ -10,7 +10,7 @@ use Rattle.fof_terms.specs.declared.term.Term.{Term, Var, App}
 use Rattle.clause_form.specs.declared.clause.AtomOf.{AtomOf}
 use Rattle.clause_form.specs.declared.clause.AtomOf.TheVariants.{Pred, Eq, True, False}
 use Rattle.clause_form.specs.declared.clause.Lit.{Lit}
-use Rattle.clause_form.specs.Covers.{at_terms, lit_image}
+use Rattle.clause_form.specs.Covers.{lit_image}
 use Rattle.clause_form.specs.Images.{image}
 use Rattle.clause_form.proofs.ImagesFacts.{image-Var, image-App}
 use Rattle.unify_terms.specs.Substitution.{image_at}

@@ -1,21 +1,18 @@
 -- What two atoms ask to be made equal.
-use Rattle.std.specs.Prelude.{ℕ, ◌+◌, ◌≡◌, Bool, true, false, List, [], ◌∷◌, length, map, Option, Some, None, refl}
+use Rattle.std.specs.Prelude.{ℕ, ◌+◌, ◌≡◌, true, List, [], ◌∷◌, map, None, refl}
 use Rattle.std.specs.List.{AllByRecursion}
-use Rattle.std.proofs.Common.{ap, sym, subst, ◌∙◌, arith}
-use Rattle.std.proofs.lemmas.List.{length-map}
-use Rattle.fof_terms.specs.declared.term.Term.{Term, Var, App}
+use Rattle.std.proofs.Common.{ap, sym, ◌∙◌, arith}
+use Rattle.fof_terms.specs.declared.term.Term.{Term, App}
 use Rattle.fof_terms.specs.declared.term.Term.TheViews.{out-Term, outs-App}
 use Rattle.fof_terms.specs.Vocabulary.{Vocabulary}
 use Rattle.clause_form.specs.declared.clause.AtomOf.{AtomOf}
 use Rattle.clause_form.specs.declared.clause.AtomOf.TheVariants.{Pred, Eq, True, False}
-use Rattle.clause_form.specs.declared.clause.Lit.{Lit}
 use Rattle.clause_form.specs.Covers.{at_terms, is_sorted_atom}
 use Rattle.clause_form.specs.Images.{image}
 use Rattle.clause_form.proofs.ImagesFacts.{image-App}
 use Rattle.clause_rules.specs.Places.{args_of_atom, args_of}
 use Rattle.clause_rules.proofs.PlaceLaws.{args_of-App}
 use Rattle.clause_order.specs.Weights.{as_term}
-use Rattle.substitution_search.specs.Ways.{zip_pairs}
 use Rattle.substitution_search.proofs.NeedSorts.{Found, sorted_fits}
 use Rattle.unify_terms.specs.declared.pair.Pair.{Pair}
 use Rattle.superpose.specs.Drafts.{Draft}

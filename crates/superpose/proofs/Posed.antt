@@ -1,7 +1,7 @@
 -- From a draft to the clause that is made: what each kind of inference has to show.
-use Rattle.std.specs.Prelude.{ℕ, ◌≤◌, ◌^◌, ◌≡◌, List, length, Option, Some, None}
+use Rattle.std.specs.Prelude.{ℕ, ◌≡◌, List, length, Option, Some, None}
 use Rattle.std.specs.List.{AllByRecursion}
-use Rattle.std.proofs.Common.{ap, sym, subst, ◌∙◌, arith}
+use Rattle.std.proofs.Common.{sym, subst}
 use Rattle.fof_terms.specs.declared.term.Term.{Term}
 use Rattle.fof_terms.specs.Vocabulary.{Vocabulary}
 use Rattle.clause_form.specs.declared.clause.Lit.{Lit}
@@ -14,7 +14,7 @@ use Rattle.unify_terms.specs.declared.scope.Scope.{Scope}
 use Rattle.unify_terms.specs.Substitution.{image_at}
 use Rattle.unify_terms.specs.Unifiers.{Unified, AreSorted as ArePairsSorted}
 use Rattle.superpose.specs.declared.made.Made.{Made}
-use Rattle.superpose.specs.Drafts.{Draft, IsMadeBy, SortsExist}
+use Rattle.superpose.specs.Drafts.{Draft, SortsExist}
 use Rattle.superpose.specs.Made.{IsBestAt}
 use Rattle.superpose.specs.code.Conclusions.{IsConclusion}
 use Rattle.superpose.proofs.Unifying.{Asks, pairs_sorted, most_general}

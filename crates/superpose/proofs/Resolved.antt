@@ -1,7 +1,6 @@
 -- Resolution at two literals.
-use Rattle.std.specs.Prelude.{ℕ, ◌+◌, ◌<◌, ◌≤◌, ◌^◌, ◌≡◌, Bool, true, false, List, ◌++◌, length, map, reverse, remove, get_or, Option, Some, None, slice_get, refl}
-use Rattle.std.specs.List.{AllByRecursion, All as Each}
-use Rattle.std.proofs.Common.{ap, sym, subst, ◌∙◌, arith, zero, suc}
+use Rattle.std.specs.Prelude.{ℕ, ◌+◌, ◌<◌, ◌≤◌, ◌^◌, ◌≡◌, Bool, false, List, ◌++◌, length, map, remove, get_or, Option, Some, None, slice_get, refl}
+use Rattle.std.proofs.Common.{ap, sym, subst, ◌∙◌, arith}
 use Rattle.std.proofs.lemmas.List.{length-reverse, length-append, length-map}
 use Rattle.std.proofs.lemmas.List.Elements.{All-append}
 use Rattle.std.proofs.lemmas.Option.{get_or_from_slice_get}
@@ -19,18 +18,17 @@ use Rattle.clause_rules.specs.Places.{args_of_atom}
 use Rattle.clause_rules.specs.Steps.{scope_of_both, apart_from}
 use Rattle.clause_rules.proofs.Firsts.{one_at, there_at}
 use Rattle.clause_order.specs.Eligible.{IsEligible}
-use Rattle.substitution_search.specs.Ways.{zip_pairs}
-use Rattle.substitution_search.proofs.NeedSorts.{Found}
 use Rattle.unify_terms.specs.declared.pair.Pair.{Pair}
 use Rattle.unify_terms.specs.declared.scope.Scope.{Scope}
 use Rattle.unify_terms.specs.Unifiers.{Unified, AreSorted}
 use Rattle.superpose.specs.declared.made.Made.{Made}
 use Rattle.superpose.specs.code.Conclusions.{IsConclusion}
-use Rattle.superpose.specs.Drafts.{Draft, IsClause, IsMadeBy, SortsExist}
+use Rattle.superpose.specs.Drafts.{Draft, IsClause, SortsExist}
 use Rattle.superpose.specs.Inferences.{ResolvesAt}
 use Rattle.superpose.specs.Made.{IsBestAt}
 use Rattle.superpose.specs.code.Pairs.{ArePairsOf, IsPairing}
 use Rattle.superpose.specs.code.Resolvable.{AreResolvable, NotResolvable}
+use Rattle.superpose.proofs.Agreed.{moved_images}
 use Rattle.superpose.proofs.ConclusionFacts.{all_reversed, get_map}
 use Rattle.superpose.proofs.LeftSorts.{sorted_first, sorted_second, sorted_at, resolved_left}
 use Rattle.superpose.proofs.PairFacts.{args_found, asks_predicate}
@@ -76,8 +74,13 @@ moved_from n l p us e = go l.positive l.atom (ap (λ (x : Lit). x.positive) e) (
 module _ (v : Vocabulary) (c d : Clause) (i j : ℕ) where
   pub never_resolvable : (k l : Lit) → slice_get c.lits i ≡ Some k → slice_get d.lits j ≡ Some l → NotResolvable k l → IsBestAt v (scope_of_both c d) (ResolvesAt c d i j) None
   never_resolvable k l k_at l_at never f e s r made =
-      let moved = moved_from (length c.sorts) l r.p r.us (one_at (apart_from c d.lits) j (lit_apart (length c.sorts) l) (denied (Pred r.p r.us)) (get_map (lit_apart (length c.sorts)) d.lits j l l_at) r.there) in
-      never r.p r.ts moved.0 (one_at c.lits i k (stated (Pred r.p r.ts)) k_at r.here) moved.1
+      let n = length c.sorts in
+      let apart : lit_apart n l ≡ denied (Pred r.p r.us) = one_at (apart_from c d.lits) j (lit_apart n l) (denied (Pred r.p r.us)) (get_map (lit_apart n) d.lits j l l_at) r.there in
+      let moved = moved_from n l r.p r.us apart in
+      let args : map (lifted_term n 0) moved.0 ≡ r.us = ap (λ (x : Lit). args_of_atom x.atom) (ap (lit_apart n) (sym moved.1) ∙ apart) in
+      let same : map (image s) r.ts ≡ map (image s) r.us = (asks_predicate f r.p r.ts r.us r.one r.other).forth s made.unified in
+      never r.p r.ts moved.0 (one_at c.lits i k (stated (Pred r.p r.ts)) k_at r.here) moved.1 s (λ x. s (x + n))
+      (same ∙ ap (map (image s)) (sym args) ∙ moved_images s n moved.0)
 
   pub never_paired : (k l : Lit) → slice_get c.lits i ≡ Some k → slice_get (apart_from c d.lits) j ≡ Some l → ArePairsOf k.atom l.atom None → IsBestAt v (scope_of_both c d) (ResolvesAt c d i j) None
   never_paired k l k_at l_at never f e s r made =

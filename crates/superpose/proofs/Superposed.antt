@@ -1,11 +1,9 @@
 -- Superposition at a place of a literal.
-use Rattle.std.specs.Prelude.{ℕ, ◌+◌, ◌≡◌, Bool, true, false, nat_eq, List, [], ◌∷◌, ◌++◌, length, map, remove, Option, Some, None, slice_get, slice_set, refl}
-use Rattle.std.specs.List.{AllByRecursion}
+use Rattle.std.specs.Prelude.{ℕ, ◌+◌, ◌≡◌, Bool, List, [], ◌∷◌, ◌++◌, length, map, remove, Option, Some, None, slice_get, slice_set, refl}
 use Rattle.std.specs.Option.{option_map}
-use Rattle.std.proofs.Common.{ap, sym, subst, ◌∙◌, arith}
-use Rattle.std.proofs.lemmas.Bool.{eq-eqb}
+use Rattle.std.proofs.Common.{ap, sym, ◌∙◌, arith}
 use Rattle.std.proofs.lemmas.Option.{slice_get-map}
-use Rattle.fof_terms.specs.declared.term.Term.{Term, Var, App}
+use Rattle.fof_terms.specs.declared.term.Term.{Term, App}
 use Rattle.fof_terms.specs.declared.term.Term.TheViews.{out-Term, outs-Var, outs-App}
 use Rattle.fof_terms.specs.Vocabulary.{Vocabulary}
 use Rattle.fof_terms.specs.Lift.{lifted_term}
@@ -16,9 +14,9 @@ use Rattle.clause_form.specs.declared.clause.AtomOf.{AtomOf}
 use Rattle.clause_form.specs.declared.clause.AtomOf.TheVariants.{Pred, Eq, True, False}
 use Rattle.clause_form.specs.declared.clause.Lit.{Lit}
 use Rattle.clause_form.specs.declared.clause.Clause.{Clause}
-use Rattle.clause_form.specs.Covers.{at_terms, lit_apart, scope_of}
+use Rattle.clause_form.specs.Covers.{at_terms, lit_apart}
 use Rattle.clause_form.specs.Images.{image}
-use Rattle.clause_form.proofs.ImagesFacts.{image-App, image_of_lifted}
+use Rattle.clause_form.proofs.ImagesFacts.{image_of_lifted}
 use Rattle.clause_rules.specs.Places.{args_of, args_of_atom, down_into, term_at, lit_term_at, lit_put_at}
 use Rattle.clause_rules.specs.Steps.{scope_of_both, apart_from, equation}
 use Rattle.clause_rules.proofs.Firsts.{one_at}
@@ -31,13 +29,12 @@ use Rattle.unify_terms.specs.declared.pair.Pair.{Pair}
 use Rattle.unify_terms.specs.declared.scope.Scope.{Scope}
 use Rattle.unify_terms.specs.Unifiers.{Unified, AreSorted}
 use Rattle.superpose.specs.declared.made.Made.{Made}
-use Rattle.superpose.specs.declared.sides.Sides.{Sides}
-use Rattle.superpose.specs.Drafts.{Draft, IsClause, IsMadeBy}
+use Rattle.superpose.specs.Drafts.{Draft, IsClause}
 use Rattle.superpose.specs.Inferences.{SuperposesAt}
 use Rattle.superpose.specs.Made.{IsBestAt}
 use Rattle.superpose.specs.code.Conclusions.{IsConclusion}
 use Rattle.superpose.specs.code.Pairs.{HasSides}
-use Rattle.superpose.specs.code.Placed.{NeverEqual, NoneStands, HasPart, AreReplaced}
+use Rattle.superpose.specs.code.Placed.{NoneStands, HasPart, AreReplaced}
 use Rattle.superpose.proofs.ConclusionFacts.{get_map}
 use Rattle.superpose.proofs.Factored.{same_sides, draft_is}
 use Rattle.superpose.proofs.LeftSorts.{sorted_first, sorted_second, sorted_at, equation_sorts, superposed_left}
@@ -45,17 +42,6 @@ use Rattle.superpose.proofs.PairFacts.{asks_terms, same_head}
 use Rattle.superpose.proofs.Posed.{IsPosed, IsScope, asked_sorted, none_best, some_best}
 use Rattle.superpose.proofs.Resolved.{both_exist}
 use Rattle.fof_terms.specs.declared.term.Term.TheOpen as term
-
--- terms with other heads have no equal instances
-pub other_heads : (side t : Term) (f g : ℕ) (ts us : List Term) → t ≡ App f ts → side ≡ App g us → nat_eq f g ≡ false → NeverEqual side t
-other_heads side t f g ts us t_is side_is differ h args is s r e =
-    let both : App g (map (image s) us) ≡ App f (map (image r) ts) = sym (image-App s g us) ∙ ap (image s) (sym side_is) ∙ e ∙ ap (image r) t_is ∙ image-App r f ts in
-    let same : f ≡ g = sym (same_head g f (map (image s) us) (map (image r) ts) both) in
-    let no : true ≡ false = sym (eq-eqb f g same) ∙ differ in
-    cc
-
-pub no_variable : (side t : Term) (k : ℕ) → t ≡ Var k → NeverEqual side t
-no_variable side t k t_is h args is s r e = let layers : term.Var k ≡ term.App h args = sym (outs-Var k) ∙ ap out-Term (sym t_is ∙ is) ∙ outs-App h args in cc
 
 module _ (n : ℕ) where
   abbrev f : Term → Term
@@ -89,7 +75,7 @@ module _ (n : ℕ) where
     go (Some t) is h = (t, is, cc)
 
   -- an application was one before
-  was_app : (t : Term) (g : ℕ) (args : List Term) → f t ≡ App g args → (args' : List Term) × (t ≡ App g args')
+  pub was_app : (t : Term) (g : ℕ) (args : List Term) → f t ≡ App g args → (args' : List Term) × (t ≡ App g args')
   was_app = term_induction _ (record {
     var = λ k g args e. let layers : term.Var (k + n) ≡ term.App g args = sym (outs-Var (k + n)) ∙ ap out-Term (sym (moves n 0 k (omega arith)) ∙ e) ∙ outs-App g args in cc;
     app = λ h ts all g args e. (ts, ap (λ x. App x ts) (same_head h g (map f ts) args (sym (lifted_term-App n 0 h ts) ∙ e)));
@@ -107,11 +93,10 @@ module _ (v : Vocabulary) (c d : Clause) (i : ℕ) (flipped : Bool) (j : ℕ) (p
       let n = length c.sorts in
       let moved : p.target ≡ lit_apart n target = one_at (apart_from c d.lits) j p.target (lit_apart n target) p.there (get_map (lit_apart n) d.lits j target t_at) in
       let stood = stood_at n place target (App p.g p.args) (ap (lit_term_at place) (sym moved) ∙ p.stands) in
-      let app = was_app n stood.0 p.g p.args stood.2 in
       let sides = same_sides flipped p.l p.r l r (one_at c.lits i (equation flipped p.l p.r) (equation flipped l r) p.here (k_at ∙ ap Some k_is)) in
       let equal : image s l ≡ image (λ x. s (x + n)) stood.0 =
       ap (image s) (sym sides.0 ∙ sym p.one) ∙ made.unified ∙ ap (image s) (p.other ∙ sym stood.2) ∙ image_of_lifted s n stood.0 in
-      never stood.0 stood.1 p.g app.0 app.1 s (λ x. s (x + n)) equal
+      never stood.0 stood.1 s (λ x. s (x + n)) equal
 
   pub never_part : (target : Lit) → slice_get (apart_from c d.lits) j ≡ Some target → HasPart target place None → IsBestAt v (scope_of_both c d) Is None
   never_part target t_at never g e s p made =

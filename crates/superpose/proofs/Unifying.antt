@@ -1,5 +1,5 @@
 -- What unify answers, said of substitutions as functions.
-use Rattle.std.specs.Prelude.{ℕ, ◌≡◌, ◌<◌, List, [], ◌∷◌, length, map, Some, None, slice_get, get_or, refl}
+use Rattle.std.specs.Prelude.{ℕ, ◌≡◌, List, [], ◌∷◌, length, map, Some, None, slice_get, get_or, refl}
 use Rattle.std.specs.List.{AllByRecursion}
 use Rattle.std.proofs.Common.{ap, sym, ◌∙◌, arith}
 use Rattle.std.proofs.lemmas.Option.{slice_get_within, slice_get-get_or}
@@ -13,7 +13,7 @@ use Rattle.clause_rules.proofs.LitImages.{instance_is, instances_are}
 use Rattle.substitution_search.specs.Ways.{zip_pairs}
 use Rattle.substitution_search.proofs.NeedSorts.{Found}
 use Rattle.unify_terms.specs.Substitution.{image_at, instance, IsSubstitution}
-use Rattle.unify_terms.specs.Unifiers.{Unifies, AreSorted, Unified, IsMostGeneral as IsBestList}
+use Rattle.unify_terms.specs.Unifiers.{Unifies, AreSorted, Unified}
 use Rattle.superpose.specs.Drafts.{Draft}
 use Rattle.superpose.specs.MostGeneral.{IsMostGeneral}
 

@@ -183,7 +183,7 @@ uses_next lits n mid new h g = record {
 only_gained : (X : Type 0) (P : X → Type 0) (new : List X) (x : X) → Gains X P [] new → Contains new x → P x
 only_gained X P new x h c = elim (h.each x c) [ inl a ↦ (let lt = a.1 in absurd (omega arith)) | inr a ↦ a ]
 
-eligible_within : (lits : List Lit) (i : ℕ) → IsEligible lits i → i < length lits
+pub eligible_within : (lits : List Lit) (i : ℕ) → IsEligible lits i → i < length lits
 eligible_within lits i (inl p) = slice_get_within lits i p.chosen p.here
 eligible_within lits i (inr p) = slice_get_within lits i p.chosen p.here
 

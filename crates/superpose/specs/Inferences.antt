@@ -73,7 +73,8 @@ pub record ResolvesEquationAt (c : Clause) (i : ℕ) (f : Draft) : Type 0 where
 
 -- Equality factoring: of two positive equations s = t and u = w, each read from either side, the first is eligible. It
 -- goes, and t != w comes last.
-pub record FactorsEquationsAt (c : Clause) (i : ℕ) (first_flipped : Bool) (j : ℕ) (second_flipped : Bool) (f : Draft) : Type 0 where
+pub record FactorsEquationsAt (c : Clause) (i : ℕ) (first_flipped : Bool) (j : ℕ) (second_flipped : Bool)
+    (f : Draft) : Type 0 where
   pub s : Term
   pub t : Term
   pub u : Term

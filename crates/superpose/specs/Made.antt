@@ -21,7 +21,8 @@ pub record IsMadeFrom (v : Vocabulary) (scope : List ℕ) (P : Draft → Type 0)
 
 -- each clause that one of the drafts makes by any substitution is an instance of this one
 abbrev pub HasAllAsInstances : Vocabulary → List ℕ → (Draft → Type 0) → Clause → Type 0
-HasAllAsInstances v scope P c = (f : Draft) (e : Clause) (s : ℕ → Term) → P f → IsMadeBy v scope f e s → IsInstance v c e
+HasAllAsInstances v scope P c = (f : Draft) (e : Clause) (s : ℕ → Term) → P f → IsMadeBy v scope f e s
+    → IsInstance v c e
 
 -- the most general clause that the drafts make, or none exactly where no substitution makes one
 abbrev pub IsBestAt : Vocabulary → List ℕ → (Draft → Type 0) → Option Made → Type 0
@@ -30,7 +31,8 @@ IsBestAt v scope P (Some m) = IsMadeFrom v scope P m × HasAllAsInstances v scop
 
 -- each clause that the draft makes by any substitution is an instance of one of these
 abbrev pub IsSettledBy : Vocabulary → List ℕ → Draft → List Made → Type 0
-IsSettledBy v scope f made = (e : Clause) (s : ℕ → Term) → IsMadeBy v scope f e s → (m : Made) × Contains made m × IsInstance v m.clause e
+IsSettledBy v scope f made = (e : Clause) (s : ℕ → Term) → IsMadeBy v scope f e s → (m : Made) × Contains made m
+    × IsInstance v m.clause e
 
 -- Those that were there are kept. Each other one is made from one of the drafts, and each of the drafts is settled.
 pub record Adds (v : Vocabulary) (scope : List ℕ) (P : Draft → Type 0) (old new : List Made) : Type 0 where

@@ -1,5 +1,5 @@
 -- What inferences use of a clause: its eligible literals, the sides of its equations, and the places in its literals.
-use Rattle.std.specs.Prelude.{ℕ, Bool, ◌≡◌, ◌<◌, List, Some, slice_get, length}
+use Rattle.std.specs.Prelude.{ℕ, Bool, ◌≡◌, List, Some, slice_get}
 use Rattle.std.specs.List.{Contains}
 use Rattle.fof_terms.specs.declared.term.Term.{Term, App}
 use Rattle.clause_form.specs.declared.clause.Lit.{Lit}
@@ -30,7 +30,11 @@ pub record IsUsedPlace (lits : List Lit) (j : ℕ) (place : List ℕ) : Type 0 w
 pub record AreUsed (lits : List Lit) (used : Used) : Type 0 where
   pub each : (i : ℕ) → Contains used.lits i → IsEligible lits i
   pub whole : (i : ℕ) → IsEligible lits i → Contains used.lits i
-  pub each_side : (side : Side) → Contains used.sides side → IsEligible lits side.lit × IsUsedSide lits side.lit side.flipped
-  pub whole_sides : (i : ℕ) (flipped : Bool) → IsEligible lits i → IsUsedSide lits i flipped → (side : Side) × Contains used.sides side × (side.lit ≡ i) × (side.flipped ≡ flipped)
-  pub each_spot : (spot : Spot) → Contains used.spots spot → IsEligible lits spot.lit × IsUsedPlace lits spot.lit spot.place
-  pub whole_spots : (j : ℕ) (place : List ℕ) → IsEligible lits j → IsUsedPlace lits j place → (spot : Spot) × Contains used.spots spot × (spot.lit ≡ j) × (spot.place ≡ place)
+  pub each_side : (side : Side) → Contains used.sides side → IsEligible lits side.lit
+      × IsUsedSide lits side.lit side.flipped
+  pub whole_sides : (i : ℕ) (flipped : Bool) → IsEligible lits i → IsUsedSide lits i flipped → (side : Side)
+      × Contains used.sides side × (side.lit ≡ i) × (side.flipped ≡ flipped)
+  pub each_spot : (spot : Spot) → Contains used.spots spot → IsEligible lits spot.lit
+      × IsUsedPlace lits spot.lit spot.place
+  pub whole_spots : (j : ℕ) (place : List ℕ) → IsEligible lits j → IsUsedPlace lits j place → (spot : Spot)
+      × Contains used.spots spot × (spot.lit ≡ j) × (spot.place ≡ place)

@@ -35,7 +35,7 @@ pub fn conclude(
     if kept.len() > MAX_SORTS {
         return Err(Memory);
     }
-    let images = images_of(alloc, &names, subst.images.as_slice())?;
+    let images = images_of(subst.images.as_slice(), alloc, &names)?;
     let subst = Subst { images };
     let lits = images_of_lits(alloc, &subst, left)?;
     let sorts = sorts_of(alloc, scope, kept.as_slice())?;

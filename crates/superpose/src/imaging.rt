@@ -9,13 +9,13 @@ use clause_form::{AtomOf, Lit};
 use fof_terms::Term;
 use std::alloc::Global;
 use tptp_base::{List, Memory};
-use unify_terms::{Subst, apply};
+use unify_terms::Subst;
 
-/// The images of the literals.
+/// The images of the literals. Here and below lists have no more room than they need, since a search keeps many.
 pub fn images_of_lits(alloc: Global, subst: &Subst, lits: &[Lit]) -> Result<List<Lit>, Memory>
     ensures { IfOk result (λ made. made ≡ instances (image_at subst.now) lits.now) }
 {
-    let mut made = List::new(alloc);
+    let mut made = Vec::with_capacity(alloc, lits.len())?;
     for lit in lits {
         let atom = image_of_atom(alloc, subst, &lit.atom)?;
         made.push(Lit {
@@ -23,7 +23,7 @@ pub fn images_of_lits(alloc: Global, subst: &Subst, lits: &[Lit]) -> Result<List
             atom,
         })?;
     }
-    Ok(made)
+    Ok(List::from_vec(made))
 }
 
 // The image of an atom.
@@ -33,11 +33,11 @@ fn image_of_atom(alloc: Global, subst: &Subst, atom: &AtomOf) -> Result<AtomOf, 
     match atom {
         AtomOf::Pred(symbol, args) => Ok(AtomOf::Pred(
             *symbol,
-            images_of(alloc, subst, args.as_slice())?,
+            images_of(args.as_slice(), alloc, subst)?,
         )),
         AtomOf::Eq(left, right) => {
-            let left = image_of(alloc, subst, left)?;
-            Ok(AtomOf::Eq(left, image_of(alloc, subst, right)?))
+            let left = image_of(left, alloc, subst)?;
+            Ok(AtomOf::Eq(left, image_of(right, alloc, subst)?))
         }
         AtomOf::True => Ok(AtomOf::True),
         AtomOf::False => Ok(AtomOf::False),
@@ -45,19 +45,53 @@ fn image_of_atom(alloc: Global, subst: &Subst, atom: &AtomOf) -> Result<AtomOf, 
 }
 
 /// The images of the terms.
-pub fn images_of(alloc: Global, subst: &Subst, terms: &[Term]) -> Result<List<Term>, Memory>
+#[cycle(image_of)]
+pub fn images_of(terms: &[Term], alloc: Global, subst: &Subst) -> Result<List<Term>, Memory>
     ensures { IfOk result (λ made. made ≡ map (image (image_at subst.now)) terms.now) }
 {
-    let mut images = List::new(alloc);
+    let mut images = Vec::with_capacity(alloc, terms.len())?;
     for term in terms {
-        images.push(image_of(alloc, subst, term)?)?;
+        images.push(image_of(term, alloc, subst)?)?;
     }
-    Ok(images)
+    Ok(List::from_vec(images))
 }
 
 // The image of a term.
-fn image_of(alloc: Global, subst: &Subst, term: &Term) -> Result<Term, Memory>
+#[tactic(auto, using(clause_form::proofs::ImagesFacts::image_equations))]
+#[cycle(image_of)]
+fn image_of(term: &Term, alloc: Global, subst: &Subst) -> Result<Term, Memory>
     ensures { IfOk result (λ made. made ≡ image (image_at subst.now) term.now) }
 {
-    apply(alloc, subst, term)
+    match term {
+        Term::Var(variable) => match subst.images.get(*variable as usize) {
+            Some(image) => copied(image, alloc),
+            None => Ok(Term::Var(*variable)),
+        },
+        Term::App(symbol, args) => Ok(Term::App(
+            *symbol,
+            images_of(args.as_slice(), alloc, subst)?,
+        )),
+    }
+}
+
+// The same term.
+#[cycle(copied)]
+fn copied(term: &Term, alloc: Global) -> Result<Term, Memory>
+    ensures { IfOk result (λ copy. copy ≡ term.now) }
+{
+    match term {
+        Term::Var(variable) => Ok(Term::Var(*variable)),
+        Term::App(symbol, args) => Ok(Term::App(*symbol, all_copied(args.as_slice(), alloc)?)),
+    }
+}
+
+#[cycle(copied)]
+fn all_copied(terms: &[Term], alloc: Global) -> Result<List<Term>, Memory>
+    ensures { IfOk result (λ copies. copies ≡ terms.now) }
+{
+    let mut copies = Vec::with_capacity(alloc, terms.len())?;
+    for term in terms {
+        copies.push(copied(term, alloc)?)?;
+    }
+    Ok(List::from_vec(copies))
 }

@@ -2,6 +2,8 @@
 //! all that follow from one clause or from two.
 #![tactic(auto)]
 
+mod admission;
+mod agreeing;
 mod concluding;
 mod equation_factoring;
 mod equation_resolution;
@@ -19,6 +21,7 @@ mod superposition;
 mod two_clauses;
 mod used;
 
+pub use admission::is_clause;
 pub use equation_factoring::factor_equations_at;
 pub use equation_resolution::resolve_equation_at;
 pub use factoring::factor_at;

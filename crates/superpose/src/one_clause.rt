@@ -1,19 +1,20 @@
 //! All inferences from one clause.
-ghost use Rattle.std.specs.Prelude.{◌<◌, length, OnOk};
+ghost use Rattle.std.specs.Prelude.{ℕ, ◌<◌, length, OnOk};
 ghost use Rattle.clause_form.specs.Covers.{scope_of};
 ghost use Rattle.clause_order.specs.Eligible.{IsEligible};
 ghost use Rattle.superpose.specs.Drafts.{IsClause};
 ghost use Rattle.superpose.specs.Inferences.{ResolvesEquationAt};
 ghost use Rattle.superpose.specs.Made.{Adds, AddsFromOne};
+ghost use Rattle.superpose.specs.Used.{AreUsed};
+ghost use Rattle.superpose.specs.code.Listed.{AreEligible, OfSome};
 ghost use Rattle.superpose.specs.code.Places.{FactorsPair, FactorsRead, FactorsWithSome, FromLit};
 
 use crate::equation_factoring::factor_equations_at;
 use crate::equation_resolution::resolve_equation_at;
 use crate::factoring::factor_at;
 use crate::made::{Made, keep};
-use crate::naming::number;
+use crate::used::Used;
 use clause_form::Clause;
-use clause_order::eligible;
 use fof_terms::Signature;
 use std::alloc::Global;
 use tptp_base::{List, Memory};
@@ -24,18 +25,35 @@ pub fn add_from_one(
     alloc: Global,
     sig: &Signature,
     c: &Clause,
+    used: &Used,
     made: &mut List<Made>,
 ) -> Result<(), Memory>
     requires c { IsClause sig.now c.now }
+    requires used { AreUsed c.now.lits used.now }
     ensures { OnOk result (AddsFromOne sig.now c.now made.old made.new) }
 {
-    for i in 0..c.lits.len() {
-        add_from_lit(alloc, sig, c, i, made)?;
+    add_from_lits(alloc, sig, c, used.lits.as_slice(), made)
+}
+
+// Adds those at these eligible literals.
+fn add_from_lits(
+    alloc: Global,
+    sig: &Signature,
+    c: &Clause,
+    numbers: &[usize],
+    made: &mut List<Made>,
+) -> Result<(), Memory>
+    requires c { IsClause sig.now c.now }
+    requires numbers { AreEligible c.now.lits numbers.now }
+    ensures { OnOk result (Adds sig.now (scope_of c.now) (OfSome ℕ (FromLit c.now) numbers.now) made.old made.new) }
+{
+    for at in 0..numbers.len() {
+        add_from_lit(alloc, sig, c, numbers[at], made)?;
     }
     Ok(())
 }
 
-// Adds those at literal i, if it is eligible.
+// Adds those at literal i.
 fn add_from_lit(
     alloc: Global,
     sig: &Signature,
@@ -45,12 +63,9 @@ fn add_from_lit(
 ) -> Result<(), Memory>
     requires c { IsClause sig.now c.now }
     requires i { i < length c.now.lits }
+    requires first { IsEligible c.now.lits i }
     ensures { OnOk result (Adds sig.now (scope_of c.now) (FromLit c.now i) made.old made.new) }
 {
-    let at = number(i)?;
-    if !eligible(c, at) {
-        return Ok(());
-    }
     add_resolved(alloc, sig, c, i, made)?;
     add_factored(alloc, sig, c, i, made)
 }

@@ -7,6 +7,7 @@ ghost use Rattle.superpose.specs.Inferences.{ResolvesAt};
 ghost use Rattle.superpose.specs.Made.{IsBestAt};
 ghost use Rattle.superpose.specs.code.Resolvable.{AreResolvable, NotResolvable};
 
+use crate::agreeing::may_all_meet;
 use crate::concluding::conclude;
 use crate::made::Made;
 use crate::pairing::pairs_of_lits;
@@ -57,7 +58,7 @@ pub fn resolve_at(
     }
 }
 
-// Whether the first is a positive and the second a negative literal of one predicate.
+// Whether the first is a positive and the second a negative literal of one predicate, and their symbols agree.
 fn may_resolve(first: &Lit, second: &Lit) -> bool
     ensures never { result ≡ false → NotResolvable first.now second.now }
     ensures may { result ≡ true → AreResolvable first.now second.now }
@@ -66,8 +67,10 @@ fn may_resolve(first: &Lit, second: &Lit) -> bool
         return false;
     }
     match &first.atom {
-        AtomOf::Pred(symbol, _) => match &second.atom {
-            AtomOf::Pred(other, _) => symbol == other,
+        AtomOf::Pred(symbol, args) => match &second.atom {
+            AtomOf::Pred(other, others) => {
+                symbol == other && may_all_meet(args.as_slice(), others.as_slice())
+            }
             AtomOf::Eq(_, _) | AtomOf::True | AtomOf::False => false,
         },
         AtomOf::Eq(_, _) | AtomOf::True | AtomOf::False => false,

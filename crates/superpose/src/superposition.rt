@@ -6,8 +6,9 @@ ghost use Rattle.clause_order.specs.Eligible.{IsEligible, IsNotLess};
 ghost use Rattle.superpose.specs.Drafts.{IsClause};
 ghost use Rattle.superpose.specs.Inferences.{SuperposesAt};
 ghost use Rattle.superpose.specs.Made.{IsBestAt};
-ghost use Rattle.superpose.specs.code.Placed.{AreReplaced, HasPart, NeverEqual, NoneStands};
+ghost use Rattle.superpose.specs.code.Placed.{AreReplaced, HasPart, NoneStands};
 
+use crate::agreeing::may_meet;
 use crate::concluding::conclude;
 use crate::made::Made;
 use crate::pairing::pair_of;
@@ -70,26 +71,13 @@ pub fn superpose_at(
     }
 }
 
-// Whether a term that is no variable stands at the place, and the side is a variable or has its head.
+// Whether a term stands at the place whose symbols agree with those of the side.
 fn may_stand_at(side: &Term, target: &Lit, place: &[usize]) -> bool
     ensures { result ≡ false → NoneStands side.now target.now place.now }
 {
     match term_in(target, place) {
-        Some(term) => may_be_equal(side, term),
+        Some(term) => may_meet(side, term),
         None => false,
-    }
-}
-
-// Whether the second term is no variable, and the first one is a variable or has its head.
-fn may_be_equal(side: &Term, term: &Term) -> bool
-    ensures { result ≡ false → NeverEqual side.now term.now }
-{
-    match term {
-        Term::App(symbol, _) => match side {
-            Term::Var(_) => true,
-            Term::App(other, _) => symbol == other,
-        },
-        Term::Var(_) => false,
     }
 }
 

@@ -3,19 +3,17 @@ ghost use Rattle.std.specs.Prelude.{◌<◌, length, OnOk};
 ghost use Rattle.clause_rules.specs.Steps.{scope_of_both};
 ghost use Rattle.clause_order.specs.Eligible.{IsEligible};
 ghost use Rattle.superpose.specs.Drafts.{IsClause};
-ghost use Rattle.superpose.specs.Inferences.{ResolvesAt};
 ghost use Rattle.superpose.specs.Made.{Adds, AddsFromTwo};
-ghost use Rattle.superpose.specs.code.Places.{FromLits, SuperposesRead, WithSome};
+ghost use Rattle.superpose.specs.Used.{AreUsed};
+ghost use Rattle.superpose.specs.code.Listed.{AreEligible, AreUsedSides, AreUsedSpots};
+ghost use Rattle.superpose.specs.code.Listed.{ResolvesAmong, ResolvesWith, SuperposesAmong, SuperposesFrom};
+ghost use Rattle.superpose.specs.code.Uses.{UsesSide};
 
 use crate::made::{Made, keep};
-use crate::naming::number;
 use crate::resolution::resolve_at;
-use crate::sides::is_usable;
 use crate::superposition::superpose_at;
-use crate::used::Side;
+use crate::used::{Side, Spot, Used};
 use clause_form::Clause;
-use clause_order::eligible;
-use clause_rules::places_of_lit;
 use fof_terms::Signature;
 use std::alloc::Global;
 use tptp_base::{List, Memory};
@@ -26,100 +24,128 @@ pub fn add_from_two(
     alloc: Global,
     sig: &Signature,
     c: &Clause,
+    used_of_c: &Used,
     d: &Clause,
+    used_of_d: &Used,
     made: &mut List<Made>,
 ) -> Result<(), Memory>
     requires c { IsClause sig.now c.now }
     requires d { IsClause sig.now d.now }
+    requires used_of_c { AreUsed c.now.lits used_of_c.now }
+    requires used_of_d { AreUsed d.now.lits used_of_d.now }
     ensures { OnOk result (AddsFromTwo sig.now c.now d.now made.old made.new) }
 {
-    for i in 0..c.lits.len() {
-        add_with(alloc, sig, c, d, i, made)?;
+    add_resolved(
+        alloc,
+        sig,
+        c,
+        used_of_c.lits.as_slice(),
+        d,
+        used_of_d.lits.as_slice(),
+        made,
+    )?;
+    add_superposed(
+        alloc,
+        sig,
+        c,
+        used_of_c.sides.as_slice(),
+        d,
+        used_of_d.spots.as_slice(),
+        made,
+    )
+}
+
+// Adds what resolution makes of two of these eligible literals.
+fn add_resolved(
+    alloc: Global,
+    sig: &Signature,
+    c: &Clause,
+    firsts: &[usize],
+    d: &Clause,
+    seconds: &[usize],
+    made: &mut List<Made>,
+) -> Result<(), Memory>
+    requires c { IsClause sig.now c.now }
+    requires d { IsClause sig.now d.now }
+    requires firsts { AreEligible c.now.lits firsts.now }
+    requires seconds { AreEligible d.now.lits seconds.now }
+    ensures { OnOk result (Adds sig.now (scope_of_both c.now d.now)
+        (ResolvesAmong c.now d.now firsts.now seconds.now) made.old made.new) }
+{
+    for at in 0..firsts.len() {
+        add_resolved_with(alloc, sig, c, firsts[at], d, seconds, made)?;
     }
     Ok(())
 }
 
-// Adds those with literal i of the first clause, if it is eligible.
-fn add_with(
+// The same of literal i and one of these.
+fn add_resolved_with(
     alloc: Global,
     sig: &Signature,
     c: &Clause,
-    d: &Clause,
     i: usize,
+    d: &Clause,
+    seconds: &[usize],
     made: &mut List<Made>,
 ) -> Result<(), Memory>
     requires c { IsClause sig.now c.now }
     requires d { IsClause sig.now d.now }
-    requires i { i < length c.now.lits }
-    ensures { OnOk result (Adds sig.now (scope_of_both c.now d.now) (WithSome c.now d.now i) made.old made.new) }
-{
-    let at = number(i)?;
-    if !eligible(c, at) {
-        return Ok(());
-    }
-    for j in 0..d.lits.len() {
-        add_lits(alloc, sig, c, d, i, j, made)?;
-    }
-    Ok(())
-}
-
-// Adds those with literal j of the second clause too, if it is eligible.
-fn add_lits(
-    alloc: Global,
-    sig: &Signature,
-    c: &Clause,
-    d: &Clause,
-    i: usize,
-    j: usize,
-    made: &mut List<Made>,
-) -> Result<(), Memory>
-    requires c { IsClause sig.now c.now }
-    requires d { IsClause sig.now d.now }
-    requires i { i < length c.now.lits }
-    requires j { j < length d.now.lits }
     requires first { IsEligible c.now.lits i }
-    ensures { OnOk result (Adds sig.now (scope_of_both c.now d.now) (FromLits c.now d.now i j) made.old made.new) }
-{
-    let at = number(j)?;
-    if !eligible(d, at) {
-        return Ok(());
-    }
-    let found = resolve_at(alloc, sig, c, d, i, j)?;
-    keep(made, found)?;
-    add_side(alloc, sig, c, d, i, false, j, made)?;
-    add_side(alloc, sig, c, d, i, true, j, made)
-}
-
-// Adds what superposition makes from this side, if it may be used.
-fn add_side(
-    alloc: Global,
-    sig: &Signature,
-    c: &Clause,
-    d: &Clause,
-    i: usize,
-    flipped: bool,
-    j: usize,
-    made: &mut List<Made>,
-) -> Result<(), Memory>
-    requires c { IsClause sig.now c.now }
-    requires d { IsClause sig.now d.now }
     requires i { i < length c.now.lits }
-    requires j { j < length d.now.lits }
-    requires first { IsEligible c.now.lits i }
-    requires second { IsEligible d.now.lits j }
-    ensures { OnOk result (Adds sig.now (scope_of_both c.now d.now) (SuperposesRead c.now d.now i flipped j)
+    requires seconds { AreEligible d.now.lits seconds.now }
+    ensures { OnOk result (Adds sig.now (scope_of_both c.now d.now) (ResolvesWith c.now d.now seconds.now i)
         made.old made.new) }
 {
-    let equation = &c.lits.as_slice()[i];
-    if !is_usable(equation, flipped) {
-        return Ok(());
+    for at in 0..seconds.len() {
+        let found = resolve_at(alloc, sig, c, d, i, seconds[at])?;
+        keep(made, found)?;
     }
-    let side = Side { lit: i, flipped };
-    let target = &d.lits.as_slice()[j];
-    let places = places_of_lit(alloc, target)?;
-    let places = places.as_slice();
-    for at in 0..places.len() {
-        let found = superpose_at(alloc, sig, c, d, side, j, places[at].as_slice())?;
+    Ok(())
+}
+
+// Adds what superposition makes from one of these sides at one of these places.
+fn add_superposed(
+    alloc: Global,
+    sig: &Signature,
+    c: &Clause,
+    sides: &[Side],
+    d: &Clause,
+    spots: &[Spot],
+    made: &mut List<Made>,
+) -> Result<(), Memory>
+    requires c { IsClause sig.now c.now }
+    requires d { IsClause sig.now d.now }
+    requires sides { AreUsedSides c.now.lits sides.now }
+    requires spots { AreUsedSpots d.now.lits spots.now }
+    ensures { OnOk result (Adds sig.now (scope_of_both c.now d.now)
+        (SuperposesAmong c.now d.now sides.now spots.now) made.old made.new) }
+{
+    for at in 0..sides.len() {
+        add_superposed_from(alloc, sig, c, sides[at], d, spots, made)?;
+    }
+    Ok(())
+}
+
+// The same from this side.
+fn add_superposed_from(
+    alloc: Global,
+    sig: &Signature,
+    c: &Clause,
+    side: Side,
+    d: &Clause,
+    spots: &[Spot],
+    made: &mut List<Made>,
+) -> Result<(), Memory>
+    requires c { IsClause sig.now c.now }
+    requires d { IsClause sig.now d.now }
+    requires side { UsesSide c.now.lits side }
+    requires spots { AreUsedSpots d.now.lits spots.now }
+    ensures { OnOk result (Adds sig.now (scope_of_both c.now d.now) (SuperposesFrom c.now d.now spots.now side)
+        made.old made.new) }
+{
+    for at in 0..spots.len() {
+        let spot = &spots[at];
+        let found = superpose_at(alloc, sig, c, d, side, spot.lit, spot.place.as_slice())?;
         keep(made, found)?;
     }
     Ok(())

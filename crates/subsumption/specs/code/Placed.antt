@@ -1,5 +1,5 @@
 -- What it says that the literals from one on have places of their own.
-use Rattle.std.specs.Prelude.{ℕ, ◌≡◌, ◌<◌, ◌≤◌, Bool, true, false, List, length, Some, slice_get}
+use Rattle.std.specs.Prelude.{ℕ, ◌≡◌, ◌<◌, ◌≤◌, Bool, true, false, List, length, Option, Some, None, slice_get}
 use Rattle.fof_terms.specs.declared.term.Term.{Term}
 use Rattle.clause_form.specs.declared.clause.Lit.{Lit}
 use Rattle.clause_form.specs.Covers.{lit_image, scope_of, AreSorted}
@@ -38,6 +38,12 @@ IsPlaced task old new taken left from P false = HasNone task old new taken left 
 -- any places
 abbrev pub Anywhere : (ℕ → Term) → (ℕ → ℕ) → Type 0
 Anywhere s at = Unit {0}
+
+-- what came of a try: whether there are places, or none with this property
+abbrev pub IsTrial : Task → Bindings → Bindings → List Bool → List Bool → ℕ → ((ℕ → Term) → (ℕ → ℕ) → Type 0) → Option Bool
+    → Type 0
+IsTrial task old new taken left from P (Some answer) = IsPlaced task old new taken left from Anywhere answer
+IsTrial task old new taken left from P None = HasNone task old new taken left from P
 
 -- the first literal stands at this place
 abbrev pub IsThere : ℕ → ℕ → (ℕ → Term) → (ℕ → ℕ) → Type 0

@@ -10,8 +10,8 @@ use Rattle.unify_terms.specs.Substitution.{image_at}
 use Rattle.superpose.specs.declared.made.Made.{Made}
 use Rattle.superpose.specs.Drafts.{SortsExist}
 
--- The clause has the instances of what is left, with other names for the variables. Another substitution takes it back to
--- the instances.
+-- The clause has the instances of what is left, with other names for the variables. Another substitution takes it back
+-- to the instances.
 pub record IsConclusion (scope : List ℕ) (images : List Term) (left : List Lit) (m : Made) : Type 0 where
   pub names : ℕ → Term
   pub back : ℕ → Term

@@ -34,7 +34,9 @@ abbrev pub InstancesStay : List Term → List Term → (ℕ → Term) → Type 0
 InstancesStay images ts s = AllStayWith (map (image (image_at images)) ts) s
 
 abbrev pub AtomInstanceStays : List Term → AtomOf → (ℕ → Term) → Type 0
-AtomInstanceStays images a s = at_terms (image s) (at_terms (image (image_at images)) a) ≡ at_terms (image (image_at images)) a
+AtomInstanceStays images a s = at_terms (image s) (at_terms (image (image_at images)) a)
+    ≡ at_terms (image (image_at images)) a
 
 abbrev pub LitInstancesStay : List Term → List Lit → (ℕ → Term) → Type 0
-LitInstancesStay images lits s = map (lit_image s) (map (lit_image (image_at images)) lits) ≡ map (lit_image (image_at images)) lits
+LitInstancesStay images lits s = map (lit_image s) (map (lit_image (image_at images)) lits)
+    ≡ map (lit_image (image_at images)) lits

@@ -16,7 +16,8 @@ use Rattle.substitution_search.specs.Ways.{zip_pairs}
 pub record IsPairing (a b : AtomOf) (pairs : List Pair) : Type 0 where
   pub pairs_are : pairs ≡ zip_pairs (args_of_atom a) (args_of_atom b)
   pub size : length (args_of_atom a) ≡ length (args_of_atom b)
-  pub enough : (s : ℕ → Term) → map (image s) (args_of_atom a) ≡ map (image s) (args_of_atom b) → at_terms (image s) a ≡ at_terms (image s) b
+  pub enough : (s : ℕ → Term) → map (image s) (args_of_atom a) ≡ map (image s) (args_of_atom b) → at_terms (image s) a
+      ≡ at_terms (image s) b
 
 -- what makes the atoms equal, or nothing does
 abbrev pub ArePairsOf : AtomOf → AtomOf → Option (List Pair) → Type 0

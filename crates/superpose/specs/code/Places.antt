@@ -1,12 +1,12 @@
 -- The drafts at some of the places, as the code goes through them.
-use Rattle.std.specs.Prelude.{ℕ, Bool, ◌≡◌, ◌<◌, ◌⊎◌, List, length}
+use Rattle.std.specs.Prelude.{ℕ, Bool, ◌≡◌, ◌<◌, ◌⊎◌, length}
 use Rattle.fof_terms.specs.declared.term.Term.{Term}
 use Rattle.clause_form.specs.declared.clause.Lit.{Lit}
 use Rattle.clause_form.specs.declared.clause.Clause.{Clause}
 use Rattle.clause_rules.specs.Steps.{equation}
 use Rattle.clause_order.specs.Eligible.{IsNotLess}
 use Rattle.superpose.specs.Drafts.{Draft}
-use Rattle.superpose.specs.Inferences.{ResolvesAt, SuperposesAt, FactorsAt, ResolvesEquationAt, FactorsEquationsAt}
+use Rattle.superpose.specs.Inferences.{FactorsAt, ResolvesEquationAt, FactorsEquationsAt}
 
 -- equality factoring of two literals, the first read so
 abbrev pub FactorsRead : Clause → ℕ → Bool → ℕ → Draft → Type 0
@@ -26,20 +26,6 @@ FactorsWithSome c i f = FactorsBelow c i (length c.lits) f
 -- the inferences from one clause at an eligible literal
 abbrev pub FromLit : Clause → ℕ → Draft → Type 0
 FromLit c i f = ResolvesEquationAt c i f ⊎ FactorsWithSome c i f
-
--- superposition from a side of literal i at some place of literal j
-abbrev pub SuperposesRead : Clause → Clause → ℕ → Bool → ℕ → Draft → Type 0
-SuperposesRead c d i flipped j f = (place : List ℕ) × SuperposesAt c d i flipped j place f
-
--- the inferences from two clauses at two eligible literals
-abbrev pub FromLits : Clause → Clause → ℕ → ℕ → Draft → Type 0
-FromLits c d i j f = ResolvesAt c d i j f ⊎ ((flipped : Bool) × SuperposesRead c d i flipped j f)
-
-abbrev pub WithBelow : Clause → Clause → ℕ → ℕ → Draft → Type 0
-WithBelow c d i n f = (j : ℕ) × (j < n) × FromLits c d i j f
-
-abbrev pub WithSome : Clause → Clause → ℕ → Draft → Type 0
-WithSome c d i f = WithBelow c d i (length d.lits) f
 
 -- no side of the literal, read so, may be used
 abbrev pub NeverUsed : Lit → Bool → Type 0

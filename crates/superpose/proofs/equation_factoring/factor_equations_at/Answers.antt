@@ -4,7 +4,7 @@ use Rattle.clause_form.specs.declared.clause.Lit.{Lit}
 use Rattle.clause_rules.specs.Steps.{unequal}
 use Rattle.unify_terms.specs.Unifiers.{Unified}
 use Rattle.superpose.specs.code.Conclusions.{IsConclusion}
-use Rattle.superpose.specs.code.Pairs.{ArePairsOf, HasDeniedSides, HasSides}
+use Rattle.superpose.specs.code.Pairs.{HasSides}
 use Rattle.superpose.proofs.Factored.{merged_none, merged_some}
 use Rattle.superpose.proofs.Resolved.{lent_at}
 use Rattle.superpose.proofs.equation_factoring.factor_equations_at.Goals as goal

@@ -1,10 +1,9 @@
-use Rattle.std.proofs.Common.{subst, ◌∙◌, ap, refl, ◌++◌, ◌∷◌, [], List}
+use Rattle.std.proofs.Common.{subst, ◌∙◌, ap, refl, List}
 use Rattle.std.specs.List.{remove}
 use Rattle.clause_form.specs.declared.clause.Lit.{Lit}
-use Rattle.clause_rules.specs.Steps.{unequal}
 use Rattle.unify_terms.specs.Unifiers.{Unified}
 use Rattle.superpose.specs.code.Conclusions.{IsConclusion}
-use Rattle.superpose.specs.code.Pairs.{ArePairsOf, HasDeniedSides, HasSides}
+use Rattle.superpose.specs.code.Pairs.{HasDeniedSides}
 use Rattle.superpose.proofs.Factored.{never_denied, equation_none, equation_some}
 use Rattle.superpose.proofs.Resolved.{lent_at}
 use Rattle.superpose.proofs.equation_resolution.resolve_equation_at.Goals as goal

@@ -1,11 +1,10 @@
-use Rattle.std.proofs.Common.{subst, ◌∙◌, ap, refl, ◌++◌, ◌∷◌, [], List}
+use Rattle.std.proofs.Common.{subst, ◌∙◌, ap, refl, List}
 use Rattle.std.specs.List.{remove}
 use Rattle.clause_form.specs.declared.clause.Lit.{Lit}
-use Rattle.clause_rules.specs.Steps.{unequal}
 use Rattle.unify_terms.specs.Unifiers.{Unified}
 use Rattle.superpose.specs.code.Conclusions.{IsConclusion}
-use Rattle.superpose.specs.code.Pairs.{ArePairsOf, HasDeniedSides, HasSides}
-use Rattle.superpose.proofs.Factored.{never_apart, never_positive, never_same, factor_sorted, factor_none, factor_some}
+use Rattle.superpose.specs.code.Pairs.{ArePairsOf}
+use Rattle.superpose.proofs.Factored.{never_positive, never_same, factor_sorted, factor_none, factor_some}
 use Rattle.superpose.proofs.Resolved.{lent_at}
 use Rattle.superpose.proofs.factoring.factor_at.Goals as goal
 

@@ -2,7 +2,7 @@ use Rattle.std.proofs.Common.{List, ℕ, get_or, subst}
 use Rattle.std.proofs.lemmas.Option.{slice_get-get_or}
 use Rattle.clause_rules.proofs.Firsts.{ok_map}
 use Rattle.superpose.specs.code.Named.{HasSortAt, IsMissing}
-use Rattle.superpose.proofs.NamedFacts.{named_here, named_like, named_new}
+use Rattle.superpose.proofs.NamedFacts.{named_like, named_new}
 use Rattle.superpose.proofs.naming.name_of.Goals as goal
 
 pub returns : goal.returns

@@ -1,4 +1,3 @@
-use Rattle.std.proofs.Common.{refl}
 use Rattle.superpose.proofs.NamedFacts.{named_more}
 use Rattle.superpose.proofs.naming.names_of.Goals as goal
 

@@ -1,4 +1,4 @@
-use Rattle.superpose.proofs.NotedFacts.{noted_past, noted_there, noted_one, found_place}
+use Rattle.superpose.proofs.NotedFacts.{noted_one}
 use Rattle.superpose.proofs.noting.note.Goals as goal
 
 pub returns : goal.returns

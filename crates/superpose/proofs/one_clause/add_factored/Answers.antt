@@ -1,4 +1,3 @@
-use Rattle.std.proofs.lemmas.Result.{on_ok_weaker}
 use Rattle.std.proofs.Common.{arith}
 use Rattle.clause_form.specs.Covers.{scope_of}
 use Rattle.superpose.specs.code.Places.{FactorsPair}
