@@ -26,7 +26,7 @@ use Rattle.kernel.specs.declared.proof.Proof.{Proof}
 use Rattle.rule_proofs.proofs.Joints.{parent_clause}
 use Rattle.superpose.specs.Drafts.{Draft, IsMadeBy}
 use Rattle.superpose.specs.Inferences.{IsDraftOfOne, IsDraftOfTwo}
-use Rattle.inference_proofs.specs.code.Covering.{CoversAt, IsByParent}
+use Rattle.inference_proofs.specs.code.Covering.{IsByParent}
 use Rattle.inference_proofs.specs.Inferred.{IsInferred, IsInferredFromOne, IsInferredFromTwo, CoversParent}
 use Rattle.inference_proofs.proofs.AsSteps.{resolution_is_step, superposition_is_step, other_way, factoring_covers, equation_covers, equations_factor}
 
@@ -113,6 +113,10 @@ module _ (v : Vocabulary) (parents : List Parent) (line : Form) where
   pub line_is_clause : IsInferred v parents line → (e : Clause) × (clause_of line ≡ Some e)
   line_is_clause (inl i) = (i.conclusion, i.line_clause)
   line_is_clause (inr i) = (i.conclusion, i.line_clause)
+
+-- the clause of the parent at this place is covered
+abbrev pub CoversAt : Vocabulary → List Parent → Clause → ℕ → Type 0
+CoversAt w parents e a = (c : Clause) × IsClauseAt parents a c × Covers w c e
 
 -- parents as code looks through them
 module _ (w : Vocabulary) (parents : List Parent) (line : Form) (e : Clause) where

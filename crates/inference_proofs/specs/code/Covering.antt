@@ -1,12 +1,11 @@
 -- What a search for a parent whose clause the line covers ends with.
-use Rattle.std.specs.Prelude.{ℕ, ◌≡◌, List, [], Option, Some, None, slice_get}
+use Rattle.std.specs.Prelude.{◌≡◌, List, [], Option, Some, None, slice_get}
 use Rattle.fof_terms.specs.declared.form.Form.{Form}
 use Rattle.fof_terms.specs.Vocabulary.{Vocabulary}
 use Rattle.clause_form.specs.declared.path.Parent.{Parent}
 use Rattle.clause_form.specs.declared.clause.Clause.{Clause}
 use Rattle.clause_form.specs.ClauseView.{clause_of}
 use Rattle.clause_form.specs.Covers.{Covers}
-use Rattle.clause_rules.specs.Steps.{IsClauseAt}
 use Rattle.kernel.specs.Proves.{Proves}
 use Rattle.kernel.specs.declared.proof.Proof.{Proof}
 use Rattle.clause_proofs.specs.Refuting.{theory_of}
@@ -21,10 +20,6 @@ ShowsFrom w parent line p = (formulas : List Form) → slice_get formulas parent
 abbrev pub IsByParent : Vocabulary → Parent → Form → Clause → Option Proof → Type 0
 IsByParent w parent line e None = (c : Clause) → clause_of parent.form ≡ Some c → Covers w c e → ⊥
 IsByParent w parent line e (Some p) = ShowsFrom w parent line p
-
--- the clause of the parent at this place is covered
-abbrev pub CoversAt : Vocabulary → List Parent → Clause → ℕ → Type 0
-CoversAt w parents e a = (c : Clause) × IsClauseAt parents a c × Covers w c e
 
 -- the proof shows the line, or the line covers the clause of no parent
 abbrev pub IsByCovering : Vocabulary → List Parent → Form → Option Proof → Type 0

@@ -1,5 +1,5 @@
 use Rattle.std.proofs.Common.{ℕ, ◌<◌}
-use Rattle.inference_proofs.specs.code.Covering.{CoversAt}
+use Rattle.inference_proofs.proofs.Covered.{CoversAt}
 use Rattle.inference_proofs.proofs.covering.by_covering.Given as goal
 
 abbrev pub invariant-loop-at : goal.invariant-loop-at
