@@ -16,5 +16,6 @@ pub fn are_searchable(signature: &Signature, clauses: &[Clause]) -> bool
     ensures whole { Each (IsClause signature.now) clauses.now → Each (λ c. clause_weight c ≤ 100000000) clauses.now
         → IsTrue result }
 {
-    clauses.iter().all(|clause| is_clause(signature, clause) && clause_weight_of(clause) <= 100_000_000)
+    clauses.iter().all(|clause| is_clause(signature, clause)
+        && clause_weight_of(clause) <= 100_000_000)
 }
