@@ -1,7 +1,7 @@
 // The calls of tables.
 use crate::line::Line;
 use crate::reading::signature_of;
-use crate::{forms, graphs, kits, saturating, searches, steps, texts, unifiers};
+use crate::{clauses, forms, graphs, kits, saturating, searches, steps, texts, unifiers};
 use anyhow::{Result, bail};
 use fof_terms::Signature;
 use std::alloc::Global;
@@ -27,6 +27,9 @@ fn answer_over(alloc: Global, signature: &mut Signature, line: &Line<'_>) -> Res
     match line.call {
         "norm" | "strip" | "clause" | "copy" => forms::changed(alloc, signature, line),
         "forth" | "back" | "path" => kits::proved(alloc, signature, line),
+        "input" | "functions" | "room" | "atoms" | "choices" => {
+            clauses::found(alloc, signature, line)
+        }
         _ => Ok(Answer {
             found: found(alloc, signature, line)?,
             wanted: line.wanted.clone()?,

@@ -5,6 +5,7 @@
 #![tactic(auto)]
 
 mod calls;
+mod clauses;
 mod forms;
 mod graphs;
 mod kits;
