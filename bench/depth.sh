@@ -63,6 +63,8 @@ lemma "over variables" 3999 "inhabit 0 a 0 0 " "line 0"
 lemma "a formula of negations" 3996 "impi ~ " "a 0 0 hyp 0"
 for word in '~' '& 1' '| 1' '! 0' '? 0'; do
     lemma "a formula of $word" 1 "impi $(nested 3997 "$word " "a 0 0") " "hyp 0"
+    lemma "a formula of $word, under a variable" 1 "impi $(nested 3997 "$word " "a 0 0") alli 0 " "hyp 0"
+    lemma "an instance of $word" 1 "alli 0 alle v 0 alli 0 impi $(nested 3994 "$word " "a 0 0") " "hyp 0"
 done
 lemma "a formula of implications" 1 "impi $(nested 3997 "> a 0 0 " "a 0 0") " "hyp 0"
 formula "implications to the right" 249 "p => ( " "p => q" " )"

@@ -7,6 +7,7 @@ mod form;
 mod instances;
 mod laws;
 mod lifting;
+mod making;
 mod occurrence;
 mod signature;
 mod sorting;

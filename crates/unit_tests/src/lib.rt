@@ -1,13 +1,10 @@
 //! Tests of what neither a run of the program nor a table shows: the real store and sink, prefixes, what stands behind
-//! a fault, the proofs that are built of parts, and runs that nest so deep that the kit's own compiler, which builds
-//! the programs of rows and tables too, gives each level more stack than there is. They stand here, and not in the
-//! crates that they test, so that none of those is proved once more for its tests.
+//! a fault, and the proofs that are built of parts. They stand here, and not in the crates that they test, so that none
+//! of those is proved once more for its tests.
 #![tactic(auto)]
 
 #[cfg(test)]
 mod builders;
-#[cfg(test)]
-mod depth;
 #[cfg(test)]
 mod files;
 #[cfg(test)]
