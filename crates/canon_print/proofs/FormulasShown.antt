@@ -103,10 +103,10 @@ variable_shown limit typed x ts rest (g.typed_variable {d = d} {x = name} {s = s
           };
     }
 
-variables_shown : (limit : ℕ) (typed : Bool) {d : ℕ} {xs : List BoundVar} {ts rest : Tokens} → AreBoundVariables typed d xs ts rest → Given limit ts → Shows limit (λ e. AreBoundVariables typed e xs) d (separated (codes ",") (map variable_text xs)) rest
+pub variables_shown : (limit : ℕ) (typed : Bool) {d : ℕ} {xs : List BoundVar} {ts rest : Tokens} → AreBoundVariables typed d xs ts rest → Given limit ts → Shows limit (λ e. AreBoundVariables typed e xs) d (separated (codes ",") (map variable_text xs)) rest
 variables_shown limit typed h given = shows_listed (IsBoundVariable typed) variable_text comma (λ x ts rest k also. variable_shown limit typed x ts rest k also) h given
 
-under_less : (d e : ℕ) (xs : List BoundVar) → e ≤ d → under e xs ≤ under d xs
+pub under_less : (d e : ℕ) (xs : List BoundVar) → e ≤ d → under e xs ≤ under d xs
 under_less d e [] le = le
 under_less d e (x ∷ xs) le = (let h : under e xs ≤ under d xs = under_less d e xs le in omega arith)
 

@@ -20,15 +20,17 @@ use Rattle.canon_print.proofs.TermsShown.{term_shown}
 use Rattle.canon_print.proofs.FormulasShown.{formula_shown}
 use Rattle.canon_print.proofs.ClausesShown.{clause_shown}
 
-formula_of_shown : (limit : ℕ) (l : Lang) {d : ℕ} (f : Surface) (ts rest : Tokens) → IsFormulaOf l d f ts rest → Given limit ts → Shows limit (λ e. IsFormulaOf l e f) d (formula_text f) rest
-formula_of_shown limit lang.Cnf f ts rest h given = clause_shown limit h given
-formula_of_shown limit lang.Fof f ts rest h given = (let shown = formula_shown limit h given in record { left = shown.left; prints = shown.formula })
-formula_of_shown limit lang.Tff f ts rest h given = (let shown = formula_shown limit h given in record { left = shown.left; prints = shown.formula })
+formula_of_shown : (limit : ℕ) (l : Lang) {d : ℕ} (f : Surface) (ts rest : Tokens) → (l ≡ lang.Tcf → ⊥) → IsFormulaOf l d f ts rest → Given limit ts → Shows limit (λ e. IsFormulaOf l e f) d (formula_text f) rest
+formula_of_shown limit lang.Cnf f ts rest other h given = clause_shown limit h given
+formula_of_shown limit lang.Fof f ts rest other h given = (let shown = formula_shown limit h given in record { left = shown.left; prints = shown.formula })
+formula_of_shown limit lang.Tff f ts rest other h given = (let shown = formula_shown limit h given in record { left = shown.left; prints = shown.formula })
+formula_of_shown limit lang.Tcf f ts rest other h given = absurd (other refl)
 
 embedding_lexed : (limit e : ℕ) (l : Lang) (after : Text) (us : Tokens) → Ends after → e ≤ limit → LexedTo limit after us (embedded_text l ++ after) ((Dollar (embedded_text l), e) ∷ us)
 embedding_lexed limit e lang.Cnf after us ends fits = print_dollar limit e 99 (codes "nf") after us refl refl ends fits
 embedding_lexed limit e lang.Fof after us ends fits = print_dollar limit e 102 (codes "of") after us refl refl ends fits
 embedding_lexed limit e lang.Tff after us ends fits = print_dollar limit e 116 (codes "ff") after us refl refl ends fits
+embedding_lexed limit e lang.Tcf after us ends fits = print_dollar limit e 116 (codes "cf") after us refl refl ends fits
 
 -- a text in parentheses
 closed_lexed : {limit e : ℕ} {after : Text} {more us : Tokens} (inner : Text) → suc e ≤ limit → LexedTo limit (41 ∷ after) ((Sign m.Close, suc e) ∷ more) (inner ++ 41 ∷ after) us
@@ -72,8 +74,8 @@ mutual
     left = given.2;
     prints = λ e le after ends more. record { us = (Distinct x, e) ∷ more; rule = g.distinct_object; lexed = print_distinct limit e x after more given.0 (let fits : d ≤ limit = given.1 in omega arith) };
   })
-  data_shown limit (g.formula_data {d = d} {l = l} {f = f} {ts = ts} {rest = rest} is h) given =
-      let inner = formula_of_shown limit l f ts ((Sign m.Close, suc d) ∷ rest) h given.2.2 in
+  data_shown limit (g.formula_data {d = d} {l = l} {f = f} {ts = ts} {rest = rest} is other h) given =
+      let inner = formula_of_shown limit l f ts ((Sign m.Close, suc d) ∷ rest) other h given.2.2 in
       let most : suc d ≤ limit = given.2.1 in
       let tail = codes "(" ++ (formula_text f ++ codes ")") in
       by_text (sym (general_text-Formula l f)) (record {
@@ -83,7 +85,7 @@ mutual
             let q = inner.prints (suc e) (omega arith) (41 ∷ after) refl ((Sign m.Close, suc e) ∷ more) in
             record {
               us = (Dollar (embedded_text l), e) ∷ (Sign m.Open, suc e) ∷ q.us;
-              rule = g.formula_data refl q.rule;
+              rule = g.formula_data refl other q.rule;
               lexed = join (embedded_text l) tail (embedding_lexed limit e l (tail ++ after) ((Sign m.Open, suc e) ∷ q.us) refl (omega arith)) (closed_lexed (formula_text f) fits q.lexed);
             };
       })

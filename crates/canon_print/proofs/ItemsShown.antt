@@ -1,6 +1,7 @@
 -- The canonical text of annotated formulas and includes is cut into tokens that spell them.
 use Rattle.std.proofs.Common.{◌≡◌, ℕ, true, false, List, ◌∷◌, ◌++◌, map, codes, Option, None, Some, refl, sym, subst, ◌∙◌, arith, append_assoc}
 use Rattle.std.proofs.lemmas.List.{append-nil}
+use Rattle.tptp_lexer.specs.declared.style.Style.{Style}
 use Rattle.tptp_lexer.specs.declared.token.Token.TheVariants.{Lower, Quoted, Number, Mark as Sign}
 use Rattle.tptp_lexer.specs.declared.token.Mark.TheVariants as m
 use Rattle.tptp_base.specs.declared.place.Place.{Place}
@@ -28,6 +29,7 @@ use Rattle.canon_print.proofs.Shows.{Printed, Shows, by_text, two, comma, shows_
 use Rattle.canon_print.proofs.TypesShown.{typing_shown}
 use Rattle.canon_print.proofs.FormulasShown.{formula_shown}
 use Rattle.canon_print.proofs.ClausesShown.{clause_shown}
+use Rattle.canon_print.proofs.TypedClausesShown.{typed_clause_shown}
 use Rattle.canon_print.proofs.GeneralShown.{general_shown, list_shown}
 
 -- ---- names
@@ -50,10 +52,11 @@ at_zero shows f = record {
   prints = λ e le after ends more. let p = shows.prints 0 (omega arith) after ends more in record { us = p.us; rule = f p.us more p.rule; lexed = p.lexed };
 }
 
-body_shown : (limit : ℕ) {l : Lang} {r : Role} {b : Body} {ts rest : Tokens} → IsBody l r b ts rest → Given limit ts → Shows limit (λ e. IsBody l r b) 0 (body_text b) rest
+body_shown : (limit : ℕ) {l : Lang} {r : Role} {b : Body} {ts rest : Tokens} → IsBody l r b ts rest → Given limit ts → Shows limit (λ e. IsBody l r b) 0 (body_text l b) rest
 body_shown limit (g.cnf_body h) given = at_zero (clause_shown limit h given) (λ us more rule. g.cnf_body rule)
 body_shown limit (g.fof_body {f = f} h) given = (let shown = formula_shown limit h given in at_zero {R = λ e us more. IsFormula false e f us more} (record { left = shown.left; prints = shown.formula }) (λ us more rule. g.fof_body rule))
 body_shown limit (g.tff_body {f = f} not_type h) given = (let shown = formula_shown limit h given in at_zero {R = λ e us more. IsFormula true e f us more} (record { left = shown.left; prints = shown.formula }) (λ us more rule. g.tff_body not_type rule))
+body_shown limit (g.tcf_body h) given = at_zero (typed_clause_shown limit h given) (λ us more rule. g.tcf_body rule)
 body_shown limit (g.type_body h) given = at_zero (typing_shown limit h given) (λ us more rule. g.type_body rule)
 
 -- ---- ends of items: what follows them is free
@@ -124,21 +127,21 @@ selection_shown limit (g.selected {ns = ns} h) given =
 -- ---- items
 
 -- an item's text: a word, a parenthesis and the rest
-pub record ItemPrinted (limit : ℕ) (i : Item) (after : Text) (rest : Tokens) : Type 0 where
+pub record ItemPrinted (style : Style) (limit : ℕ) (i : Item) (after : Text) (rest : Tokens) : Type 0 where
   pub name : Text
   pub is_lower : is_lower_word name ≡ true
   pub inner : Text
   pub us : Tokens
   pub is_text : item_text i ++ after ≡ name ++ 40 ∷ inner
   pub lexed : LexedTo limit after rest inner us
-  pub rule : (place : Place) → IsItem place (at_place place i) ((Lower name, 0) ∷ (Sign m.Open, 0) ∷ us) rest
+  pub rule : (place : Place) → IsItem style place (at_place place i) ((Lower name, 0) ∷ (Sign m.Open, 0) ∷ us) rest
 
-pub record ItemShown (limit : ℕ) (i : Item) (rest : Tokens) : Type 0 where
+pub record ItemShown (style : Style) (limit : ℕ) (i : Item) (rest : Tokens) : Type 0 where
   pub left : Given limit rest
-  pub prints : (after : Text) (more : Tokens) → ItemPrinted limit i after more
+  pub prints : (after : Text) (more : Tokens) → ItemPrinted style limit i after more
 
 lang_lower : (l : Lang) → is_lower_word (lang_text l) ≡ true
-lang_lower = elim [ lang.Cnf ↦ refl | lang.Fof ↦ refl | lang.Tff ↦ refl ]
+lang_lower = elim [ lang.Cnf ↦ refl | lang.Fof ↦ refl | lang.Tff ↦ refl | lang.Tcf ↦ refl ]
 
 role_lower : (r : Role) → is_lower_word (role_text r) ≡ true
 role_lower = elim [
@@ -163,8 +166,8 @@ role_lower = elim [
 annotated_flat : (l n r b e after : Text) → ((l ++ (codes "(" ++ (n ++ (codes "," ++ (r ++ next_line))))) ++ (b ++ e)) ++ after ≡ l ++ 40 ∷ (n ++ 44 ∷ (r ++ (next_line ++ (b ++ (e ++ after)))))
 annotated_flat l n r b e after = simp append_assoc
 
-pub item_shown : (limit : ℕ) {place : Place} {i : Item} {ts rest : Tokens} → IsItem place i ts rest → Given limit ts → ItemShown limit i rest
-item_shown limit (g.annotated {l = l} {r = r} {n = n} {b = b} {s = s} {i = i} is h also k end_rule) given =
+pub item_shown : (style : Style) (limit : ℕ) {place : Place} {i : Item} {ts rest : Tokens} → IsItem style place i ts rest → Given limit ts → ItemShown style limit i rest
+item_shown style limit (g.annotated {l = l} {r = r} {n = n} {b = b} {s = s} {i = i} is has h also k end_rule) given =
     let name = name_shown limit n _ _ h given.2.2 in
     let formula = body_shown limit k name.left.2.2.2 in
     let last = end_shown limit end_rule formula.left in
@@ -174,7 +177,7 @@ item_shown limit (g.annotated {l = l} {r = r} {n = n} {b = b} {s = s} {i = i} is
           let tail = annotations_text s i ++ item_end in
           let e = last.prints after more in
           let f = formula.prints 0 (omega arith) (tail ++ after) (last.ends after) e.us in
-          let body_end = next_line ++ (body_text b ++ (tail ++ after)) in
+          let body_end = next_line ++ (body_text l b ++ (tail ++ after)) in
           let c : LexedTo limit after more body_end ((Sign m.Comma, 0) ∷ f.us) = sign m.Comma refl (omega arith) (blank refl (blank refl (blank refl (blank refl (blank refl (chain f.lexed e.lexed)))))) in
           let v = print_lower limit 0 (role_text r) body_end ((Sign m.Comma, 0) ∷ f.us) (role_lower r) refl (omega arith) in
           let q = name.prints 0 (omega arith) (44 ∷ (role_text r ++ body_end)) refl ((Sign m.Comma, 0) ∷ (Lower (role_text r), 0) ∷ (Sign m.Comma, 0) ∷ f.us) in
@@ -183,12 +186,12 @@ item_shown limit (g.annotated {l = l} {r = r} {n = n} {b = b} {s = s} {i = i} is
             is_lower = lang_lower l;
             inner = name_text n ++ 44 ∷ (role_text r ++ body_end);
             us = q.us;
-            is_text = annotated_flat (lang_text l) (name_text n) (role_text r) (body_text b) tail after;
+            is_text = annotated_flat (lang_text l) (name_text n) (role_text r) (body_text l b) tail after;
             lexed = chain q.lexed (sign m.Comma refl (omega arith) (chain v c));
-            rule = λ place. g.annotated refl q.rule refl f.rule e.rule;
+            rule = λ place. g.annotated refl has q.rule refl f.rule e.rule;
           };
     }
-item_shown limit (g.include {f = f} {ns = ns} is h) given =
+item_shown style limit (g.include {f = f} {ns = ns} is h) given =
     let last = selection_shown limit h given.2.2.2 in
     record {
       left = last.left;

@@ -2,7 +2,7 @@
 use Rattle.std.proofs.Common.{◌≡◌, ℕ, ◌≤◌, Bool, true, false, ◌||◌, ◌==◌, [], ◌∷◌, ◌++◌, length, Some, refl, sym, subst, ◌∙◌, arith, append_assoc}
 use Rattle.std.proofs.lemmas.Bool.{and_parts, and_from, not-true, cond-true, cond-false}
 use Rattle.std.specs.List.{list_all, flat_map}
-use Rattle.tptp_lexer.specs.declared.style.Style.TheVariants.{Problem}
+use Rattle.tptp_lexer.specs.declared.style.Style.{Style}
 use Rattle.tptp_lexer.specs.declared.token.Token.{Token}
 use Rattle.tptp_lexer.specs.declared.token.Token.TheVariants.{Lower, Quoted, Upper, Dollar, System, Number, Distinct, Comment, Mark as Sign}
 use Rattle.tptp_lexer.specs.declared.token.Mark.{Mark}
@@ -17,11 +17,11 @@ use Rattle.tptp_grammar.specs.Tokens.{Tokens, word}
 use Rattle.canon_print.specs.Words.{escaped, quoted, is_lower_word, word_text}
 use Rattle.canon_print.proofs.Longest.{Ends, longest_lower, longest_upper, longest_dollar, longest_single, longest_double, longest_mark, longest_number}
 
--- blanks and longest tokens, none of them a comment or over the limit, lead to the rest
+-- blanks and longest tokens of texts of any style, none of them a comment or over the limit, lead to the rest
 pub data LexedTo (limit : ℕ) (after : Text) (rest : Tokens) : Text → Tokens → Type 0 where
   done : LexedTo limit after rest after rest
   blank : {byte : ℕ} {text : Text} {us : Tokens} → is_blank byte ≡ true → LexedTo limit after rest text us → LexedTo limit after rest (byte ∷ text) us
-  token : (spelling : Text) {text : Text} {t : Token} {n : ℕ} {us : Tokens} → is_comment t ≡ false → Spelled Problem t spelling → IsLongest Problem (length spelling) (spelling ++ text) → n ≤ limit
+  token : (spelling : Text) {text : Text} {t : Token} {n : ℕ} {us : Tokens} → is_comment t ≡ false → ((style : Style) → Spelled style t spelling) → ((style : Style) → IsLongest style (length spelling) (spelling ++ text)) → n ≤ limit
       → LexedTo limit after rest text us → LexedTo limit after rest (spelling ++ text) ((t, n) ∷ us)
 
 pub chain : {limit : ℕ} {mid after : Text} {more rest : Tokens} {text : Text} {us : Tokens} → LexedTo limit mid more text us → LexedTo limit after rest mid more → LexedTo limit after rest text us
@@ -36,7 +36,7 @@ join {limit = limit} {after = after} {rest = rest} {us = us} a b first second = 
 -- a mark, which is found at its place
 pub sign : {limit : ℕ} {after : Text} {rest : Tokens} (s : Mark) {text : Text} {n : ℕ} {us : Tokens} → mark_of (mark_text s ++ text) ≡ Some (s, length (mark_text s)) → n ≤ limit → LexedTo limit after rest text us
     → LexedTo limit after rest (mark_text s ++ text) ((Sign s, n) ∷ us)
-sign s {text = text} is fits more = token (mark_text s) refl (mark s) (longest_mark s text is) fits more
+sign s {text = text} is fits more = token (mark_text s) refl (λ style. mark s) (λ style. longest_mark style s text is) fits more
 
 -- ---- what the spelling of a token says of its text
 
@@ -60,7 +60,7 @@ Facts (Number text) = IsNumber text
 Facts (Distinct text) = IsQuotable double_quote text
 Facts _ = Unit {0}
 
-pub facts_of : {t : Token} {spelling : Text} → Spelled Problem t spelling → Facts t
+pub facts_of : {style : Style} {t : Token} {spelling : Text} → Spelled style t spelling → Facts t
 facts_of (lower_word h all) = and_from _ _ h all
 facts_of (upper_word h all) = (h, all)
 facts_of (dollar_word all) = tt
@@ -129,13 +129,13 @@ quoted_printed limit n [] after us quotable some fits = absurd some
 quoted_printed limit n (char ∷ chars) after us quotable some fits =
     let text = char ∷ chars in
     let w = rewritten single_quote quotable.is_written in
-    token (quoted single_quote text) refl (single_quoted w) (longest_single text (flat_map (escaped single_quote) text) after w (some_written single_quote text _ tt w)) fits done
+    token (quoted single_quote text) refl (λ style. single_quoted w) (λ style. longest_single style text (flat_map (escaped single_quote) text) after w (some_written single_quote text _ tt w)) fits done
 
 lower_printed : (limit n : ℕ) (text after : Text) (us : Tokens) → is_lower_word text ≡ true → Ends after → n ≤ limit → LexedTo limit after us (text ++ after) ((Lower text, n) ∷ us)
 lower_printed limit n [] after us h ends fits = absurd (let clash : false ≡ true = h in cc)
 lower_printed limit n (first ∷ word) after us h ends fits =
     let both = and_parts _ _ h in
-    token (first ∷ word) refl (lower_word both.0 both.1) (longest_lower first word after both.0 both.1 ends) fits done
+    token (first ∷ word) refl (λ style. lower_word both.0 both.1) (λ style. longest_lower style first word after both.0 both.1 ends) fits done
 
 word_by : (limit n : ℕ) (text after : Text) (us : Tokens) → (bare : Bool) → is_lower_word text ≡ bare → IsWordText text → Ends after → n ≤ limit → WordPrinted limit n text after us
 word_by limit n text after us true is ok ends fits = record {
@@ -161,18 +161,18 @@ print_quoted limit n text after us facts fits = quoted_printed limit n text afte
 pub print_distinct : (limit n : ℕ) (text after : Text) (us : Tokens) → Facts (Distinct text) → n ≤ limit → LexedTo limit after us (quoted double_quote text ++ after) ((Distinct text, n) ∷ us)
 print_distinct limit n text after us facts fits =
     let w = rewritten double_quote facts.is_written in
-    token (quoted double_quote text) refl (distinct_object w) (longest_double text (flat_map (escaped double_quote) text) after w) fits done
+    token (quoted double_quote text) refl (λ style. distinct_object w) (λ style. longest_double style text (flat_map (escaped double_quote) text) after w) fits done
 
 pub print_number : (limit n : ℕ) (text after : Text) (us : Tokens) → IsNumber text → Ends after → n ≤ limit → LexedTo limit after us (text ++ after) ((Number text, n) ∷ us)
-print_number limit n text after us h ends fits = token text refl (number h) (longest_number text after h ends) fits done
+print_number limit n text after us h ends fits = token text refl (λ style. number h) (λ style. longest_number style text after h ends) fits done
 
 pub print_upper : (limit n : ℕ) (text after : Text) (us : Tokens) → IsUpperWord text → Ends after → n ≤ limit → LexedTo limit after us (text ++ after) ((Upper text, n) ∷ us)
 print_upper limit n [] after us h ends fits = absurd h
-print_upper limit n (first ∷ word) after us h ends fits = token (first ∷ word) refl (upper_word h.0 h.1) (longest_upper first word after h.0 h.1 ends) fits done
+print_upper limit n (first ∷ word) after us h ends fits = token (first ∷ word) refl (λ style. upper_word h.0 h.1) (λ style. longest_upper style first word after h.0 h.1 ends) fits done
 
 pub print_lower : (limit n : ℕ) (text after : Text) (us : Tokens) → is_lower_word text ≡ true → Ends after → n ≤ limit → LexedTo limit after us (text ++ after) ((Lower text, n) ∷ us)
 print_lower limit n text after us h ends fits = lower_printed limit n text after us h ends fits
 
 pub print_dollar : (limit n first : ℕ) (word after : Text) (us : Tokens) → first == 36 ≡ false → list_all is_alpha_numeric (first ∷ word) ≡ true → Ends after → n ≤ limit
     → LexedTo limit after us (36 ∷ first ∷ (word ++ after)) ((Dollar (36 ∷ first ∷ word), n) ∷ us)
-print_dollar limit n first word after us other all ends fits = token (36 ∷ first ∷ word) refl (dollar_word all) (longest_dollar first word after other all ends) fits done
+print_dollar limit n first word after us other all ends fits = token (36 ∷ first ∷ word) refl (λ style. dollar_word all) (λ style. longest_dollar style first word after other all ends) fits done

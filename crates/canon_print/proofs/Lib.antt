@@ -6,6 +6,7 @@ pub mod TermsShown
 pub mod TypesShown
 pub mod FormulasShown
 pub mod ClausesShown
+pub mod TypedClausesShown
 pub mod GeneralShown
 pub mod ItemsShown
 pub mod FilesShown

@@ -5,7 +5,7 @@ use Rattle.std.proofs.lemmas.Bool.Decides.{nat_tests}
 use Rattle.std.specs.List.{list_all, prefix_len}
 use Rattle.tptp_lexer.specs.declared.scan.Front.TheVariants.{Token as Found}
 use Rattle.tptp_lexer.specs.declared.scan.Kind.TheVariants as k
-use Rattle.tptp_lexer.specs.declared.style.Style.TheVariants.{Problem}
+use Rattle.tptp_lexer.specs.declared.style.Style.{Style}
 use Rattle.tptp_lexer.specs.declared.token.Mark.{Mark as Sign}
 use Rattle.tptp_lexer.specs.declared.token.Mark.TheVariants as m
 use Rattle.tptp_lexer.specs.Bytes.{Text, is_lower_alpha, is_upper_alpha, is_numeric, is_alpha_numeric}
@@ -44,24 +44,24 @@ stops_word (byte ∷ text) ends = not-true _ (and_parts _ _ ends).0
 
 -- ---- words
 
-pub longest_lower : (first : ℕ) (word after : Text) → is_lower_alpha first ≡ true → list_all is_alpha_numeric word ≡ true → Ends after → IsLongest Problem (length (first ∷ word)) (first ∷ (word ++ after))
-longest_lower first word after h all ends =
+pub longest_lower : (style : Style) (first : ℕ) (word after : Text) → is_lower_alpha first ≡ true → list_all is_alpha_numeric word ≡ true → Ends after → IsLongest style (length (first ∷ word)) (first ∷ (word ++ after))
+longest_lower style first word after h all ends =
     let len : prefix_len is_alpha_numeric ((first ∷ word) ++ after) ≡ length (first ∷ word) = passes_all is_alpha_numeric (first ∷ word) after (and_from _ _ (lower_first first h) all) (stops_word after ends) in
-    found_longest Problem (first ∷ (word ++ after)) k.Lower (length (first ∷ word)) (front-lower Problem first (word ++ after) h ∙ ap (Found k.Lower) len)
+    found_longest style (first ∷ (word ++ after)) k.Lower (length (first ∷ word)) (front-lower style first (word ++ after) h ∙ ap (Found k.Lower) len)
 
-pub longest_upper : (first : ℕ) (word after : Text) → is_upper_alpha first ≡ true → list_all is_alpha_numeric word ≡ true → Ends after → IsLongest Problem (length (first ∷ word)) (first ∷ (word ++ after))
-longest_upper first word after h all ends =
+pub longest_upper : (style : Style) (first : ℕ) (word after : Text) → is_upper_alpha first ≡ true → list_all is_alpha_numeric word ≡ true → Ends after → IsLongest style (length (first ∷ word)) (first ∷ (word ++ after))
+longest_upper style first word after h all ends =
     let len : prefix_len is_alpha_numeric ((first ∷ word) ++ after) ≡ length (first ∷ word) = passes_all is_alpha_numeric (first ∷ word) after (and_from _ _ (upper_first first h) all) (stops_word after ends) in
-    found_longest Problem (first ∷ (word ++ after)) k.Upper (length (first ∷ word)) (front-upper Problem first (word ++ after) h ∙ ap (Found k.Upper) len)
+    found_longest style (first ∷ (word ++ after)) k.Upper (length (first ∷ word)) (front-upper style first (word ++ after) h ∙ ap (Found k.Upper) len)
 
 -- a word behind `$` that does not begin with `$`
-pub longest_dollar : (first : ℕ) (word after : Text) → first == 36 ≡ false → list_all is_alpha_numeric (first ∷ word) ≡ true → Ends after → IsLongest Problem (suc (length (first ∷ word))) (36 ∷ first ∷ (word ++ after))
-longest_dollar first word after other all ends =
+pub longest_dollar : (style : Style) (first : ℕ) (word after : Text) → first == 36 ≡ false → list_all is_alpha_numeric (first ∷ word) ≡ true → Ends after → IsLongest style (suc (length (first ∷ word))) (36 ∷ first ∷ (word ++ after))
+longest_dollar style first word after other all ends =
     let len : prefix_len is_alpha_numeric ((first ∷ word) ++ after) ≡ length (first ∷ word) = passes_all is_alpha_numeric (first ∷ word) after all (stops_word after ends) in
     let found : dollar (first ∷ (word ++ after)) ≡ Found k.Dollar (1 + prefix_len is_alpha_numeric (first ∷ (word ++ after))) =
     (cond-false (first == 36) _ _ other ∙ counted_is k.Dollar 1 (prefix_len is_alpha_numeric (first ∷ (word ++ after))) (omega arith)) in
     let sum : 1 + prefix_len is_alpha_numeric (first ∷ (word ++ after)) ≡ suc (length (first ∷ word)) = omega arith in
-    found_longest Problem (36 ∷ first ∷ (word ++ after)) k.Dollar (suc (length (first ∷ word))) (front-dollar Problem (first ∷ (word ++ after)) ∙ found ∙ ap (Found k.Dollar) sum)
+    found_longest style (36 ∷ first ∷ (word ++ after)) k.Dollar (suc (length (first ∷ word))) (front-dollar style (first ∷ (word ++ after)) ∙ found ∙ ap (Found k.Dollar) sum)
 
 -- ---- quotes
 
@@ -71,46 +71,46 @@ closed_flat quote written rest = ap (λ z. quote ∷ z) (append_assoc written (q
 quote_length : (quote : ℕ) (written : Text) → length written + 2 ≡ length (quote ∷ (written ++ quote ∷ []))
 quote_length quote written = omega (arith, length-append written (quote ∷ []))
 
-pub longest_single : (chars written after : Text) → IsWritten single_quote chars written → 1 ≤ length written → IsLongest Problem (length (single_quote ∷ (written ++ single_quote ∷ []))) ((single_quote ∷ (written ++ single_quote ∷ [])) ++ after)
-longest_single chars written after w some =
-    let found : front_of Problem ((39 ∷ (written ++ 39 ∷ [])) ++ after) ≡ Found k.Quoted (length written + 2) =
-    (ap (front_of Problem) (closed_flat 39 written after) ∙ front-single Problem (written ++ 39 ∷ after) ∙ ap (quoted k.Quoted 1) (written_closes 39 refl w after) ∙ grind (arith, nat_tests)) in
-    found_longest Problem ((39 ∷ (written ++ 39 ∷ [])) ++ after) k.Quoted (length (39 ∷ (written ++ 39 ∷ []))) (found ∙ ap (Found k.Quoted) (quote_length 39 written))
+pub longest_single : (style : Style) (chars written after : Text) → IsWritten single_quote chars written → 1 ≤ length written → IsLongest style (length (single_quote ∷ (written ++ single_quote ∷ []))) ((single_quote ∷ (written ++ single_quote ∷ [])) ++ after)
+longest_single style chars written after w some =
+    let found : front_of style ((39 ∷ (written ++ 39 ∷ [])) ++ after) ≡ Found k.Quoted (length written + 2) =
+    (ap (front_of style) (closed_flat 39 written after) ∙ front-single style (written ++ 39 ∷ after) ∙ ap (quoted k.Quoted 1) (written_closes 39 refl w after) ∙ grind (arith, nat_tests)) in
+    found_longest style ((39 ∷ (written ++ 39 ∷ [])) ++ after) k.Quoted (length (39 ∷ (written ++ 39 ∷ []))) (found ∙ ap (Found k.Quoted) (quote_length 39 written))
 
-pub longest_double : (chars written after : Text) → IsWritten double_quote chars written → IsLongest Problem (length (double_quote ∷ (written ++ double_quote ∷ []))) ((double_quote ∷ (written ++ double_quote ∷ [])) ++ after)
-longest_double chars written after w =
-    let found : front_of Problem ((34 ∷ (written ++ 34 ∷ [])) ++ after) ≡ Found k.Distinct (length written + 2) =
-    (ap (front_of Problem) (closed_flat 34 written after) ∙ front-double Problem (written ++ 34 ∷ after) ∙ ap (quoted k.Distinct 0) (written_closes 34 refl w after) ∙ grind (arith, nat_tests)) in
-    found_longest Problem ((34 ∷ (written ++ 34 ∷ [])) ++ after) k.Distinct (length (34 ∷ (written ++ 34 ∷ []))) (found ∙ ap (Found k.Distinct) (quote_length 34 written))
+pub longest_double : (style : Style) (chars written after : Text) → IsWritten double_quote chars written → IsLongest style (length (double_quote ∷ (written ++ double_quote ∷ []))) ((double_quote ∷ (written ++ double_quote ∷ [])) ++ after)
+longest_double style chars written after w =
+    let found : front_of style ((34 ∷ (written ++ 34 ∷ [])) ++ after) ≡ Found k.Distinct (length written + 2) =
+    (ap (front_of style) (closed_flat 34 written after) ∙ front-double style (written ++ 34 ∷ after) ∙ ap (quoted k.Distinct 0) (written_closes 34 refl w after) ∙ grind (arith, nat_tests)) in
+    found_longest style ((34 ∷ (written ++ 34 ∷ [])) ++ after) k.Distinct (length (34 ∷ (written ++ 34 ∷ []))) (found ∙ ap (Found k.Distinct) (quote_length 34 written))
 
 -- ---- marks
 
-front-of_mark : (sign : Sign) (rest : Text) → front_of Problem (mark_text sign ++ rest) ≡ marked (mark_of (mark_text sign ++ rest))
-front-of_mark m.Open rest = front-mark Problem 40 rest refl
-front-of_mark m.Close rest = front-mark Problem 41 rest refl
-front-of_mark m.OpenList rest = front-mark Problem 91 rest refl
-front-of_mark m.CloseList rest = front-mark Problem 93 rest refl
-front-of_mark m.Comma rest = front-mark Problem 44 rest refl
-front-of_mark m.Dot rest = front-mark Problem 46 rest refl
-front-of_mark m.Colon rest = front-mark Problem 58 rest refl
-front-of_mark m.Bang rest = front-mark Problem 33 rest refl
-front-of_mark m.Question rest = front-mark Problem 63 rest refl
-front-of_mark m.Tilde rest = front-mark Problem 126 rest refl
-front-of_mark m.Ampersand rest = front-mark Problem 38 rest refl
-front-of_mark m.Equal rest = front-mark Problem 61 rest refl
-front-of_mark m.NotEqual rest = front-mark Problem 33 (61 ∷ rest) refl
-front-of_mark m.Star rest = front-mark Problem 42 rest refl
-front-of_mark m.Greater rest = front-mark Problem 62 rest refl
-front-of_mark m.Imp rest = front-mark Problem 61 (62 ∷ rest) refl
-front-of_mark m.RevImp rest = front-mark Problem 60 (61 ∷ rest) refl
-front-of_mark m.Iff rest = front-mark Problem 60 (61 ∷ 62 ∷ rest) refl
-front-of_mark m.Xor rest = front-mark Problem 60 (126 ∷ 62 ∷ rest) refl
-front-of_mark m.Nand rest = front-mark Problem 126 (38 ∷ rest) refl
-front-of_mark m.Bar rest = front-mark Problem 124 rest refl
-front-of_mark m.Nor rest = front-mark Problem 126 (124 ∷ rest) refl
+front-of_mark : (style : Style) (sign : Sign) (rest : Text) → front_of style (mark_text sign ++ rest) ≡ marked (mark_of (mark_text sign ++ rest))
+front-of_mark style m.Open rest = front-mark style 40 rest refl
+front-of_mark style m.Close rest = front-mark style 41 rest refl
+front-of_mark style m.OpenList rest = front-mark style 91 rest refl
+front-of_mark style m.CloseList rest = front-mark style 93 rest refl
+front-of_mark style m.Comma rest = front-mark style 44 rest refl
+front-of_mark style m.Dot rest = front-mark style 46 rest refl
+front-of_mark style m.Colon rest = front-mark style 58 rest refl
+front-of_mark style m.Bang rest = front-mark style 33 rest refl
+front-of_mark style m.Question rest = front-mark style 63 rest refl
+front-of_mark style m.Tilde rest = front-mark style 126 rest refl
+front-of_mark style m.Ampersand rest = front-mark style 38 rest refl
+front-of_mark style m.Equal rest = front-mark style 61 rest refl
+front-of_mark style m.NotEqual rest = front-mark style 33 (61 ∷ rest) refl
+front-of_mark style m.Star rest = front-mark style 42 rest refl
+front-of_mark style m.Greater rest = front-mark style 62 rest refl
+front-of_mark style m.Imp rest = front-mark style 61 (62 ∷ rest) refl
+front-of_mark style m.RevImp rest = front-mark style 60 (61 ∷ rest) refl
+front-of_mark style m.Iff rest = front-mark style 60 (61 ∷ 62 ∷ rest) refl
+front-of_mark style m.Xor rest = front-mark style 60 (126 ∷ 62 ∷ rest) refl
+front-of_mark style m.Nand rest = front-mark style 126 (38 ∷ rest) refl
+front-of_mark style m.Bar rest = front-mark style 124 rest refl
+front-of_mark style m.Nor rest = front-mark style 126 (124 ∷ rest) refl
 
-pub longest_mark : (sign : Sign) (after : Text) → mark_of (mark_text sign ++ after) ≡ Some (sign, length (mark_text sign)) → IsLongest Problem (length (mark_text sign)) (mark_text sign ++ after)
-longest_mark sign after is = found_longest Problem (mark_text sign ++ after) (k.Mark sign) (length (mark_text sign)) (front-of_mark sign after ∙ ap marked is)
+pub longest_mark : (style : Style) (sign : Sign) (after : Text) → mark_of (mark_text sign ++ after) ≡ Some (sign, length (mark_text sign)) → IsLongest style (length (mark_text sign)) (mark_text sign ++ after)
+longest_mark style sign after is = found_longest style (mark_text sign ++ after) (k.Mark sign) (length (mark_text sign)) (front-of_mark style sign after ∙ ap marked is)
 
 -- ---- numbers
 
@@ -160,31 +160,31 @@ stops_number : (after : Text) → Ends after → Stops in_number after
 stops_number [] ends = absurd ends
 stops_number (byte ∷ text) ends = not-true _ (and_parts _ _ ends).1
 
-longest_begun : (number after : Text) → IsNumber number → BeginsNumber number → Ends after → IsLongest Problem (length number) (number ++ after)
-longest_begun [] after h begins ends = absurd begins
-longest_begun (byte ∷ digits) after h begins ends =
+longest_begun : (style : Style) (number after : Text) → IsNumber number → BeginsNumber number → Ends after → IsLongest style (length number) (number ++ after)
+longest_begun style [] after h begins ends = absurd begins
+longest_begun style (byte ∷ digits) after h begins ends =
     let text = byte ∷ (digits ++ after) in
     let most : length (byte ∷ digits) ≤ number_len text = number_most h after in
-    let found : front_of Problem text ≡ Found k.Number (0 + number_len text) = (front-number Problem byte (digits ++ after) begins ∙ counted_is k.Number 0 (number_len text) (omega arith)) in
+    let found : front_of style text ≡ Found k.Number (0 + number_len text) = (front-number style byte (digits ++ after) begins ∙ counted_is k.Number 0 (number_len text) (omega arith)) in
     let taken = number_in (found_number text (λ none. (omega arith))) in
     let least : number_len text ≤ length (byte ∷ digits) = no_further in_number (byte ∷ digits) after (number_len text) taken (stops_number after ends) (number_fits text) in
     let is : 0 + number_len text ≡ length (byte ∷ digits) = omega arith in
-    found_longest Problem text k.Number (length (byte ∷ digits)) (found ∙ ap (Found k.Number) is)
+    found_longest style text k.Number (length (byte ∷ digits)) (found ∙ ap (Found k.Number) is)
 
-pub longest_number : (number after : Text) → IsNumber number → Ends after → IsLongest Problem (length number) (number ++ after)
-longest_number number after h ends = longest_begun number after h (number_begins h) ends
+pub longest_number : (style : Style) (number after : Text) → IsNumber number → Ends after → IsLongest style (length number) (number ++ after)
+longest_number style number after h ends = longest_begun style number after h (number_begins h) ends
 
 -- ---- comments
 
-pub longest_line : (first : ℕ) (line after : Text) → begins_comment Problem first ≡ true → list_all is_no_line_feed line ≡ true → IsLongest Problem (length (first ∷ line)) ((first ∷ line) ++ 10 ∷ after)
-longest_line first line after h all =
-    let len : prefix_len is_no_line_feed ((first ∷ line) ++ 10 ∷ after) ≡ length (first ∷ line) = passes_all is_no_line_feed (first ∷ line) (10 ∷ after) (and_from _ _ (in_line_first Problem first h) all) refl in
-    found_longest Problem ((first ∷ line) ++ 10 ∷ after) k.Comment (length (first ∷ line)) (front-line Problem first (line ++ 10 ∷ after) h ∙ ap (Found k.Comment) len)
+pub longest_line : (style : Style) (first : ℕ) (line after : Text) → begins_comment style first ≡ true → list_all is_no_line_feed line ≡ true → IsLongest style (length (first ∷ line)) ((first ∷ line) ++ 10 ∷ after)
+longest_line style first line after h all =
+    let len : prefix_len is_no_line_feed ((first ∷ line) ++ 10 ∷ after) ≡ length (first ∷ line) = passes_all is_no_line_feed (first ∷ line) (10 ∷ after) (and_from _ _ (in_line_first style first h) all) refl in
+    found_longest style ((first ∷ line) ++ 10 ∷ after) k.Comment (length (first ∷ line)) (front-line style first (line ++ 10 ∷ after) h ∙ ap (Found k.Comment) len)
 
-pub longest_block : (body after : Text) → HasNoEnd (body ++ 42 ∷ []) → IsLongest Problem (length (47 ∷ 42 ∷ (body ++ 42 ∷ 47 ∷ []))) ((47 ∷ 42 ∷ (body ++ 42 ∷ 47 ∷ [])) ++ after)
-longest_block body after clean =
+pub longest_block : (style : Style) (body after : Text) → HasNoEnd (body ++ 42 ∷ []) → IsLongest style (length (47 ∷ 42 ∷ (body ++ 42 ∷ 47 ∷ []))) ((47 ∷ 42 ∷ (body ++ 42 ∷ 47 ∷ [])) ++ after)
+longest_block style body after clean =
     let spelling = 47 ∷ 42 ∷ (body ++ 42 ∷ 47 ∷ []) in
-    let found : front_of Problem (spelling ++ after) ≡ Found k.Comment (length body + 4) =
-    (ap (λ z. front_of Problem (47 ∷ 42 ∷ z)) (append_assoc body (42 ∷ 47 ∷ []) after) ∙ front-slash Problem (42 ∷ (body ++ 42 ∷ 47 ∷ after)) ∙ ap commented (comment_end_is body after clean)) in
+    let found : front_of style (spelling ++ after) ≡ Found k.Comment (length body + 4) =
+    (ap (λ z. front_of style (47 ∷ 42 ∷ z)) (append_assoc body (42 ∷ 47 ∷ []) after) ∙ front-slash style (42 ∷ (body ++ 42 ∷ 47 ∷ after)) ∙ ap commented (comment_end_is body after clean)) in
     let is : length body + 4 ≡ length spelling = omega (arith, length-append body (42 ∷ 47 ∷ [])) in
-    found_longest Problem (spelling ++ after) k.Comment (length spelling) (found ∙ ap (Found k.Comment) is)
+    found_longest style (spelling ++ after) k.Comment (length spelling) (found ∙ ap (Found k.Comment) is)

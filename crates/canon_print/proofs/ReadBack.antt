@@ -5,7 +5,7 @@ use Rattle.tptp_base.specs.declared.item.Item.{Item}
 use Rattle.tptp_base.specs.declared.read.TheConstants.{FILE_SIZE}
 use Rattle.tptp_base.specs.Place.{place_of}
 use Rattle.tptp_lexer.specs.declared.fault.LexFault.{LexFault}
-use Rattle.tptp_lexer.specs.declared.style.Style.TheVariants.{Problem}
+use Rattle.tptp_lexer.specs.declared.style.Style.{Style}
 use Rattle.tptp_lexer.specs.declared.token.Tokens.{Tokens}
 use Rattle.tptp_lexer.specs.Answer as lexer
 use Rattle.tptp_lexer.specs.Bytes.{Text}
@@ -37,13 +37,13 @@ cut_as items tokens reads answer (inl e) = subst (ReadsAs items) e reads
 cut_as items tokens reads answer (inr (inl e)) = cc
 cut_as items tokens reads answer (inr (inr e)) = subst (ReadsAs items) (sym e) tt
 
-pub reads_back : (file : ℕ) (items : List Item) (text : Text) (answer : Result Tokens LexFault) → TextSpells file max_nesting items text → length (canonical_text items) ≤ FILE_SIZE
-    → lexer.Answers file (canonical_text items) (whole (canonical_text items)) Problem answer → ReadsAs items answer
-reads_back file items text answer spelled fits h =
+pub reads_back : (style : Style) (file : ℕ) (items : List Item) (text : Text) (answer : Result Tokens LexFault) → TextSpells style file max_nesting items text → length (canonical_text items) ≤ FILE_SIZE
+    → lexer.Answers file (canonical_text items) (whole (canonical_text items)) style answer → ReadsAs items answer
+reads_back style file items text answer spelled fits h =
     let printed = canonical_text items in
-    let (again, same, (cut_tokens, offset, cut, spells)) = read_again file max_nesting items text spelled in
-    let tokens : Tokens = record { items = cut_tokens; end = place_of file printed offset } in
+    let (again, same, (cut_tokens, offset, cut, spells)) = read_again style file max_nesting items text spelled in
+    let tokens : Tokens = record { items = cut_tokens; end = place_of file printed offset; style = style } in
     let fitting : length printed - 0 ≤ FILE_SIZE = omega arith in
-    let is : lexer.Answers file printed (whole printed) Problem (Ok tokens) = (fitting, (offset, subst (λ (z : Text). Cut Problem (placed file printed) 0 z cut_tokens offset []) (sym (whole_part printed)) cut, refl)) in
-    let all : ReadsAs items (Ok tokens) = λ result k. parsed items again same result (parsing.one cut_tokens (place_of file printed offset) (Ok again) result spells k) in
-    cut_as items tokens all answer (answering.one file printed (whole printed) Problem (Ok tokens) answer is h)
+    let is : lexer.Answers file printed (whole printed) style (Ok tokens) = (fitting, refl, (offset, subst (λ (z : Text). Cut style (placed file printed) 0 z cut_tokens offset []) (sym (whole_part printed)) cut, refl)) in
+    let all : ReadsAs items (Ok tokens) = λ result k. parsed items again same result (parsing.one style cut_tokens (place_of file printed offset) (Ok again) result spells k) in
+    cut_as items tokens all answer (answering.one file printed (whole printed) style (Ok tokens) answer is h)

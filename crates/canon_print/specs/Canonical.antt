@@ -11,6 +11,7 @@ use Rattle.tptp_base.specs.declared.surface.BinOp.{BinOp}
 use Rattle.tptp_base.specs.declared.surface.Quant.{Quant}
 use Rattle.tptp_base.specs.declared.surface.Surface.{Surface}
 use Rattle.tptp_base.specs.declared.surface.Surface.TheFolds.{fold-Surface}
+use Rattle.tptp_base.specs.declared.item.Lang.{Lang}
 use Rattle.tptp_base.specs.declared.item.Shape.{Shape}
 use Rattle.tptp_base.specs.declared.item.Typing.{Typing}
 use Rattle.tptp_base.specs.declared.item.Body.{Body}
@@ -28,6 +29,7 @@ use Rattle.tptp_base.specs.declared.surface.SortName.TheVariants as sort
 use Rattle.tptp_base.specs.declared.surface.BinOp.TheVariants as op
 use Rattle.tptp_base.specs.declared.surface.Quant.TheVariants as q
 use Rattle.tptp_base.specs.declared.surface.Surface.TheOpen as fm
+use Rattle.tptp_base.specs.declared.item.Lang.TheVariants as lang
 use Rattle.tptp_base.specs.declared.item.Shape.TheVariants as shape
 use Rattle.tptp_base.specs.declared.item.Body.TheVariants as body
 use Rattle.tptp_base.specs.declared.item.GTerm.TheOpen as gt
@@ -107,24 +109,48 @@ closing false = []
 abbrev pub as_unit : Shown → Text
 as_unit shown = opening shown.0 ++ (shown.1 ++ closing shown.0)
 
-abbrev pub formula_node : fm.Surface-F Shown → Shown
-formula_node fm.True = (false, codes "$true")
-formula_node fm.False = (false, codes "$false")
-formula_node (fm.Atom word terms) = (false, applied_text word (terms_text terms))
-formula_node (fm.Eq left right) = (false, term_text left ++ (codes " = " ++ term_text right))
-formula_node (fm.Neq left right) = (false, term_text left ++ (codes " != " ++ term_text right))
-formula_node (fm.Not part) = (false, codes "~ " ++ as_unit part)
-formula_node (fm.And parts) = (true, separated (codes " & ") (map as_unit parts))
-formula_node (fm.Or parts) = (true, separated (codes " | ") (map as_unit parts))
-formula_node (fm.Binary operator left right) = (true, as_unit left ++ (operator_text operator ++ as_unit right))
-formula_node (fm.Bind quantifier variables part) = (false, quantifier_text quantifier ++ (separated (codes ",") (map variable_text variables) ++ (codes "] : " ++ as_unit part)))
+-- the same of a formula by whether it is a <tcf_logic_formula>
+abbrev pub Writing : Type 0
+Writing = Bool → Shown
 
-unfoldable pub shown : Surface → Shown
-shown = fold-Surface Shown formula_node
+abbrev pub unit_of : Writing → Text
+unit_of part = as_unit (part false)
+
+-- what a quantifier binds is a unit, or again a <tcf_logic_formula>
+abbrev pub bound_text : Bool → Writing → Text
+bound_text true part = (part true).1
+bound_text false part = unit_of part
+
+abbrev pub formula_node : fm.Surface-F Writing → Writing
+formula_node fm.True clause = (false, codes "$true")
+formula_node fm.False clause = (false, codes "$false")
+formula_node (fm.Atom word terms) clause = (false, applied_text word (terms_text terms))
+formula_node (fm.Eq left right) clause = (false, term_text left ++ (codes " = " ++ term_text right))
+formula_node (fm.Neq left right) clause = (false, term_text left ++ (codes " != " ++ term_text right))
+formula_node (fm.Not part) clause = (false, codes "~ " ++ unit_of part)
+formula_node (fm.And parts) clause = (true, separated (codes " & ") (map unit_of parts))
+formula_node (fm.Or parts) clause = (true, separated (codes " | ") (map unit_of parts))
+formula_node (fm.Binary operator left right) clause = (true, unit_of left ++ (operator_text operator ++ unit_of right))
+formula_node (fm.Bind quantifier variables part) clause = (false, quantifier_text quantifier ++ (separated (codes ",") (map variable_text variables) ++ (codes "] : " ++ bound_text clause part)))
+
+unfoldable pub written : Surface → Writing
+written = fold-Surface Writing formula_node
+
+abbrev pub shown : Surface → Shown
+shown formula = written formula false
 
 -- <fof_logic_formula>, <tff_logic_formula> or <cnf_formula>
 abbrev pub formula_text : Surface → Text
 formula_text formula = (shown formula).1
+
+-- <tcf_logic_formula>: what its quantifiers bind has no parentheses, and so nests no deeper than it must
+abbrev pub typed_clause_text : Surface → Text
+typed_clause_text formula = (written formula true).1
+
+-- the formula of a language
+abbrev pub logic_text : Lang → Surface → Text
+logic_text lang.Tcf formula = typed_clause_text formula
+logic_text _ formula = formula_text formula
 
 -- ---- general terms
 
@@ -149,9 +175,9 @@ general_text = fold-GTerm Text general_node
 
 -- ---- items
 
-abbrev pub body_text : Body → Text
-body_text (body.Logic formula) = formula_text formula
-body_text (body.Typing typing) = typing_text typing
+abbrev pub body_text : Lang → Body → Text
+body_text l (body.Logic formula) = logic_text l formula
+body_text l (body.Typing typing) = typing_text typing
 
 -- the end of a line behind a comma, and the four blanks of the next line
 abbrev pub next_line : Text
@@ -177,7 +203,7 @@ head_text a = lang_text a.lang ++ (codes "(" ++ (name_text a.name ++ (codes "," 
 
 -- <annotated_formula>
 abbrev pub annotated_text : Annotated → Text
-annotated_text a = head_text a ++ (body_text a.body ++ (annotations_text a.source a.info ++ item_end))
+annotated_text a = head_text a ++ (body_text a.lang a.body ++ (annotations_text a.source a.info ++ item_end))
 
 -- <formula_selection>
 abbrev pub selection_text : Option (List Name) → Text

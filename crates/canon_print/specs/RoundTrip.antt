@@ -3,7 +3,7 @@ use Rattle.std.specs.Prelude.{◌≡◌, ℕ, List, [], map, Result, Ok, Err}
 use Rattle.tptp_base.specs.declared.place.Place.{Place}
 use Rattle.tptp_base.specs.declared.item.Item.{Item}
 use Rattle.tptp_lexer.specs.declared.fault.LexFault.{LexFault}
-use Rattle.tptp_lexer.specs.declared.style.Style.TheVariants.{Problem}
+use Rattle.tptp_lexer.specs.declared.style.Style.{Style}
 use Rattle.tptp_lexer.specs.declared.token.Tokens.{Tokens}
 use Rattle.tptp_lexer.specs.Bytes.{Text}
 use Rattle.tptp_lexer.specs.Tokenized.{Cut, placed}
@@ -15,9 +15,9 @@ use Rattle.tptp_lexer.specs.declared.fault.LexFault.TheVariants as lf
 use Rattle.tptp_grammar.specs.declared.fault.GrammarFault.TheVariants as gf
 use Rattle.tptp_grammar.specs.Answers as grammar
 
--- the text of the file is cut into tokens, and these spell the items, nested no deeper than the limit
-abbrev pub TextSpells : ℕ → ℕ → List Item → Text → Type 0
-TextSpells file limit items text = (tokens : List Placed) × (end : ℕ) × Cut Problem (placed file text) 0 text tokens end [] × SpellsWithin limit items tokens
+-- the text of the file, of this style, is cut into tokens, and these spell the items, nested no deeper than the limit
+abbrev pub TextSpells : Style → ℕ → ℕ → List Item → Text → Type 0
+TextSpells style file limit items text = (tokens : List Placed) × (end : ℕ) × Cut style (placed file text) 0 text tokens end [] × SpellsWithin style limit items tokens
 
 -- the item at another place
 abbrev pub at_place : Place → Item → Item
@@ -34,8 +34,8 @@ abbrev pub AreSame : List Item → List Item → Type 0
 AreSame items others = map (at_place first_place) items ≡ map (at_place first_place) others
 
 -- Some text spells the same items again, but for their places.
-abbrev pub SpellsAgain : ℕ → ℕ → List Item → Text → Type 0
-SpellsAgain file limit items text = (again : List Item) × AreSame again items × TextSpells file limit again text
+abbrev pub SpellsAgain : Style → ℕ → ℕ → List Item → Text → Type 0
+SpellsAgain style file limit items text = (again : List Item) × AreSame again items × TextSpells style file limit again text
 
 -- `parse` gave these items, but for their places, or memory was wanting.
 abbrev pub ParsesAs : List Item → Result (List Item) GrammarFault → Type 0
@@ -45,6 +45,6 @@ ParsesAs items (Err fault) = ⊥
 
 -- `tokens` gave tokens of which every answer of `parse` is these items, but for their places, or memory was wanting.
 abbrev pub ReadsAs : List Item → Result Tokens LexFault → Type 0
-ReadsAs items (Ok tokens) = (result : Result (List Item) GrammarFault) → grammar.Answers tokens.items tokens.end result → ParsesAs items result
+ReadsAs items (Ok tokens) = (result : Result (List Item) GrammarFault) → grammar.Answers tokens.style tokens.items tokens.end result → ParsesAs items result
 ReadsAs items (Err lf.Memory) = Unit {0}
 ReadsAs items (Err fault) = ⊥

@@ -2,7 +2,7 @@
 ghost use Rattle.std.specs.Prelude.{◌≡◌, ◌++◌, OnOk, codes, map};
 ghost use Rattle.canon_print.specs.Canonical as spec;
 ghost use Rattle.canon_print.specs.code.Canonical as spec_code;
-ghost use Rattle.canon_print.specs.Canonical.{term_text, formula_text, variable_text};
+ghost use Rattle.canon_print.specs.Canonical.{term_text, formula_text, typed_clause_text, variable_text};
 ghost use Rattle.canon_print.specs.code.Canonical.{unit_text};
 ghost use Rattle.canon_print.specs.Words.{separated};
 
@@ -189,5 +189,39 @@ pub fn put_formula(formula: &Surface, text: &mut Vec<u8>) -> Result<(), AllocErr
         Surface::Bind(quantifier, variables, part) => {
             put_bound(*quantifier, variables.as_slice(), part, text)
         }
+    }
+}
+
+// Appends a typed clause under a quantifier, with no parentheses round it.
+#[cycle(put_typed_clause)]
+fn put_clause_under(
+    quantifier: Quant,
+    variables: &[BoundVar],
+    part: &Boxed<Surface>,
+    text: &mut Vec<u8>,
+) -> Result<(), AllocError>
+    ensures { OnOk result (text.new.items ≡ text.old.items
+        ++ (spec.quantifier_text quantifier
+        ++ (separated (codes ",") (map variable_text variables.now) ++ (codes "] : " ++ typed_clause_text part.now)))) }
+{
+    put_quantifier(quantifier, text)?;
+    put_variables(variables, text)?;
+    text.extend_from_slice(b"] : ")?;
+    put_typed_clause(part.get(), text)
+}
+
+/// Appends a typed clause: what its quantifiers bind has no parentheses.
+#[tactic(auto, using(crate::proofs::Equations::clause_equations))]
+#[cycle(put_typed_clause)]
+pub fn put_typed_clause(formula: &Surface, text: &mut Vec<u8>) -> Result<(), AllocError>
+    ensures { OnOk result (text.new.items ≡ text.old.items ++ typed_clause_text formula.now) }
+{
+    match formula {
+        Surface::Bind(quantifier, variables, part) => {
+            put_clause_under(*quantifier, variables.as_slice(), part, text)
+        }
+        Surface::And(_) | Surface::Or(_) | Surface::Binary(_, _, _) => put_formula(formula, text),
+        Surface::True | Surface::False | Surface::Not(_) => put_formula(formula, text),
+        Surface::Atom(_, _) | Surface::Eq(_, _) | Surface::Neq(_, _) => put_formula(formula, text),
     }
 }

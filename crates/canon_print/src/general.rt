@@ -19,6 +19,7 @@ fn put_embedding(lang: Lang, text: &mut Vec<u8>) -> Result<(), AllocError>
         Lang::Cnf => text.extend_from_slice(b"$cnf"),
         Lang::Fof => text.extend_from_slice(b"$fof"),
         Lang::Tff => text.extend_from_slice(b"$tff"),
+        Lang::Tcf => text.extend_from_slice(b"$tcf"),
     }
 }
 

@@ -4,12 +4,12 @@ ghost use Rattle.canon_print.specs.Canonical as spec;
 ghost use Rattle.canon_print.specs.Words.{name_text, separated};
 ghost use Rattle.tptp_grammar.specs.Tokens as tokens;
 
-use crate::formulas::put_formula;
+use crate::formulas::{put_formula, put_typed_clause};
 use crate::general::{put_general, put_list};
 use crate::terms::put_typing;
 use crate::words::{put_name, put_quoted};
 use std::alloc::AllocError;
-use tptp_base::{Annotated, Body, GTerm, Include, Item, Lang, List, Name, Role};
+use tptp_base::{Annotated, Body, GTerm, Include, Item, Lang, List, Name, Role, Surface};
 
 // The word before an annotated formula.
 fn lang_text(lang: Lang) -> &'static [u8]
@@ -19,6 +19,7 @@ fn lang_text(lang: Lang) -> &'static [u8]
         Lang::Cnf => b"cnf",
         Lang::Fof => b"fof",
         Lang::Tff => b"tff",
+        Lang::Tcf => b"tcf",
     }
 }
 
@@ -44,12 +45,22 @@ fn role_text(role: Role) -> &'static [u8]
     }
 }
 
+// Appends the formula of a language.
+fn put_logic(lang: Lang, formula: &Surface, text: &mut Vec<u8>) -> Result<(), AllocError>
+    ensures { OnOk result (text.new.items ≡ text.old.items ++ spec.logic_text lang formula.now) }
+{
+    match lang {
+        Lang::Tcf => put_typed_clause(formula, text),
+        Lang::Cnf | Lang::Fof | Lang::Tff => put_formula(formula, text),
+    }
+}
+
 // Appends the body of an annotated formula.
-fn put_body(body: &Body, text: &mut Vec<u8>) -> Result<(), AllocError>
-    ensures { OnOk result (text.new.items ≡ text.old.items ++ spec.body_text body.now) }
+fn put_body(lang: Lang, body: &Body, text: &mut Vec<u8>) -> Result<(), AllocError>
+    ensures { OnOk result (text.new.items ≡ text.old.items ++ spec.body_text lang body.now) }
 {
     match body {
-        Body::Logic(formula) => put_formula(formula, text),
+        Body::Logic(formula) => put_logic(lang, formula, text),
         Body::Typing(typing) => put_typing(typing, text),
     }
 }
@@ -102,7 +113,7 @@ fn put_annotated(annotated: &Annotated, text: &mut Vec<u8>) -> Result<(), AllocE
     ensures { OnOk result (text.new.items ≡ text.old.items ++ spec.annotated_text annotated.now) }
 {
     put_head(annotated, text)?;
-    put_body(&annotated.body, text)?;
+    put_body(annotated.lang, &annotated.body, text)?;
     put_annotations(&annotated.source, &annotated.info, text)?;
     text.extend_from_slice(b").\n")
 }

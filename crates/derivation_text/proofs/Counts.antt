@@ -29,7 +29,7 @@ through_few (last_token h) = omega arith
 through_few (dropped more) = let few = through_few more in omega (arith, few)
 through_few (token h more) = let few = through_few more in omega (arith, few)
 
-file_few : {items : List Item} {ts : List Placed} {us : Tokens} → IsFile items ts us → length items ≤ length ts
+file_few : {style : Style} {items : List Item} {ts : List Placed} {us : Tokens} → IsFile style items ts us → length items ≤ length ts
 file_few end_of_file = omega arith
 file_few (comment more) = let few = file_few more in omega (arith, few)
 file_few (input is through more) = let few = file_few more in let less = through_few through in omega (arith, few, less)
@@ -38,7 +38,7 @@ part_few : (text : List ℕ) (from to : ℕ) → length (slice_range text from t
 part_few text from to = omega (arith, length-take (to - from) (drop from text), length-drop from text)
 
 pub few_items : (text : List ℕ) (tokens : Placed_tokens) (items : List Item) → IsRegionLexed text (Ok tokens) → IsParsed tokens (Ok items) → length items < 2 ^ 32
-few_items text tokens items (fits, (offset, cut, end)) (us, file, within) =
+few_items text tokens items (fits, same, (offset, cut, end)) (us, file, within) =
     let bytes = cut_few cut in
     let entries = file_few file in
     omega (arith, bytes, entries, fits, part_few text (region_of text).start (region_of text).end)

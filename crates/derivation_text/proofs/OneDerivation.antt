@@ -92,12 +92,12 @@ module _ (text : List ℕ) where
   here t u x h k p = subst (λ (v : Tokens). IsParsed v x) (one_tokens u t k h) p
 
   pub one_spelled : (xs ys : List Item) → RegionSpells text xs → RegionSpells text ys → xs ≡ ys
-  one_spelled xs ys s r = same_items xs ys (parsing.one s.tokens.items s.tokens.end (Ok xs) (Ok ys) s.parsed (here s.tokens r.tokens (Ok ys) s.lexed r.lexed r.parsed))
+  one_spelled xs ys s r = same_items xs ys (parsing.one s.tokens.style s.tokens.items s.tokens.end (Ok xs) (Ok ys) s.parsed (here s.tokens r.tokens (Ok ys) s.lexed r.lexed r.parsed))
 
   -- what spells items has no fault
   spelled_wants : (xs : List Item) (f : DerivationFault) → RegionSpells text xs → IsTextFault text f → IsWant f
   spelled_wants xs (fault.Lex first) s is = lexed_wants s.tokens first (lex_one (Ok s.tokens) (Err first) s.lexed is)
-  spelled_wants xs (fault.Grammar first) s (tokens, lexed, is) = parsed_wants xs first (parsing.one s.tokens.items s.tokens.end (Ok xs) (Err first) s.parsed (here s.tokens tokens (Err first) s.lexed lexed is))
+  spelled_wants xs (fault.Grammar first) s (tokens, lexed, is) = parsed_wants xs first (parsing.one s.tokens.style s.tokens.items s.tokens.end (Ok xs) (Err first) s.parsed (here s.tokens tokens (Err first) s.lexed lexed is))
   spelled_wants xs (fault.Graph first) s is = absurd is
   spelled_wants xs (fault.Sort first) s is = absurd is
   spelled_wants xs fault.Memory s is = tt
@@ -112,7 +112,7 @@ module _ (text : List ℕ) where
   one_text_fault (fault.Lex first) (fault.Lex other) is also = lexed_same first other (lex_one (Err first) (Err other) is also)
   one_text_fault (fault.Lex first) (fault.Grammar other) is (tokens, lexed, also) = inl (lexed_wants tokens first (lex_one (Ok tokens) (Err first) lexed is))
   one_text_fault (fault.Grammar first) (fault.Lex other) (tokens, lexed, is) also = inr (inl (lexed_wants tokens other (lex_one (Ok tokens) (Err other) lexed also)))
-  one_text_fault (fault.Grammar first) (fault.Grammar other) (t, lexed, is) (u, again, also) = parsed_same first other (parsing.one t.items t.end (Err first) (Err other) is (here t u (Err other) lexed again also))
+  one_text_fault (fault.Grammar first) (fault.Grammar other) (t, lexed, is) (u, again, also) = parsed_same first other (parsing.one t.style t.items t.end (Err first) (Err other) is (here t u (Err other) lexed again also))
 
 -- ---- what items are
 

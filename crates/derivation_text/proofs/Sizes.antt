@@ -26,10 +26,10 @@ part_fewer text from to = omega (arith, length-take (to - from) (drop from text)
 
 pub derivation_within : (text : List ℕ) (items : List Item) → RegionSpells text items → IsWithin (length text) (size_of_items items)
 derivation_within text items spells =
-    let (fits, (offset, cut, end)) = spells.lexed in
+    let (fits, same, (offset, cut, end)) = spells.lexed in
     let (us, file, within) = spells.parsed in
     let bytes = cut_few cut in
-    within_more (length spells.tokens.items) (length text) (size_of_items items) (omega (arith, bytes, part_fewer text (region_of text).start (region_of text).end)) (tokens_within spells.tokens.items items (us, file))
+    within_more (length spells.tokens.items) (length text) (size_of_items items) (omega (arith, bytes, part_fewer text (region_of text).start (region_of text).end)) (tokens_within spells.tokens.style spells.tokens.items items (us, file))
 
 -- ---- formulas
 

@@ -36,14 +36,14 @@ through_few (last_token h) = omega arith
 through_few (dropped more) = let few = through_few more in omega (arith, few)
 through_few (token h more) = let few = through_few more in omega (arith, few)
 
-file_few : {items : List Item} {ts : List Placed} {us : Tokens} → IsFile items ts us → length items ≤ length ts
+file_few : {style : Style} {items : List Item} {ts : List Placed} {us : Tokens} → IsFile style items ts us → length items ≤ length ts
 file_few end_of_file = omega arith
 file_few (comment more) = let few = file_few more in omega (arith, few)
 file_few (input is through more) = let few = file_few more in let less = through_few through in omega (arith, few, less)
 
 pub spelled_few : (number : ℕ) (text : Text) (items : List Item) → IsSpelled number text items → length items ≤ length text
 spelled_few number text items spells =
-    let (fits, (offset, cut, end)) = spells.lexed in
+    let (fits, same, (offset, cut, end)) = spells.lexed in
     let (us, file, within) = spells.parsed in
     let bytes = cut_few cut in
     let entries = file_few file in

@@ -79,7 +79,7 @@ module _ (number : ℕ) (text : Text) where
     fault : GrammarFault
     is : f ≡ Grammar fault
     some : fault ≡ grammar.Memory → ⊥
-    first : parser.Answers tokens.items tokens.end (Err fault)
+    first : parser.Answers tokens.style tokens.items tokens.end (Err fault)
 
   token_fault : (tokens : Tokens) → HasTokens number text tokens → (fault : GrammarFault) → IsGrammarFault tokens fault → IsTokenFault (Grammar fault)
   token_fault tokens has (grammar.Token place) h = record { tokens = tokens; has = has; fault = grammar.Token place; is = refl; some = λ e. cc; first = h }
@@ -107,15 +107,15 @@ module _ (number : ℕ) (text : Text) where
   pub one_spelled : (xs ys : List Item) → IsSpelled number text xs → IsSpelled number text ys → xs ≡ ys
   one_spelled xs ys s r =
       let same = one_tokens r.tokens s.tokens r.lexed s.lexed in
-      one_read xs ys (parsing.one s.tokens.items s.tokens.end (Ok xs) (Ok ys) s.parsed (subst (λ (v : Tokens). parser.Answers v.items v.end (Ok ys)) same r.parsed))
+      one_read xs ys (parsing.one s.tokens.style s.tokens.items s.tokens.end (Ok xs) (Ok ys) s.parsed (subst (λ (v : Tokens). parser.Answers v.style v.items v.end (Ok ys)) same r.parsed))
 
-  first_of : (t : Tokens) (f : TextFault) → HasTokens number text t → (k : IsTokenFault f) → parser.Answers t.items t.end (Err k.fault)
-  first_of t f has k = subst (λ (v : Tokens). parser.Answers v.items v.end (Err k.fault)) (one_tokens k.tokens t k.has has) k.first
+  first_of : (t : Tokens) (f : TextFault) → HasTokens number text t → (k : IsTokenFault f) → parser.Answers t.style t.items t.end (Err k.fault)
+  first_of t f has k = subst (λ (v : Tokens). parser.Answers v.style v.items v.end (Err k.fault)) (one_tokens k.tokens t k.has has) k.first
 
   pub not_spelled : (xs : List Item) (f : TextFault) → IsSpelled number text xs → IsFaulty number text f → ⊥
   not_spelled xs f s faulty = elim (fault_kind f faulty) [
     | inl k ↦ no_tokens s.tokens f s.lexed k
-    | inr k ↦ not_read xs k.fault k.some (parsing.one s.tokens.items s.tokens.end (Ok xs) (Err k.fault) s.parsed (first_of s.tokens f s.lexed k))
+    | inr k ↦ not_read xs k.fault k.some (parsing.one s.tokens.style s.tokens.items s.tokens.end (Ok xs) (Err k.fault) s.parsed (first_of s.tokens f s.lexed k))
   ]
 
   pub one_fault : (f g : TextFault) → IsFaulty number text f → IsFaulty number text g → f ≡ g

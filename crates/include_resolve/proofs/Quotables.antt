@@ -12,7 +12,9 @@ use Rattle.tptp_base.specs.declared.item.Item.TheVariants.{Comment, Formula, Inc
 use Rattle.tptp_base.specs.Names.{names_of_item}
 use Rattle.tptp_base.specs.Quotable.{is_printable, IsQuotable, AreQuotable}
 use Rattle.tptp_base.proofs.Naming.{quotable_in_each}
+use Rattle.tptp_lexer.specs.declared.style.Style.{Style}
 use Rattle.tptp_lexer.specs.declared.style.Style.TheVariants.{Problem as ProblemStyle}
+use Rattle.tptp_grammar.specs.Files.{IsFile}
 use Rattle.tptp_grammar.proofs.SpelledNames.{spelled_names}
 use Rattle.include_resolve.specs.declared.opened.Opened.{Opened}
 use Rattle.include_resolve.specs.declared.reading.Read.{Read}
@@ -40,9 +42,9 @@ quotable_file (Comment text) all = tt
 
 pub spelled_quotable : (number : ℕ) (text : Text) (items : List Item) → IsSpelled number text items → All HasQuotableFile items
 spelled_quotable number text items spells =
-    let (fits, (offset, cut, end)) = spells.lexed in
+    let (fits, same, (offset, cut, end)) = spells.lexed in
     let (us, file, within) = spells.parsed in
-    let names = spelled_names ProblemStyle number text _ _ spells.tokens.items offset [] items cut (us, file) in
+    let names = spelled_names ProblemStyle number text _ _ spells.tokens.items offset [] items cut (us, subst (λ (style : Style). IsFile style items spells.tokens.items us) same file) in
     All-weaker (λ (item : Item). AreQuotable (names_of_item item)) HasQuotableFile quotable_file items
     (All-from_recursion (λ (item : Item). AreQuotable (names_of_item item)) items (quotable_in_each names_of_item items names))
 

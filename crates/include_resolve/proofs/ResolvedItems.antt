@@ -46,11 +46,11 @@ through_placed number (last_token {t = t} {place = place} {rest = rest} h) all =
 through_placed number (dropped {text = text} {place = place} {ts = ts} more) all = through_placed number more (All-tail (IsInFile number) (Remark text, place) ts all)
 through_placed number (token {t = t} {place = place} {ts = ts} h more) all = through_placed number more (All-tail (IsInFile number) (t, place) ts all)
 
-item_placed : (number : ℕ) {place : Place} {i : Item} {us mid : Tokens} → IsItem place i us mid → place.file ≡ number → IsOfFile number i
-item_placed number (annotated e h j k x) is = is
+item_placed : (number : ℕ) {style : Style} {place : Place} {i : Item} {us mid : Tokens} → IsItem style place i us mid → place.file ≡ number → IsOfFile number i
+item_placed number (annotated e has h j k x) is = is
 item_placed number (include e h) is = tt
 
-file_placed : (number : ℕ) {items : List Item} {ts : List Placed} {us : Tokens} → IsFile items ts us → All (IsInFile number) ts → All (IsOfFile number) items
+file_placed : (number : ℕ) {style : Style} {items : List Item} {ts : List Placed} {us : Tokens} → IsFile style items ts us → All (IsInFile number) ts → All (IsOfFile number) items
 file_placed number end_of_file all = All-nil (IsOfFile number)
 file_placed number (comment {text = text} {place = place} {items = items} {rest = rest} more) all = All-cons (IsOfFile number) (Comment text) items tt (file_placed number more (All-tail (IsInFile number) (Remark text, place) rest all))
 file_placed number (input {i = i} {t = t} {place = place} {items = items} {ts = ts} is through more) all =
@@ -58,7 +58,7 @@ file_placed number (input {i = i} {t = t} {place = place} {items = items} {ts = 
 
 spelled_placed : (number : ℕ) (text : Text) (items : List Item) → IsSpelled number text items → All (IsOfFile number) items
 spelled_placed number text items spells =
-    let (fits, (offset, cut, end)) = spells.lexed in
+    let (fits, same, (offset, cut, end)) = spells.lexed in
     let (us, file, within) = spells.parsed in
     file_placed number file (cut_placed number (λ t k. refl) cut)
 

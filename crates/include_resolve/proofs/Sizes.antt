@@ -22,10 +22,10 @@ use Rattle.include_resolve.proofs.Counts.{problem_few}
 
 pub spelled_within : (number : ℕ) (text : Text) (items : List Item) → IsSpelled number text items → IsWithin (length text) (size_of_items items)
 spelled_within number text items spells =
-    let (fits, (offset, cut, end)) = spells.lexed in
+    let (fits, same, (offset, cut, end)) = spells.lexed in
     let (us, file, within) = spells.parsed in
     let bytes = cut_few cut in
-    within_more (length spells.tokens.items) (length text) (size_of_items items) (omega (arith, bytes, range_length text 0 (length text) (omega arith))) (tokens_within spells.tokens.items items (us, file))
+    within_more (length spells.tokens.items) (length text) (size_of_items items) (omega (arith, bytes, range_length text 0 (length text) (omega arith))) (tokens_within spells.tokens.style spells.tokens.items items (us, file))
 
 -- ---- of items one by one
 

@@ -42,7 +42,7 @@ module _ (number : ℕ) (text : Text) (fits : length text ≤ FILE_SIZE) where
   abbrev Spelled : Type 0
   Spelled = ((items : List Item) × IsSpelled number text items) ⊎ ((f : TextFault) × IsFaulty number text f)
 
-  by_parsing : (tokens : Tokens) → HasTokens number text tokens → (o : Result (List Item) GrammarFault) → (o ≡ Err grammar.Memory → ⊥) → parser.Answers tokens.items tokens.end o → Spelled
+  by_parsing : (tokens : Tokens) → HasTokens number text tokens → (o : Result (List Item) GrammarFault) → (o ≡ Err grammar.Memory → ⊥) → parser.Answers tokens.style tokens.items tokens.end o → Spelled
   by_parsing tokens has (Ok items) some h = inl (items, record { tokens = tokens; lexed = has; parsed = h })
   by_parsing tokens has (Err (grammar.Token place)) some h = inr (Grammar (grammar.Token place), (tokens, has, h))
   by_parsing tokens has (Err (grammar.Profile place)) some h = inr (Grammar (grammar.Profile place), (tokens, has, h))
@@ -51,7 +51,7 @@ module _ (number : ℕ) (text : Text) (fits : length text ≤ FILE_SIZE) where
   by_parsing tokens has (Err grammar.Memory) some h = absurd (some refl)
 
   by_lexing : (o : Result Tokens LexFault) → (o ≡ Err lex.Memory → ⊥) → lexer.Answers number text (whole text) ProblemStyle o → Spelled
-  by_lexing (Ok tokens) some h = let (o, known, answers) = parsing.some tokens.items tokens.end in by_parsing tokens h o known answers
+  by_lexing (Ok tokens) some h = let (o, known, answers) = parsing.some tokens.style tokens.items tokens.end in by_parsing tokens h o known answers
   by_lexing (Err (lex.Byte place)) some h = inr (Lex (lex.Byte place), h)
   by_lexing (Err (lex.Unfinished place)) some h = inr (Lex (lex.Unfinished place), h)
   by_lexing (Err (lex.Limit limit)) some h = absurd (omega (arith, h.0, fits))

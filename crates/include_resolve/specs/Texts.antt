@@ -26,7 +26,7 @@ IsSpelled number text items = SpellsText number text (whole text) ProblemStyle i
 -- the tokens spell nothing, and this is the first fault
 abbrev pub IsGrammarFault : Tokens → GrammarFault → Type 0
 IsGrammarFault tokens grammar.Memory = ⊥
-IsGrammarFault tokens fault = parser.Answers tokens.items tokens.end (Err fault)
+IsGrammarFault tokens fault = parser.Answers tokens.style tokens.items tokens.end (Err fault)
 
 -- the text of the file of this number spells nothing, and this is the first fault in it
 abbrev pub IsFaulty : ℕ → Text → TextFault → Type 0

@@ -44,16 +44,16 @@ pub trait Reading {
     /// The one list of items that the tokens spell.
     fn parse(alloc: Global, tokens: &Tokens) -> Result<List<Item>, GrammarFault>
         // What is read is spelled so, nested no deeper than the limit. Each fault is the first one.
-        ensures answers { answers.Answers tokens.now.items tokens.now.end result }
+        ensures answers { answers.Answers tokens.now.style tokens.now.items tokens.now.end result }
         // What is spelled within the limit is read, unless memory runs out.
-        ensures only { (items : List Item) → SpellsWithin faults.max_nesting items tokens.now.items →
+        ensures only { (items : List Item) → SpellsWithin tokens.now.style faults.max_nesting items tokens.now.items →
             answers.IsRead items result }
         // What is spelled with tokens that are nested deeper is refused for that, unless memory runs out.
-        ensures deep { (items : List Item) (us over : NestedTokens) → IsFile items tokens.now.items us →
+        ensures deep { (items : List Item) (us over : NestedTokens) → IsFile tokens.now.style items tokens.now.items us →
             FirstOver faults.max_nesting us over → answers.IsRefusedAsDeep result }
         // The tokens spell at most one list of items.
-        ensures one { (first second : List Item) → Spells first tokens.now.items → Spells second tokens.now.items →
-            first ≡ second };
+        ensures one { (first second : List Item) → Spells tokens.now.style first tokens.now.items →
+            Spells tokens.now.style second tokens.now.items → first ≡ second };
 }
 
 impl Reading for Probe {

@@ -25,10 +25,10 @@ use Rattle.sort_check.specs.declared.scope.Variable.{Variable}
 use Rattle.sort_check.specs.declared.terms.Sorted.{Sorted}
 use Rattle.sort_check.specs.Bringing.{IsNamed, Brings}
 use Rattle.sort_check.specs.Outcomes.{Outcome, and_then, mapped, each}
-use Rattle.sort_check.specs.Symbols.{Text, undeclared, with_symbol, is_among, head, head_at, argument_sort, result_sort}
-use Rattle.sort_check.specs.Denotation.{Setting, State, nearest, variable_at, fitting, argument, made, denoted_term, beside, atom, equal, equation, joined, variable_sort, bound_variable, closed, denoted_form}
+use Rattle.sort_check.specs.Symbols.{Text, place_sort, with_symbol, is_among, head, head_at, argument_sort, result_sort}
+use Rattle.sort_check.specs.Denotation.{Setting, State, nearest, variable_at, fitting, argument, made, denoted_term, known_sort, beside, atom, equal, equation, joined, variable_sort, bound_variable, closed, denoted_form}
 use Rattle.sort_check.specs.code.Denotation.{bound}
-use Rattle.sort_check.proofs.Equations.{denoted_term-Var, denoted_term-App, denoted_form-True, denoted_form-False, denoted_form-Atom, denoted_form-Eq, denoted_form-Neq, denoted_form-Not, denoted_form-And, denoted_form-Or, denoted_form-Binary, denoted_form-Bind}
+use Rattle.sort_check.proofs.Equations.{new_function, new_predicate, denoted_term-Var, denoted_term-App, denoted_form-True, denoted_form-False, denoted_form-Atom, denoted_form-Eq, denoted_form-Neq, denoted_form-Not, denoted_form-And, denoted_form-Or, denoted_form-Binary, denoted_form-Bind}
 use Rattle.sort_check.proofs.Inducing.{term_induction, form_induction}
 use Rattle.sort_check.proofs.Stepping.{at_ok, then_ok, mapped_ok}
 use Rattle.sort_check.proofs.LineSorts.{named_same}
@@ -68,28 +68,40 @@ with_symbol_brings s v w n named e = by (length v.symbols == 16777216) e
     by true k = absurd (cc)
     by false k = at_ok {E = SortRule} (λ (m : ℕ) u. Brings v u) (length v.symbols) n (record v { symbols = v.symbols ++ s ∷ [] }) w k (brings_symbol v s named)
 
-head_brings : (declared : List Text) (name : Text) (kind : Kind) (arity : ℕ) (v w : Vocabulary) (number : ℕ) → IsQuotable name → head declared name kind arity v ≡ Ok (number, w) → Brings v w
+head_brings : (declared : List Text) (name : Text) (kind : Kind) (arity : ℕ) (added : Symbol) (v w : Vocabulary) (number : ℕ) → IsNamed added → head declared name kind arity added v ≡ Ok (number, w) → Brings v w
 unfolding head
-head_brings declared name kind arity v w number h e = by (found_symbol v name kind arity) e
+head_brings declared name kind arity added v w number h e = by (found_symbol v name kind arity) e
   where
-    new : (b : Bool) → ◌≡◌ {A = Outcome SortRule Vocabulary ℕ} (cond b (Err Arity) (with_symbol (undeclared name kind arity) v)) (Ok (number, w)) → Brings v w
+    new : (b : Bool) → ◌≡◌ {A = Outcome SortRule Vocabulary ℕ} (cond b (Err Arity) (with_symbol added v)) (Ok (number, w)) → Brings v w
     new true k = absurd (cc)
-    new false k = with_symbol_brings (undeclared name kind arity) v w number (record { quotable = h; no_result = λ is. refl }) k
+    new false k = with_symbol_brings added v w number h k
 
-    by : (o : Option ℕ) → head_at declared name kind arity o v ≡ Ok (number, w) → Brings v w
+    by : (o : Option ℕ) → head_at declared name added o v ≡ Ok (number, w) → Brings v w
     by (Some n) k = at_ok {E = SortRule} (λ (m : ℕ) u. Brings v u) n number v w k (brings_nothing v)
     by None k = new (is_among name declared) k
+
+-- a new function, and a new predicate, whose place asks for no sort
+function_named : (here : Setting) (scope : List Variable) (v : Vocabulary) (f : Text) (ts : List STerm) (asked : Option ℕ) → IsQuotable f → IsNamed (new_function here scope v f ts asked)
+function_named here scope v f ts asked h = record { quotable = h; no_result = λ never. absurd (cc) }
+
+predicate_named : (here : Setting) (scope : List Variable) (v : Vocabulary) (p : Text) (ts : List STerm) → IsQuotable p → IsNamed (new_predicate here scope v p ts)
+predicate_named here scope v p ts h = record { quotable = h; no_result = λ is. none here.by_place }
+  where
+    none : (b : Bool) → place_sort b v None ≡ 0
+    none true = refl
+    none false = refl
 
 -- ---- terms
 
 abbrev TermBrings : STerm → Type 0
-TermBrings t = (here : Setting) (scope : List Variable) (v w : Vocabulary) (x : Sorted) → AreQuotable (names_of_term t) → denoted_term here scope t v ≡ Ok (x, w) → Brings v w
+TermBrings t = (here : Setting) (scope : List Variable) (asked : Option ℕ) (v w : Vocabulary) (x : Sorted) → AreQuotable (names_of_term t) → denoted_term here scope t asked v ≡ Ok (x, w) → Brings v w
 
 module _ (here : Setting) (scope : List Variable) (number : ℕ) where
   one_argument : (place : ℕ) (t : STerm) (v w : Vocabulary) (y : Term) → TermBrings t → AreQuotable (names_of_term t) → argument number place (denoted_term here scope t) v ≡ Ok (y, w) → Brings v w
   one_argument place t v w y brings names e =
-      let parts = then_ok (denoted_term here scope t v) (fitting number place) y w e in
-      by parts.0 parts.1 (brings here scope v parts.1 parts.0 names parts.2) (is_sort (argument_sort parts.1 number place) parts.0.sort) parts.3
+      let asked = argument_sort v number place in
+      let parts = then_ok (denoted_term here scope t asked v) (fitting number place) y w e in
+      by parts.0 parts.1 (brings here scope asked v parts.1 parts.0 names parts.2) (is_sort (argument_sort parts.1 number place) parts.0.sort) parts.3
     where
       by : (x : Sorted) (u : Vocabulary) → Brings v u → (b : Bool) → ◌≡◌ {A = Outcome SortRule Vocabulary Term} (cond b (Ok (x.term, u)) (Err WrongSort)) (Ok (y, w)) → Brings v w
       by x u brought false k = absurd (cc)
@@ -106,19 +118,19 @@ module _ (here : Setting) (scope : List Variable) (number : ℕ) where
 terms_bring : (t : STerm) → TermBrings t
 terms_bring = term_induction TermBrings (record { var = of_variable; app = of_application })
   where
-    of_variable : (name : Text) (here : Setting) (scope : List Variable) (v w : Vocabulary) (x : Sorted) → AreQuotable (names_of_term (tm.Var name)) → denoted_term here scope (tm.Var name) v ≡ Ok (x, w) → Brings v w
-    of_variable name here scope v w x names e = by (nearest scope name) (rw denoted_term-Var at e)
+    of_variable : (name : Text) (here : Setting) (scope : List Variable) (asked : Option ℕ) (v w : Vocabulary) (x : Sorted) → AreQuotable (names_of_term (tm.Var name)) → denoted_term here scope (tm.Var name) asked v ≡ Ok (x, w) → Brings v w
+    of_variable name here scope asked v w x names e = by (nearest scope name) (rw denoted_term-Var at e)
       where
         by : (o : Option (ℕ × ℕ)) → variable_at here.outside o v ≡ Ok (x, w) → Brings v w
         by None k = absurd (cc)
         by (Some p) k = at_ok {E = SortRule} (λ (y : Sorted) u. Brings v u) (record { term = Var p.0; sort = p.1 }) x v w k (brings_nothing v)
 
     of_application : (f : Text) (ts : List STerm) → AllByRecursion TermBrings ts → TermBrings (tm.App f ts)
-    of_application f ts all here scope v w x names e =
+    of_application f ts all here scope asked v w x names e =
         let own : AreQuotable (f ∷ together (map names_of_term ts)) = rw names-App at names in
-        let parts = then_ok (head here.declared f Function (length ts) v) (λ g u. mapped (made g (result_sort u g)) (each (λ place t. argument g place (denoted_term here scope t)) 0 ts u)) x w (rw denoted_term-App at e) in
+        let parts = then_ok (head here.declared f Function (length ts) (new_function here scope v f ts asked) v) (λ g u. mapped (made g (result_sort u g)) (each (λ place t. argument g place (denoted_term here scope t)) 0 ts u)) x w (rw denoted_term-App at e) in
         let made_of = mapped_ok (made parts.0 (result_sort parts.1 parts.0)) (each (λ place t. argument parts.0 place (denoted_term here scope t)) 0 ts parts.1) x w parts.3 in
-        brings_on v parts.1 w (head_brings here.declared f Function (length ts) v parts.1 parts.0 own.0 parts.2)
+        brings_on v parts.1 w (head_brings here.declared f Function (length ts) (new_function here scope v f ts asked) v parts.1 parts.0 (function_named here scope v f ts asked own.0) parts.2)
         (arguments_bring here scope parts.0 ts 0 parts.1 w made_of.0 all (quotable_in_each names_of_term ts own.1) made_of.1)
 
 each_brings : (ts : List STerm) → AllByRecursion TermBrings ts
@@ -129,17 +141,18 @@ each_brings (t ∷ ts) = (terms_bring t, each_brings ts)
 
 atom_brings : (here : Setting) (scope : List Variable) (p : Text) (ts : List STerm) (v w : Vocabulary) (a : Form) → AreQuotable (p ∷ together (map names_of_term ts)) → atom here scope p ts v ≡ Ok (a, w) → Brings v w
 atom_brings here scope p ts v w a names e =
-    let parts = then_ok (head here.declared p Predicate (length ts) v) (λ g u. mapped (Atom g) (each (λ place t. argument g place (denoted_term here scope t)) 0 ts u)) a w e in
+    let parts = then_ok (head here.declared p Predicate (length ts) (new_predicate here scope v p ts) v) (λ g u. mapped (Atom g) (each (λ place t. argument g place (denoted_term here scope t)) 0 ts u)) a w e in
     let made_of = mapped_ok (Atom parts.0) (each (λ place t. argument parts.0 place (denoted_term here scope t)) 0 ts parts.1) a w parts.3 in
-    brings_on v parts.1 w (head_brings here.declared p Predicate (length ts) v parts.1 parts.0 names.0 parts.2)
+    brings_on v parts.1 w (head_brings here.declared p Predicate (length ts) (new_predicate here scope v p ts) v parts.1 parts.0 (predicate_named here scope v p ts names.0) parts.2)
     (arguments_bring here scope parts.0 ts 0 parts.1 w made_of.0 (each_brings ts) (quotable_in_each names_of_term ts names.1) made_of.1)
 
 equation_brings : (here : Setting) (scope : List Variable) (l r : STerm) (v w : Vocabulary) (a : Form) → AreQuotable (names_of_term l ++ names_of_term r) → equation here scope l r v ≡ Ok (a, w) → Brings v w
 equation_brings here scope l r v w a names e =
     let own = quotable_parts (names_of_term l) (names_of_term r) names in
-    let left = then_ok (denoted_term here scope l v) (λ x u. and_then (denoted_term here scope r u) (equal x)) a w e in
-    let right = then_ok (denoted_term here scope r left.1) (equal left.0) a w left.3 in
-    by left.0 right.0 right.1 (brings_on v left.1 right.1 (terms_bring l here scope v left.1 left.0 own.0 left.2) (terms_bring r here scope left.1 right.1 right.0 own.1 right.2)) (left.0.sort == right.0.sort) right.3
+    let known = known_sort scope v r in
+    let left = then_ok (denoted_term here scope l known v) (λ x u. and_then (denoted_term here scope r (Some x.sort) u) (equal x)) a w e in
+    let right = then_ok (denoted_term here scope r (Some left.0.sort) left.1) (equal left.0) a w left.3 in
+    by left.0 right.0 right.1 (brings_on v left.1 right.1 (terms_bring l here scope known v left.1 left.0 own.0 left.2) (terms_bring r here scope (Some left.0.sort) left.1 right.1 right.0 own.1 right.2)) (left.0.sort == right.0.sort) right.3
   where
     by : (x y : Sorted) (u : Vocabulary) → Brings v u → (b : Bool) → ◌≡◌ {A = Outcome SortRule Vocabulary Form} (cond b (Ok (Eq x.term y.term, u)) (Err WrongSort)) (Ok (a, w)) → Brings v w
     by x y u brought false k = absurd (cc)

@@ -1,6 +1,7 @@
 -- The equations of what terms and formulas denote.
-use Rattle.std.specs.Prelude.{ℕ, ◌+◌, List, [], ◌∷◌, ◌≡◌, length, map, Ok, Err, refl}
+use Rattle.std.specs.Prelude.{ℕ, ◌+◌, List, [], ◌∷◌, ◌≡◌, length, map, Option, None, Ok, Err, refl}
 use Rattle.std.proofs.Common.{ap, ◌∙◌, suc}
+use Rattle.std.proofs.lemmas.Simd.{map-map}
 use denote.Hole.Carrier.{roll}
 use Rattle.tptp_base.specs.declared.surface.STerm.{STerm}
 use Rattle.tptp_base.specs.declared.surface.STerm.TheViews.{roll-STerm}
@@ -11,13 +12,14 @@ use Rattle.tptp_base.specs.declared.surface.Surface.TheFolds.{fold-Surface, fold
 use Rattle.tptp_base.specs.declared.surface.BoundVar.{BoundVar}
 use Rattle.tptp_base.specs.declared.surface.BinOp.{BinOp}
 use Rattle.tptp_base.specs.declared.surface.Quant.{Quant}
-use Rattle.fof_terms.specs.Vocabulary.{Vocabulary}
-use Rattle.fof_terms.specs.declared.signature.Kind.TheVariants.{Function}
+use Rattle.fof_terms.specs.Vocabulary.{Vocabulary, found_symbol}
+use Rattle.fof_terms.specs.declared.signature.Symbol.{Symbol}
+use Rattle.fof_terms.specs.declared.signature.Kind.TheVariants.{Function, Predicate}
 use Rattle.fof_terms.specs.declared.form.Form.{Not, And, Or}
 use Rattle.sort_check.specs.declared.scope.Variable.{Variable}
 use Rattle.sort_check.specs.Outcomes.{Outcome, and_then, mapped, each}
-use Rattle.sort_check.specs.Symbols.{Text, head, result_sort}
-use Rattle.sort_check.specs.Denotation.{Setting, State, Meaning, TermOutcome, nearest, variable_at, argument, made, term_step, denoted_term, beside, atom, equation, joined, form_step, denoted_form}
+use Rattle.sort_check.specs.Symbols.{Text, new_symbol, head, result_sort}
+use Rattle.sort_check.specs.Denotation.{Setting, State, Meaning, TermOutcome, Walk, nearest, variable_at, variable_known, application_known, argument, made, term_step, walked, denoted_term, known_sort, beside, atom, equation, joined, form_step, denoted_form}
 use Rattle.sort_check.specs.code.Denotation.{bound}
 use Rattle.tptp_base.specs.declared.surface.STerm.TheVariants as tm
 use Rattle.tptp_base.specs.declared.surface.STerm.TheOpen as st
@@ -49,18 +51,37 @@ pub fold-App : (A : Type 0) (step : st.STerm-F A → A) (f : Text) (ts : List ST
 unfolding roll-STerm roll
 fold-App A step f ts = fold-roll-STerm A step (st.App f ts)
 
-pub denoted_term-Var : (here : Setting) (scope : List Variable) (x : Text) (v : Vocabulary) → denoted_term here scope (tm.Var x) v ≡ variable_at here.outside (nearest scope x) v
-unfolding denoted_term
-denoted_term-Var here scope x v = ap (λ m. m v) (fold-Var (Vocabulary → TermOutcome) (term_step here scope) x)
+pub known_sort-Var : (scope : List Variable) (v : Vocabulary) (x : Text) → known_sort scope v (tm.Var x) ≡ variable_known (nearest scope x)
+unfolding walked
+known_sort-Var scope v x = ap (λ (m : Walk). m.known v) (fold-Var Walk (term_step scope) x)
 
-pub denoted_term-App : (here : Setting) (scope : List Variable) (f : Text) (ts : List STerm) (v : Vocabulary) → denoted_term here scope (tm.App f ts) v
-    ≡ and_then (head here.declared f Function (length ts) v) (λ g w. mapped (made g (result_sort w g)) (each (λ place t. argument g place (denoted_term here scope t)) 0 ts w))
-unfolding denoted_term
-denoted_term-App here scope f ts v =
-    let by = denoted_term here scope in
-    ap (λ m. m v) (fold-App (Vocabulary → TermOutcome) (term_step here scope) f ts)
-    ∙ ap (λ n. and_then (head here.declared f Function n v) (λ g w. mapped (made g (result_sort w g)) (each (argument g) 0 (map by ts) w))) (length-map by ts)
-    ∙ same_then (head here.declared f Function (length ts) v) _ _ (λ g w. ap (mapped (made g (result_sort w g))) (each-map (argument g) by 0 ts w))
+pub known_sort-App : (scope : List Variable) (v : Vocabulary) (f : Text) (ts : List STerm) → known_sort scope v (tm.App f ts) ≡ application_known v (found_symbol v f Function (length ts))
+unfolding walked
+known_sort-App scope v f ts = ap (λ (m : Walk). m.known v) (fold-App Walk (term_step scope) f ts) ∙ ap (λ n. application_known v (found_symbol v f Function n)) (length-map (walked scope) ts)
+
+pub ruleset known_equations = (known_sort-Var, known_sort-App)
+
+pub denoted_term-Var : (here : Setting) (scope : List Variable) (x : Text) (asked : Option ℕ) (v : Vocabulary) → denoted_term here scope (tm.Var x) asked v ≡ variable_at here.outside (nearest scope x) v
+unfolding walked
+denoted_term-Var here scope x asked v = ap (λ (m : Walk). m.denotes here asked v) (fold-Var Walk (term_step scope) x)
+
+-- the symbols that new heads become
+abbrev pub new_function : Setting → List Variable → Vocabulary → Text → List STerm → Option ℕ → Symbol
+new_function here scope v f ts asked = new_symbol here.by_place v f Function (map (known_sort scope v) ts) asked
+
+abbrev pub new_predicate : Setting → List Variable → Vocabulary → Text → List STerm → Symbol
+new_predicate here scope v p ts = new_symbol here.by_place v p Predicate (map (known_sort scope v) ts) None
+
+pub denoted_term-App : (here : Setting) (scope : List Variable) (f : Text) (ts : List STerm) (asked : Option ℕ) (v : Vocabulary) → denoted_term here scope (tm.App f ts) asked v
+    ≡ and_then (head here.declared f Function (length ts) (new_function here scope v f ts asked) v) (λ g w. mapped (made g (result_sort w g)) (each (λ place t. argument g place (denoted_term here scope t)) 0 ts w))
+unfolding walked
+denoted_term-App here scope f ts asked v =
+    let by = walked scope in
+    let of : List Walk → ℕ → Symbol → TermOutcome = λ ws n new. and_then (head here.declared f Function n new v) (λ g w. mapped (made g (result_sort w g)) (each (λ place (t : Walk). argument g place (t.denotes here)) 0 ws w)) in
+    ap (λ (m : Walk). m.denotes here asked v) (fold-App Walk (term_step scope) f ts)
+    ∙ ap (λ n. of (map by ts) n (new_symbol here.by_place v f Function (map (λ (t : Walk). t.known v) (map by ts)) asked)) (length-map by ts)
+    ∙ ap (λ (told : List (Option ℕ)). of (map by ts) (length ts) (new_symbol here.by_place v f Function told asked)) (map-map (λ (t : Walk). t.known v) by ts)
+    ∙ same_then (head here.declared f Function (length ts) (new_function here scope v f ts asked) v) _ _ (λ g w. ap (mapped (made g (result_sort w g))) (each-map (λ place (t : Walk). argument g place (t.denotes here)) by 0 ts w))
 
 pub ruleset term_equations = (denoted_term-Var, denoted_term-App)
 

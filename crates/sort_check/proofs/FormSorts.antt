@@ -28,13 +28,13 @@ use Rattle.sort_check.specs.declared.scope.Variable.{Variable}
 use Rattle.sort_check.specs.declared.terms.Sorted.{Sorted}
 use Rattle.sort_check.specs.Outcomes.{Outcome, and_then, mapped, each}
 use Rattle.sort_check.specs.Symbols.{Text, head, known}
-use Rattle.sort_check.specs.Denotation.{Setting, State, beside, atom, equal, equation, joined, variable_sort, bound_variable, quantified, closed, argument, denoted_term, denoted_form}
+use Rattle.sort_check.specs.Denotation.{Setting, State, beside, atom, equal, equation, joined, variable_sort, bound_variable, quantified, closed, argument, denoted_term, known_sort, denoted_form}
 use Rattle.sort_check.specs.code.Denotation.{bound}
-use Rattle.sort_check.proofs.Equations.{denoted_form-True, denoted_form-False, denoted_form-Atom, denoted_form-Eq, denoted_form-Neq, denoted_form-Not, denoted_form-And, denoted_form-Or, denoted_form-Binary, denoted_form-Bind}
+use Rattle.sort_check.proofs.Equations.{new_predicate, denoted_form-True, denoted_form-False, denoted_form-Atom, denoted_form-Eq, denoted_form-Neq, denoted_form-Not, denoted_form-And, denoted_form-Or, denoted_form-Binary, denoted_form-Bind}
 use Rattle.sort_check.specs.Sorting.{Extends}
 use Rattle.sort_check.proofs.Inducing.{form_induction}
 use Rattle.sort_check.proofs.Stepping.{at_ok, then_ok, mapped_ok}
-use Rattle.sort_check.proofs.TermSorts.{sorts_of, sorts_over-append, grows_not, grows_on, kept_sort, head_ok, HasSort, terms_fit, arguments_fit}
+use Rattle.sort_check.proofs.TermSorts.{sorts_of, sorts_over-append, grows_not, grows_on, kept_sort, head_of, HasSort, terms_fit, arguments_fit}
 
 -- The formula is well-sorted in the vocabulary behind it, and all that it binds was counted.
 pub record IsDenoted (s t : State) (scope : List ℕ) (a : Form) : Type 0 where
@@ -49,14 +49,14 @@ pub record IsPlain (v w : Vocabulary) (scope : List ℕ) (a : Form) : Type 0 whe
   pub depth : binder_depth a ≡ 0
   pub fits : is_sorted w scope a ≡ true
 
-terms_of_each : (ts : List STerm) → AllByRecursion (λ t. (here : Setting) (scope : List Variable) (v w : Vocabulary) (x : Sorted) → denoted_term here scope t v ≡ Ok (x, w) → HasSort v w (sorts_of scope) x) ts
+terms_of_each : (ts : List STerm) → AllByRecursion (λ t. (here : Setting) (scope : List Variable) (asked : Option ℕ) (v w : Vocabulary) (x : Sorted) → denoted_term here scope t asked v ≡ Ok (x, w) → HasSort v w (sorts_of scope) x) ts
 terms_of_each [] = tt
 terms_of_each (t ∷ ts) = (terms_fit t, terms_of_each ts)
 
 atom_fits : (here : Setting) (scope : List Variable) (p : Text) (ts : List STerm) (v w : Vocabulary) (a : Form) → atom here scope p ts v ≡ Ok (a, w) → IsPlain v w (sorts_of scope) a
 atom_fits here scope p ts v w a e =
-    let parts = then_ok (head here.declared p Predicate (length ts) v) (λ g u. mapped (Atom g) (each (λ place t. argument g place (denoted_term here scope t)) 0 ts u)) a w e in
-    let found = head_ok here.declared p Predicate (length ts) v parts.1 parts.0 parts.2 in
+    let parts = then_ok (head here.declared p Predicate (length ts) (new_predicate here scope v p ts) v) (λ g u. mapped (Atom g) (each (λ place t. argument g place (denoted_term here scope t)) 0 ts u)) a w e in
+    let found = head_of here scope p Predicate ts None v parts.1 parts.0 parts.2 in
     let made_of = mapped_ok (Atom parts.0) (each (λ place t. argument parts.0 place (denoted_term here scope t)) 0 ts parts.1) a w parts.3 in
     let fit = arguments_fit here scope parts.0 found.symbol ts 0 parts.1 w made_of.0 (terms_of_each ts) found.at (omega (arith, found.args)) made_of.1 in
     let fits : is_sorted w (sorts_of scope) (Atom parts.0 made_of.0) ≡ true =
@@ -72,10 +72,11 @@ atom_fits here scope p ts v w a e =
 
 equation_fits : (here : Setting) (scope : List Variable) (l r : STerm) (v w : Vocabulary) (a : Form) → equation here scope l r v ≡ Ok (a, w) → IsPlain v w (sorts_of scope) a
 equation_fits here scope l r v w a e =
-    let left = then_ok (denoted_term here scope l v) (λ x u. and_then (denoted_term here scope r u) (equal x)) a w e in
-    let right = then_ok (denoted_term here scope r left.1) (equal left.0) a w left.3 in
-    let one = terms_fit l here scope v left.1 left.0 left.2 in
-    let two = terms_fit r here scope left.1 right.1 right.0 right.2 in
+    let known = known_sort scope v r in
+    let left = then_ok (denoted_term here scope l known v) (λ x u. and_then (denoted_term here scope r (Some x.sort) u) (equal x)) a w e in
+    let right = then_ok (denoted_term here scope r (Some left.0.sort) left.1) (equal left.0) a w left.3 in
+    let one = terms_fit l here scope known v left.1 left.0 left.2 in
+    let two = terms_fit r here scope (Some left.0.sort) left.1 right.1 right.0 right.2 in
     let sort : sort_of_term right.1 (sorts_of scope) left.0.term ≡ Some left.0.sort = kept_sort left.1 right.1 two.grows (sorts_of scope) left.0.term left.0.sort one.sort in
     by left.0 right.0 right.1 sort two.sort (grows_on v left.1 right.1 one.grows two.grows) (left.0.sort == right.0.sort) refl right.3
   where

@@ -1,5 +1,7 @@
 pub mod Alike
 pub mod Bringing
+pub mod ByPlace
+pub mod LinesByPlace
 pub mod Closings
 pub mod Declaring
 pub mod FormSorts

@@ -30,8 +30,8 @@ use Rattle.sort_check.specs.declared.line.TextKind.{TextKind}
 use Rattle.sort_check.specs.Bringing.{IsNamed, Brings}
 use Rattle.sort_check.specs.Outcomes.{Outcome, and_then, mapped, each}
 use Rattle.sort_check.specs.Symbols.{Text, named_sort, with_name}
-use Rattle.sort_check.specs.Denotation.{Setting, State, denoted_form, closed, clause_scope, without_count, sentence, clause, formula}
-use Rattle.sort_check.specs.Texts.{Declared, sort_at, declared_sort, symbol_named, symbol_of, result_named, result_kind, differs, found_or_added, declared_symbol, typed, typed_body, at_line, type_item, type_lines, Reading, is_conjecture, is_single, line_of, reading, body_form, line_form, line, line_item, with_line, lines_from, only_vocabulary, denoted}
+use Rattle.sort_check.specs.Denotation.{State, denoted_form, closed, clause_scope, without_count, outermost, sentence, clause, formula}
+use Rattle.sort_check.specs.Texts.{Declared, sort_at, declared_sort, symbol_named, symbol_of, result_named, result_kind, differs, found_or_added, declared_symbol, typed, typed_body, at_line, type_item, type_lines, Reading, is_conjecture, is_single, line_of, reading, is_by_place, body_form, line_form, line, line_item, with_line, lines_from, only_vocabulary, denoted}
 use Rattle.tptp_base.specs.Roles.{is_typing}
 use Rattle.sort_check.proofs.Stepping.{at_ok, then_ok, mapped_ok}
 use Rattle.sort_check.proofs.Bringing.{brings_nothing, brings_on, brings_sort, with_symbol_brings, forms_bring}
@@ -39,40 +39,41 @@ use Rattle.sort_check.proofs.LineSorts.{counted_ok, reading_ok, at_line_ok, symb
 
 -- ---- whole formulas
 
-module _ (names : List Text) (f : Surface) (v w : Vocabulary) (a : Form) (quotable : AreQuotable (names_of_form f)) where
-  sentence_brings : sentence names f v ≡ Ok (a, w) → Brings v w
+module _ (by_place : Bool) (names : List Text) (f : Surface) (v w : Vocabulary) (a : Form) (quotable : AreQuotable (names_of_form f)) where
+  sentence_brings : sentence by_place names f v ≡ Ok (a, w) → Brings v w
   sentence_brings e =
-      let here : Setting = record { declared = names; outside = FreeVariable } in
+      let here = outermost by_place names FreeVariable in
       let start : State = record { vocabulary = v; bound = 0 } in
       let inner = counted_ok (denoted_form here f [] start) a w e in
       subst (Brings v) inner.2 (forms_bring f here [] start inner.0 a quotable inner.1)
 
-  clause_brings : clause names f v ≡ Ok (a, w) → Brings v w
+  clause_brings : clause by_place names f v ≡ Ok (a, w) → Brings v w
   clause_brings e =
-      let here : Setting = record { declared = names; outside = Variables } in
+      let here = outermost by_place names Variables in
       let start : State = record { vocabulary = v; bound = 0 } in
       let scope = clause_scope f in
       let last = mapped_ok (closed q.All scope) (without_count (denoted_form here f scope start)) a w e in
       let inner = counted_ok (denoted_form here f scope start) last.0 w last.1 in
       subst (Brings v) inner.2 (forms_bring f here scope start inner.0 last.0 quotable inner.1)
 
-  formula_brings : (l : Lang) → formula l names f v ≡ Ok (a, w) → Brings v w
+  formula_brings : (l : Lang) → formula by_place l names f v ≡ Ok (a, w) → Brings v w
   formula_brings lang.Cnf e = clause_brings e
   formula_brings lang.Fof e = sentence_brings e
   formula_brings lang.Tff e = sentence_brings e
+  formula_brings lang.Tcf e = sentence_brings e
 
 -- ---- the lines of other roles
 
-body_brings : (names : List Text) (l : Annotated) (b : Body) (v w : Vocabulary) (a : Form) → AreQuotable (names_of_body b) → body_form names l b v ≡ Ok (a, w) → Brings v w
-body_brings names l (body.Logic f) v w a quotable e = formula_brings names f v w a quotable l.lang e
-body_brings names l (body.Typing t) v w a quotable e = absurd (cc)
+body_brings : (kind : TextKind) (names : List Text) (l : Annotated) (b : Body) (v w : Vocabulary) (a : Form) → AreQuotable (names_of_body b) → body_form kind names l b v ≡ Ok (a, w) → Brings v w
+body_brings kind names l (body.Logic f) v w a quotable e = formula_brings (is_by_place kind) names f v w a quotable l.lang e
+body_brings kind names l (body.Typing t) v w a quotable e = absurd (cc)
 
 line_form_brings : (kind : TextKind) (names : List Text) (l : Annotated) (s t : Reading) (a : Form) → AreQuotable (names_of_body l.body) → line_form kind names l s ≡ Ok (a, t) → Brings s.vocabulary t.vocabulary
 line_form_brings kind names l s t a quotable e = by (is_single kind && (is_conjecture l.role && s.conjectured)) e
   where
-    by : (b : Bool) → cond b (Err TwoConjectures) (reading (is_conjecture l.role || s.conjectured) (body_form names l l.body s.vocabulary)) ≡ Ok (a, t) → Brings s.vocabulary t.vocabulary
+    by : (b : Bool) → cond b (Err TwoConjectures) (reading (is_conjecture l.role || s.conjectured) (body_form kind names l l.body s.vocabulary)) ≡ Ok (a, t) → Brings s.vocabulary t.vocabulary
     by true k = absurd (cc)
-    by false k = body_brings names l l.body s.vocabulary t.vocabulary a quotable (reading_ok (is_conjecture l.role || s.conjectured) (body_form names l l.body s.vocabulary) a t k)
+    by false k = body_brings kind names l l.body s.vocabulary t.vocabulary a quotable (reading_ok (is_conjecture l.role || s.conjectured) (body_form kind names l l.body s.vocabulary) a t k)
 
 line_brings : (kind : TextKind) (names : List Text) (number : ℕ) (l : Annotated) (s t : Reading) (found : Option Line) → AreQuotable (names_of_body l.body) → line kind names number l s ≡ Ok (found, t) → Brings s.vocabulary t.vocabulary
 line_brings kind names number l s t found quotable e = by (is_typing l.role) e

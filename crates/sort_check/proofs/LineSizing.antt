@@ -23,8 +23,8 @@ use Rattle.sort_check.specs.declared.line.TextKind.{TextKind}
 use Rattle.sort_check.specs.Laws.{size_of_line, AreNoLarger}
 use Rattle.sort_check.specs.Outcomes.{Outcome, and_then, mapped}
 use Rattle.sort_check.specs.Symbols.{Text}
-use Rattle.sort_check.specs.Denotation.{Setting, State, denoted_form, closed, clause_scope, without_count, sentence, clause, formula}
-use Rattle.sort_check.specs.Texts.{Declared, at_line, type_lines, Reading, is_conjecture, is_single, line_of, reading, body_form, line_form, line, line_item, with_line, lines_from, only_vocabulary, denoted}
+use Rattle.sort_check.specs.Denotation.{State, denoted_form, closed, clause_scope, without_count, outermost, sentence, clause, formula}
+use Rattle.sort_check.specs.Texts.{Declared, at_line, type_lines, Reading, is_conjecture, is_single, line_of, reading, is_by_place, body_form, line_form, line, line_item, with_line, lines_from, only_vocabulary, denoted}
 use Rattle.tptp_base.specs.Roles.{is_typing}
 use Rattle.sort_check.proofs.Stepping.{at_ok, then_ok, mapped_ok}
 use Rattle.sort_check.proofs.LineSorts.{counted_ok, reading_ok, at_line_ok, only_ok}
@@ -37,19 +37,19 @@ record NoLarger (size form : Size) : Type 0 where
 
 -- ---- whole formulas
 
-module _ (names : List Text) (f : Surface) (v w : Vocabulary) (a : Form) where
-  sentence_fits : sentence names f v ≡ Ok (a, w) → NoLarger (size_of_form f) (form_size a)
+module _ (by_place : Bool) (names : List Text) (f : Surface) (v w : Vocabulary) (a : Form) where
+  sentence_fits : sentence by_place names f v ≡ Ok (a, w) → NoLarger (size_of_form f) (form_size a)
   sentence_fits e =
-      let here : Setting = record { declared = names; outside = FreeVariable } in
+      let here = outermost by_place names FreeVariable in
       let start : State = record { vocabulary = v; bound = 0 } in
       let inner = counted_ok (denoted_form here f [] start) a w e in
       let fits = forms_fit f here [] start inner.0 a inner.1 in
       let few = fits.variables [] in
       record { longest = fits.longest; variables = omega (arith, few) }
 
-  clause_fits : clause names f v ≡ Ok (a, w) → NoLarger (size_of_form f) (form_size a)
+  clause_fits : clause by_place names f v ≡ Ok (a, w) → NoLarger (size_of_form f) (form_size a)
   clause_fits e =
-      let here : Setting = record { declared = names; outside = Variables } in
+      let here = outermost by_place names Variables in
       let start : State = record { vocabulary = v; bound = 0 } in
       let scope = clause_scope f in
       let last = mapped_ok (closed q.All scope) (without_count (denoted_form here f scope start)) a w e in
@@ -59,23 +59,24 @@ module _ (names : List Text) (f : Surface) (v w : Vocabulary) (a : Form) where
       let whole = closed_size q.All scope last.0 in
       subst (λ (b : Form). NoLarger (size_of_form f) (form_size b)) last.2 (record { longest = omega (arith, whole.longest, fits.longest); variables = omega (arith, whole.variables, few, ap length (same_scope f)) })
 
-  formula_fits : (l : Lang) → formula l names f v ≡ Ok (a, w) → NoLarger (size_of_form f) (form_size a)
+  formula_fits : (l : Lang) → formula by_place l names f v ≡ Ok (a, w) → NoLarger (size_of_form f) (form_size a)
   formula_fits lang.Cnf e = clause_fits e
   formula_fits lang.Fof e = sentence_fits e
   formula_fits lang.Tff e = sentence_fits e
+  formula_fits lang.Tcf e = sentence_fits e
 
 -- ---- lines
 
-body_fits : (names : List Text) (l : Annotated) (b : Body) (v w : Vocabulary) (a : Form) → body_form names l b v ≡ Ok (a, w) → NoLarger (size_of_body b) (form_size a)
-body_fits names l (body.Logic f) v w a e = formula_fits names f v w a l.lang e
-body_fits names l (body.Typing t) v w a e = absurd (cc)
+body_fits : (kind : TextKind) (names : List Text) (l : Annotated) (b : Body) (v w : Vocabulary) (a : Form) → body_form kind names l b v ≡ Ok (a, w) → NoLarger (size_of_body b) (form_size a)
+body_fits kind names l (body.Logic f) v w a e = formula_fits (is_by_place kind) names f v w a l.lang e
+body_fits kind names l (body.Typing t) v w a e = absurd (cc)
 
 line_form_fits : (kind : TextKind) (names : List Text) (l : Annotated) (s t : Reading) (a : Form) → line_form kind names l s ≡ Ok (a, t) → NoLarger (size_of_body l.body) (form_size a)
 line_form_fits kind names l s t a e = by (is_single kind && (is_conjecture l.role && s.conjectured)) e
   where
-    by : (b : Bool) → cond b (Err TwoConjectures) (reading (is_conjecture l.role || s.conjectured) (body_form names l l.body s.vocabulary)) ≡ Ok (a, t) → NoLarger (size_of_body l.body) (form_size a)
+    by : (b : Bool) → cond b (Err TwoConjectures) (reading (is_conjecture l.role || s.conjectured) (body_form kind names l l.body s.vocabulary)) ≡ Ok (a, t) → NoLarger (size_of_body l.body) (form_size a)
     by true k = absurd (cc)
-    by false k = body_fits names l l.body s.vocabulary t.vocabulary a (reading_ok (is_conjecture l.role || s.conjectured) (body_form names l l.body s.vocabulary) a t k)
+    by false k = body_fits kind names l l.body s.vocabulary t.vocabulary a (reading_ok (is_conjecture l.role || s.conjectured) (body_form kind names l l.body s.vocabulary) a t k)
 
 -- that of a line, where there is one
 abbrev found_size : Option Line → Size

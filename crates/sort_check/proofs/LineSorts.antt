@@ -30,8 +30,8 @@ use Rattle.sort_check.specs.declared.line.TextKind.{TextKind}
 use Rattle.sort_check.specs.declared.scope.Variable.{Variable}
 use Rattle.sort_check.specs.Outcomes.{Outcome, and_then, mapped, each}
 use Rattle.sort_check.specs.Symbols.{Text, named_sort, with_symbol, known, with_name}
-use Rattle.sort_check.specs.Denotation.{Setting, State, denoted_form, closed, variables_of, each_once, clause_scope, without_count, sentence, clause, formula}
-use Rattle.sort_check.specs.Texts.{Declared, sort_at, declared_sort, symbol_named, symbol_of, result_named, result_kind, differs, found_or_added, declared_symbol, declaring, typed, typed_body, at_line, type_item, type_lines, Reading, is_conjecture, is_single, line_of, reading, body_form, line_form, line, line_item, with_line, lines_from, only_vocabulary, denoted, Gives}
+use Rattle.sort_check.specs.Denotation.{State, denoted_form, closed, variables_of, each_once, clause_scope, without_count, outermost, sentence, clause, formula}
+use Rattle.sort_check.specs.Texts.{Declared, sort_at, declared_sort, symbol_named, symbol_of, result_named, result_kind, differs, found_or_added, declared_symbol, declaring, typed, typed_body, at_line, type_item, type_lines, Reading, is_conjecture, is_single, line_of, reading, is_by_place, body_form, line_form, line, line_item, with_line, lines_from, only_vocabulary, denoted, Gives}
 use Rattle.tptp_base.specs.Roles.{is_typing}
 use Rattle.sort_check.specs.Sorting.{IsSentence, AreSorted, Extends}
 use Rattle.sort_check.proofs.Stepping.{at_ok, then_ok, mapped_ok}
@@ -78,18 +78,18 @@ pub counted_ok : (o : Outcome SortRule State Form) (a : Form) (w : Vocabulary) �
 counted_ok (Err x) a w e = absurd (cc)
 counted_ok (Ok p) a w e = at_ok {E = SortRule} (λ b u. (t : State) × (◌≡◌ {A = Outcome SortRule State Form} (Ok p) (Ok (b, t))) × (t.vocabulary ≡ u)) p.0 a p.1.vocabulary w e (p.1, refl, refl)
 
-sentence_fits : (names : List Text) (f : Surface) (v w : Vocabulary) (a : Form) → 0 < length v.sorts → sentence names f v ≡ Ok (a, w) → IsWhole v w a
-sentence_fits names f v w a some e =
-    let here : Setting = record { declared = names; outside = FreeVariable } in
+sentence_fits : (by_place : Bool) (names : List Text) (f : Surface) (v w : Vocabulary) (a : Form) → 0 < length v.sorts → sentence by_place names f v ≡ Ok (a, w) → IsWhole v w a
+sentence_fits by_place names f v w a some e =
+    let here = outermost by_place names FreeVariable in
     let start : State = record { vocabulary = v; bound = 0 } in
     let inner = counted_ok (denoted_form here f [] start) a w e in
     let good = forms_fit f here [] start inner.0 a some inner.1 in
     let few : inner.0.bound ≤ 250 = good.few (omega arith) in
     subst (λ (u : Vocabulary). IsWhole v u a) inner.2 (whole v inner.0.vocabulary a good.grows (omega (arith, good.depth, few)) good.fits)
 
-clause_fits : (names : List Text) (f : Surface) (v w : Vocabulary) (a : Form) → 0 < length v.sorts → clause names f v ≡ Ok (a, w) → IsWhole v w a
-clause_fits names f v w a some e =
-    let here : Setting = record { declared = names; outside = Variables } in
+clause_fits : (by_place : Bool) (names : List Text) (f : Surface) (v w : Vocabulary) (a : Form) → 0 < length v.sorts → clause by_place names f v ≡ Ok (a, w) → IsWhole v w a
+clause_fits by_place names f v w a some e =
+    let here = outermost by_place names Variables in
     let start : State = record { vocabulary = v; bound = 0 } in
     let scope = clause_scope f in
     let vars = scope_fits f in
@@ -102,10 +102,11 @@ clause_fits names f v w a some e =
     let fits : is_sorted inner.0.vocabulary [] (closed q.All scope last.0) ≡ true = closed_fits q.All scope [] inner.0.vocabulary last.0 known good.fits in
     subst (λ (u : Vocabulary). IsWhole v u a) inner.2 (subst (IsWhole v inner.0.vocabulary) last.2 (whole v inner.0.vocabulary (closed q.All scope last.0) good.grows deep fits))
 
-formula_fits : (l : Lang) (names : List Text) (f : Surface) (v w : Vocabulary) (a : Form) → 0 < length v.sorts → formula l names f v ≡ Ok (a, w) → IsWhole v w a
-formula_fits lang.Cnf names f v w a some e = clause_fits names f v w a some e
-formula_fits lang.Fof names f v w a some e = sentence_fits names f v w a some e
-formula_fits lang.Tff names f v w a some e = sentence_fits names f v w a some e
+formula_fits : (by_place : Bool) (l : Lang) (names : List Text) (f : Surface) (v w : Vocabulary) (a : Form) → 0 < length v.sorts → formula by_place l names f v ≡ Ok (a, w) → IsWhole v w a
+formula_fits by_place lang.Cnf names f v w a some e = clause_fits by_place names f v w a some e
+formula_fits by_place lang.Fof names f v w a some e = sentence_fits by_place names f v w a some e
+formula_fits by_place lang.Tff names f v w a some e = sentence_fits by_place names f v w a some e
+formula_fits by_place lang.Tcf names f v w a some e = sentence_fits by_place names f v w a some e
 
 -- ---- the lines of other roles
 
@@ -121,9 +122,9 @@ pub record IsItemFit (v w : Vocabulary) (found : Option Line) : Type 0 where
 abbrev ReadingOutcome : Type 0
 ReadingOutcome = Outcome SortRule Reading Form
 
-body_fits : (names : List Text) (l : Annotated) (b : Body) (v w : Vocabulary) (a : Form) → 0 < length v.sorts → body_form names l b v ≡ Ok (a, w) → IsWhole v w a
-body_fits names l (body.Logic f) v w a some e = formula_fits l.lang names f v w a some e
-body_fits names l (body.Typing t) v w a some e = absurd (cc)
+body_fits : (kind : TextKind) (names : List Text) (l : Annotated) (b : Body) (v w : Vocabulary) (a : Form) → 0 < length v.sorts → body_form kind names l b v ≡ Ok (a, w) → IsWhole v w a
+body_fits kind names l (body.Logic f) v w a some e = formula_fits (is_by_place kind) l.lang names f v w a some e
+body_fits kind names l (body.Typing t) v w a some e = absurd (cc)
 
 pub reading_ok : (conjectured : Bool) (o : Outcome SortRule Vocabulary Form) (a : Form) (t : Reading) → reading conjectured o ≡ Ok (a, t) → o ≡ Ok (a, t.vocabulary)
 reading_ok conjectured (Err x) a t e = absurd (cc)
@@ -132,9 +133,9 @@ reading_ok conjectured (Ok p) a t e = at_ok {E = SortRule} (λ b (u : Reading). 
 line_form_fits : (kind : TextKind) (names : List Text) (l : Annotated) (s t : Reading) (a : Form) → 0 < length s.vocabulary.sorts → line_form kind names l s ≡ Ok (a, t) → IsWhole s.vocabulary t.vocabulary a
 line_form_fits kind names l s t a some e = by (is_single kind && (is_conjecture l.role && s.conjectured)) e
   where
-    by : (b : Bool) → cond b (Err TwoConjectures) (reading (is_conjecture l.role || s.conjectured) (body_form names l l.body s.vocabulary)) ≡ Ok (a, t) → IsWhole s.vocabulary t.vocabulary a
+    by : (b : Bool) → cond b (Err TwoConjectures) (reading (is_conjecture l.role || s.conjectured) (body_form kind names l l.body s.vocabulary)) ≡ Ok (a, t) → IsWhole s.vocabulary t.vocabulary a
     by true k = absurd (cc)
-    by false k = body_fits names l l.body s.vocabulary t.vocabulary a some (reading_ok (is_conjecture l.role || s.conjectured) (body_form names l l.body s.vocabulary) a t k)
+    by false k = body_fits kind names l l.body s.vocabulary t.vocabulary a some (reading_ok (is_conjecture l.role || s.conjectured) (body_form kind names l l.body s.vocabulary) a t k)
 
 pub at_line_ok : {S A : Type 0} (l : Annotated) (o : Outcome SortRule S A) (x : A) (t : S) → at_line l o ≡ Ok (x, t) → o ≡ Ok (x, t)
 at_line_ok {S = S} {A = A} l (Ok p) x t e = at_ok {E = SortFault} (λ y u. ◌≡◌ {A = Outcome SortRule S A} (Ok p) (Ok (y, u))) p.0 x p.1 t e refl

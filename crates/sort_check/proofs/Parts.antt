@@ -1,5 +1,5 @@
 -- What comes of a whole where it is known what comes of its parts.
-use Rattle.std.proofs.Common.{◌≡◌, ℕ, ◌+◌, ◌==◌, ◌++◌, List, [], ◌∷◌, length, Ok, Err, if◌then◌else◌, ◌≤◌, sym, ◌∙◌, ap, arith}
+use Rattle.std.proofs.Common.{◌≡◌, ℕ, ◌+◌, ◌==◌, ◌++◌, List, [], ◌∷◌, length, Option, Ok, Err, if◌then◌else◌, ◌≤◌, sym, ◌∙◌, ap, arith}
 use Rattle.tptp_base.specs.declared.limit.LimitName.{LimitName}
 use Rattle.tptp_base.specs.declared.limit.LimitName.TheVariants.{Symbols}
 use Rattle.tptp_base.specs.declared.surface.STerm.{STerm}
@@ -22,7 +22,7 @@ use Rattle.sort_check.specs.code.Reach.{Reach}
 use Rattle.sort_check.specs.Symbols.{Text, head, with_symbol, result_sort}
 use Rattle.sort_check.specs.Denotation.{Setting, State, TermOutcome, argument, denoted_term, made, beside, atom, denoted_form}
 use Rattle.sort_check.specs.code.Denotation.{setting}
-use Rattle.sort_check.proofs.Equations.{denoted_term-App, denoted_form-And, denoted_form-Or}
+use Rattle.sort_check.proofs.Equations.{new_function, new_predicate, denoted_term-App, denoted_form-And, denoted_form-Or}
 
 pub full : (s : Symbol) (v : Vocabulary) (limit : LimitName) → limit ≡ Symbols → length v.symbols ≡ 16777216 → with_symbol s v ≡ Err (Limit limit)
 full s v limit l e =
@@ -38,32 +38,32 @@ stops_as o whole h stop.Memory k = tt
 abbrev pub arguments : Setting → List Variable → ℕ → List STerm → Vocabulary → Outcome SortRule Vocabulary (List Term)
 arguments here scope g ts w = each (λ place t. argument g place (denoted_term here scope t)) 0 ts w
 
-module _ (here : Setting) (scope : List Variable) (t : STerm) (f name : Text) (ts seen : List STerm) (n : ℕ) (v w : Vocabulary) (g : ℕ) (is : t ≡ tm.App f ts) (name_is : name ≡ f) (count : n ≡ length ts) (seen_is : seen ≡ ts)
-    (found : head here.declared name Function n v ≡ Ok (g, w)) where
-  app_is : denoted_term here scope t v ≡ mapped (made g (result_sort w g)) (arguments here scope g seen w)
+module _ (here : Setting) (scope : List Variable) (t : STerm) (f name : Text) (ts heads seen : List STerm) (asked : Option ℕ) (v w : Vocabulary) (g : ℕ) (is : t ≡ tm.App f ts) (name_is : name ≡ f) (heads_is : heads ≡ ts) (seen_is : seen ≡ ts)
+    (found : head here.declared name Function (length heads) (new_function here scope v name heads asked) v ≡ Ok (g, w)) where
+  app_is : denoted_term here scope t asked v ≡ mapped (made g (result_sort w g)) (arguments here scope g seen w)
   app_is =
       let after : Outcome SortRule Vocabulary ℕ → TermOutcome = λ o. and_then o (λ h u. mapped (made h (result_sort u h)) (arguments here scope h ts u)) in
-      let at : Text → ℕ → TermOutcome = λ x k. after (head here.declared x Function k v) in
-      ap (λ (x : STerm). denoted_term here scope x v) is
-      ∙ denoted_term-App here scope f ts v
-      ∙ ap (λ (x : Text). at x (length ts)) (sym name_is)
-      ∙ ap (λ k. at name k) (sym count)
+      let at : Text → List STerm → TermOutcome = λ x xs. after (head here.declared x Function (length xs) (new_function here scope v x xs asked) v) in
+      ap (λ (x : STerm). denoted_term here scope x asked v) is
+      ∙ denoted_term-App here scope f ts asked v
+      ∙ ap (λ (x : Text). at x ts) (sym name_is)
+      ∙ ap (λ (xs : List STerm). at name xs) (sym heads_is)
       ∙ ap after found
       ∙ ap (λ (xs : List STerm). mapped (made g (result_sort w g)) (arguments here scope g xs w)) (sym seen_is)
 
-  pub app_ok : (args : List Term) (u : Vocabulary) (sort : ℕ) → sort ≡ result_sort w g → arguments here scope g seen w ≡ Ok (args, u) → denoted_term here scope t v ≡ Ok (record { term = App g args; sort = sort }, u)
+  pub app_ok : (args : List Term) (u : Vocabulary) (sort : ℕ) → sort ≡ result_sort w g → arguments here scope g seen w ≡ Ok (args, u) → denoted_term here scope t asked v ≡ Ok (record { term = App g args; sort = sort }, u)
   app_ok args u sort sort_is e =
       let result : ℕ → TermOutcome = λ s. Ok (record { term = App g args; sort = s }, u) in
       app_is ∙ ap (mapped (made g (result_sort w g))) e ∙ ap result (sym sort_is)
 
-  pub app_fails : (e : Stop) → Stops (arguments here scope g seen w) e → Stops (denoted_term here scope t v) e
-  app_fails = stops_as (arguments here scope g seen w) (denoted_term here scope t v) (λ r k. app_is ∙ ap (mapped (made g (result_sort w g))) k)
+  pub app_fails : (e : Stop) → Stops (arguments here scope g seen w) e → Stops (denoted_term here scope t asked v) e
+  app_fails = stops_as (arguments here scope g seen w) (denoted_term here scope t asked v) (λ r k. app_is ∙ ap (mapped (made g (result_sort w g))) k)
 
-module _ (here : Setting) (scope : List Variable) (p : Text) (ts : List STerm) (n : ℕ) (v w : Vocabulary) (g bound : ℕ) (count : n ≡ length ts) (found : head here.declared p Predicate n v ≡ Ok (g, w)) where
+module _ (here : Setting) (scope : List Variable) (p : Text) (ts : List STerm) (v w : Vocabulary) (g bound : ℕ) (found : head here.declared p Predicate (length ts) (new_predicate here scope v p ts) v ≡ Ok (g, w)) where
   atom_is : beside bound (atom here scope p ts v) ≡ beside bound (mapped (Atom g) (arguments here scope g ts w))
   atom_is =
       let after : Outcome SortRule Vocabulary ℕ → Outcome SortRule State Form = λ o. beside bound (and_then o (λ h u. mapped (Atom h) (arguments here scope h ts u))) in
-      ap (λ k. after (head here.declared p Predicate k v)) (sym count) ∙ ap after found
+      ap after found
 
   pub atom_ok : (args : List Term) (u : Vocabulary) → arguments here scope g ts w ≡ Ok (args, u) → beside bound (atom here scope p ts v) ≡ Ok (Atom g args, record { vocabulary = u; bound = bound })
   atom_ok args u e = atom_is ∙ ap (λ (o : Outcome SortRule Vocabulary (List Term)). beside bound (mapped (Atom g) o)) e

@@ -27,10 +27,10 @@ use Rattle.sort_check.specs.declared.scope.Variable.{Variable}
 use Rattle.sort_check.specs.declared.terms.Sorted.{Sorted}
 use Rattle.sort_check.specs.Outcomes.{Outcome, and_then, mapped, each}
 use Rattle.sort_check.specs.Symbols.{Text, head, argument_sort, result_sort}
-use Rattle.sort_check.specs.Denotation.{Setting, State, nearest, variable_at, fitting, argument, made, denoted_term, beside, atom, equal, equation, joined, bound_variable, closed, denoted_form}
+use Rattle.sort_check.specs.Denotation.{Setting, State, nearest, variable_at, fitting, argument, made, denoted_term, known_sort, beside, atom, equal, equation, joined, bound_variable, closed, denoted_form}
 use Rattle.sort_check.specs.code.Variables.{noted, in_turn, variables_of_term, variables_of}
 use Rattle.sort_check.specs.code.Denotation.{bound}
-use Rattle.sort_check.proofs.Equations.{denoted_term-Var, denoted_term-App, denoted_form-True, denoted_form-False, denoted_form-Atom, denoted_form-Eq, denoted_form-Neq, denoted_form-Not, denoted_form-And, denoted_form-Or, denoted_form-Binary, denoted_form-Bind}
+use Rattle.sort_check.proofs.Equations.{new_function, new_predicate, denoted_term-Var, denoted_term-App, denoted_form-True, denoted_form-False, denoted_form-Atom, denoted_form-Eq, denoted_form-Neq, denoted_form-Not, denoted_form-And, denoted_form-Or, denoted_form-Binary, denoted_form-Bind}
 use Rattle.sort_check.proofs.VariableEquations.{of_term-Var, of_term-App, of-True, of-False, of-Atom, of-Eq, of-Neq, of-Not, of-And, of-Or, of-Binary, of-Bind}
 use Rattle.sort_check.proofs.Inducing.{term_induction, form_induction}
 use Rattle.sort_check.proofs.Stepping.{at_ok, then_ok, mapped_ok}
@@ -88,13 +88,14 @@ listed : (sizes terms : List Size) → ArePlain sizes terms → IsPlain (list_of
 listed sizes terms h = record { longest = omega (arith, h.count, h.all.longest); variables = omega (arith, h.all.variables) }
 
 abbrev TermFits : STerm → Type 0
-TermFits t = (here : Setting) (scope : List Variable) (v w : Vocabulary) (x : Sorted) → denoted_term here scope t v ≡ Ok (x, w) → IsPlain (size_of_term t) (term_size x.term)
+TermFits t = (here : Setting) (scope : List Variable) (asked : Option ℕ) (v w : Vocabulary) (x : Sorted) → denoted_term here scope t asked v ≡ Ok (x, w) → IsPlain (size_of_term t) (term_size x.term)
 
 module _ (here : Setting) (scope : List Variable) (number : ℕ) where
   one_argument : (place : ℕ) (t : STerm) (v w : Vocabulary) (y : Term) → TermFits t → argument number place (denoted_term here scope t) v ≡ Ok (y, w) → IsPlain (size_of_term t) (term_size y)
   one_argument place t v w y fits e =
-      let parts = then_ok (denoted_term here scope t v) (fitting number place) y w e in
-      by parts.0 parts.1 (fits here scope v parts.1 parts.0 parts.2) (is_sort (argument_sort parts.1 number place) parts.0.sort) parts.3
+      let asked = argument_sort v number place in
+      let parts = then_ok (denoted_term here scope t asked v) (fitting number place) y w e in
+      by parts.0 parts.1 (fits here scope asked v parts.1 parts.0 parts.2) (is_sort (argument_sort parts.1 number place) parts.0.sort) parts.3
     where
       by : (x : Sorted) (u : Vocabulary) → IsPlain (size_of_term t) (term_size x.term) → (b : Bool) → ◌≡◌ {A = Outcome SortRule Vocabulary Term} (cond b (Ok (x.term, u)) (Err WrongSort)) (Ok (y, w)) → IsPlain (size_of_term t) (term_size y)
       by x u plain false k = absurd (cc)
@@ -116,7 +117,7 @@ terms_fit : (t : STerm) → TermFits t
 terms_fit = term_induction TermFits (record { var = of_variable; app = of_application })
   where
     of_variable : (name : Text) → TermFits (tm.Var name)
-    of_variable name here scope v w x e = by (nearest scope name) (rw denoted_term-Var at e)
+    of_variable name here scope asked v w x e = by (nearest scope name) (rw denoted_term-Var at e)
       where
         by : (o : Option (ℕ × ℕ)) → variable_at here.outside o v ≡ Ok (x, w) → IsPlain (size_of_term (tm.Var name)) (term_size x.term)
         by None k = absurd (cc)
@@ -124,8 +125,8 @@ terms_fit = term_induction TermFits (record { var = of_variable; app = of_applic
             (rw term_size-Var (record { longest = omega arith; variables = refl }))
 
     of_application : (f : Text) (ts : List STerm) → AllByRecursion TermFits ts → TermFits (tm.App f ts)
-    of_application f ts all here scope v w x e =
-        let parts = then_ok (head here.declared f Function (length ts) v) (λ g u. mapped (made g (result_sort u g)) (each (λ place t. argument g place (denoted_term here scope t)) 0 ts u)) x w (rw denoted_term-App at e) in
+    of_application f ts all here scope asked v w x e =
+        let parts = then_ok (head here.declared f Function (length ts) (new_function here scope v f ts asked) v) (λ g u. mapped (made g (result_sort u g)) (each (λ place t. argument g place (denoted_term here scope t)) 0 ts u)) x w (rw denoted_term-App at e) in
         let made_of = mapped_ok (made parts.0 (result_sort parts.1 parts.0)) (each (λ place t. argument parts.0 place (denoted_term here scope t)) 0 ts parts.1) x w parts.3 in
         subst (λ (y : Sorted). IsPlain (size_of_term (tm.App f ts)) (term_size y.term)) made_of.2
         (rw size-App (rw term_size-App (listed (map size_of_term ts) (map term_size made_of.0) (arguments_fit here scope parts.0 ts 0 parts.1 w made_of.0 all made_of.1))))
@@ -150,16 +151,17 @@ plain_fits size form noting h few = record {
 
 atom_fits : (here : Setting) (scope : List Variable) (p : Text) (ts : List STerm) (v w : Vocabulary) (a : Form) → atom here scope p ts v ≡ Ok (a, w) → IsPlain (list_of (map size_of_term ts)) (form_size a)
 atom_fits here scope p ts v w a e =
-    let parts = then_ok (head here.declared p Predicate (length ts) v) (λ g u. mapped (Atom g) (each (λ place t. argument g place (denoted_term here scope t)) 0 ts u)) a w e in
+    let parts = then_ok (head here.declared p Predicate (length ts) (new_predicate here scope v p ts) v) (λ g u. mapped (Atom g) (each (λ place t. argument g place (denoted_term here scope t)) 0 ts u)) a w e in
     let made_of = mapped_ok (Atom parts.0) (each (λ place t. argument parts.0 place (denoted_term here scope t)) 0 ts parts.1) a w parts.3 in
     subst (λ (b : Form). IsPlain (list_of (map size_of_term ts)) (form_size b)) made_of.2
     (rw form_size-Atom (listed (map size_of_term ts) (map term_size made_of.0) (arguments_fit here scope parts.0 ts 0 parts.1 w made_of.0 (each_fits ts) made_of.1)))
 
 equation_fits : (here : Setting) (scope : List Variable) (l r : STerm) (v w : Vocabulary) (a : Form) → equation here scope l r v ≡ Ok (a, w) → IsPlain (both (size_of_term l) (size_of_term r)) (form_size a)
 equation_fits here scope l r v w a e =
-    let left = then_ok (denoted_term here scope l v) (λ x u. and_then (denoted_term here scope r u) (equal x)) a w e in
-    let right = then_ok (denoted_term here scope r left.1) (equal left.0) a w left.3 in
-    by left.0 right.0 right.1 (terms_fit l here scope v left.1 left.0 left.2) (terms_fit r here scope left.1 right.1 right.0 right.2) (left.0.sort == right.0.sort) right.3
+    let known = known_sort scope v r in
+    let left = then_ok (denoted_term here scope l known v) (λ x u. and_then (denoted_term here scope r (Some x.sort) u) (equal x)) a w e in
+    let right = then_ok (denoted_term here scope r (Some left.0.sort) left.1) (equal left.0) a w left.3 in
+    by left.0 right.0 right.1 (terms_fit l here scope known v left.1 left.0 left.2) (terms_fit r here scope (Some left.0.sort) left.1 right.1 right.0 right.2) (left.0.sort == right.0.sort) right.3
   where
     by : (x y : Sorted) (u : Vocabulary) → IsPlain (size_of_term l) (term_size x.term) → IsPlain (size_of_term r) (term_size y.term) → (b : Bool) → ◌≡◌ {A = Outcome SortRule Vocabulary Form} (cond b (Ok (Eq x.term y.term, u)) (Err WrongSort)) (Ok (a, w))
         → IsPlain (both (size_of_term l) (size_of_term r)) (form_size a)

@@ -1,9 +1,8 @@
 -- Terms that are denoted have their sorts, and the vocabulary only grows.
-use Rattle.std.proofs.Common.{◌≡◌, ℕ, zero, suc, ◌+◌, ◌<◌, ◌≤◌, ◌==◌, ◌&&◌, Bool, true, false, cond, List, [], ◌∷◌, ◌++◌, length, map, drop, slice_get, position, Option, Some, None, Ok, Err, refl, sym, ◌∙◌, ap, subst, arith, nat_eq, get_or, add-one, append_assoc}
+use Rattle.std.proofs.Common.{◌≡◌, ℕ, zero, suc, ◌+◌, ◌<◌, ◌≤◌, ◌==◌, ◌&&◌, Bool, true, false, cond, List, [], ◌∷◌, ◌++◌, length, map, drop, slice_get, position, Option, Some, None, Ok, Err, refl, sym, ◌∙◌, ap, subst, arith, nat_eq, nat_lt, get_or, add-one, append_assoc}
 use Rattle.std.specs.List.{AllByRecursion}
 use Rattle.std.specs.Str.{bytes_eq}
 use Rattle.std.specs.Cmp.Lexicographic.{pointwise}
-use Rattle.std.proofs.Math.ListN.{replicate}
 use Rattle.std.proofs.lemmas.Bool.Decides.{nat_tests}
 use Rattle.std.proofs.lemmas.List.{drop_all, append-nil, length-append}
 use Rattle.std.proofs.lemmas.List.Elements.{All-from_recursion}
@@ -27,10 +26,10 @@ use Rattle.sort_check.specs.declared.fault.SortRule.TheVariants.{WrongSort, Arit
 use Rattle.sort_check.specs.declared.scope.Variable.{Variable}
 use Rattle.sort_check.specs.declared.terms.Sorted.{Sorted}
 use Rattle.sort_check.specs.Outcomes.{Outcome, mapped, each}
-use Rattle.sort_check.specs.Symbols.{Text, undeclared, with_symbol, is_among, head, head_at, argument_sort, argument_at, result_sort, result_at}
-use Rattle.sort_check.specs.Denotation.{Setting, nearest, or_else, variable_at, fitting, argument, made, denoted_term}
+use Rattle.sort_check.specs.Symbols.{Text, place_sort, new_symbol, with_symbol, is_among, head, head_at, argument_sort, argument_at, result_sort, result_at}
+use Rattle.sort_check.specs.Denotation.{Setting, nearest, or_else, variable_at, fitting, argument, made, denoted_term, known_sort}
 use Rattle.sort_check.specs.Sorting.{GoesOn, Extends}
-use Rattle.sort_check.proofs.Equations.{denoted_term-Var, denoted_term-App}
+use Rattle.sort_check.proofs.Equations.{new_function, denoted_term-Var, denoted_term-App}
 use Rattle.sort_check.proofs.Inducing.{term_induction}
 use Rattle.sort_check.proofs.Stepping.{at_ok, then_ok, mapped_ok}
 
@@ -111,13 +110,33 @@ symbol_added v s fits = record {
   declared = λ some h. with_last (IsDeclared (length v.sorts)) v.symbols s h (fits some);
 }
 
-zeros : (n arity : ℕ) → 0 < n → AllByRecursion (λ a. a < n) (replicate arity 0)
-zeros n zero some = tt
-zeros n (suc arity) some = (some, zeros n arity some)
+-- a new symbol has sorts that are there
+place_sort_fits : (by_place : Bool) (v : Vocabulary) (told : Option ℕ) → 0 < length v.sorts → place_sort by_place v told < length v.sorts
+place_sort_fits false v told some = some
+place_sort_fits true v None some = some
+place_sort_fits true v (Some sort) some = by (nat_lt sort (length v.sorts)) refl
+  where
+    by : (b : Bool) → nat_lt sort (length v.sorts) ≡ b → cond b sort 0 < length v.sorts
+    by true e = grind (arith, nat_tests)
+    by false e = some
 
--- a symbol of individuals
-undeclared_fits : (n : ℕ) (name : Text) (kind : Kind) (arity : ℕ) → 0 < n → IsDeclared n (undeclared name kind arity)
-undeclared_fits n name kind arity some = record { args = All-from_recursion (λ a. a < n) (replicate arity 0) (zeros n arity some); result = some }
+place_sorts_fit : (by_place : Bool) (v : Vocabulary) (told : List (Option ℕ)) → 0 < length v.sorts → AllByRecursion (λ a. a < length v.sorts) (map (place_sort by_place v) told)
+place_sorts_fit by_place v [] some = tt
+place_sorts_fit by_place v (o ∷ told) some = (place_sort_fits by_place v o some, place_sorts_fit by_place v told some)
+
+pub new_symbol_fits : (by_place : Bool) (v : Vocabulary) (name : Text) (kind : Kind) (known : List (Option ℕ)) (asked : Option ℕ) → 0 < length v.sorts → IsDeclared (length v.sorts) (new_symbol by_place v name kind known asked)
+new_symbol_fits by_place v name kind known asked some = record {
+  args = All-from_recursion (λ a. a < length v.sorts) (map (place_sort by_place v) known) (place_sorts_fit by_place v known some);
+  result = place_sort_fits by_place v asked some;
+}
+
+length_map : {X Y : Type 0} (f : X → Y) (xs : List X) → length (map f xs) ≡ length xs
+length_map f [] = refl
+length_map f (x ∷ xs) = ap suc (length_map f xs)
+
+-- it has as many arguments as it is given
+new_arity : (by_place : Bool) (v : Vocabulary) (scope : List Variable) (ts : List STerm) → length (map (place_sort by_place v) (map (known_sort scope v) ts)) ≡ length ts
+new_arity by_place v scope ts = length_map (place_sort by_place v) (map (known_sort scope v) ts) ∙ length_map (known_sort scope v) ts
 
 kept_answers : {X : Type 0} (f g : X → Option ℕ) (xs : List X) → AllByRecursion (λ x. (s : ℕ) → f x ≡ Some s → g x ≡ Some s) xs → AllByRecursion (λ x. (s : ℕ) × (f x ≡ Some s)) xs → map g xs ≡ map f xs
 kept_answers f g [] e h = refl
@@ -149,11 +168,11 @@ pub record IsHead (v w : Vocabulary) (kind : Kind) (arity number : ℕ) : Type 0
   pub of_kind : symbol.kind ≡ kind
   pub args : length symbol.args ≡ arity
 
-last_of : {X : Type 0} (xs : List X) (x : X) → slice_get (xs ++ x ∷ []) (length xs) ≡ Some x
+pub last_of : {X : Type 0} (xs : List X) (x : X) → slice_get (xs ++ x ∷ []) (length xs) ≡ Some x
 last_of [] x = refl
 last_of (y ∷ xs) x = last_of xs x
 
-found_at : (p : Symbol → Bool) (xs : List Symbol) (k : ℕ) → position p xs ≡ Some k → (x : Symbol) × (slice_get xs k ≡ Some x) × (p x ≡ true)
+pub found_at : (p : Symbol → Bool) (xs : List Symbol) (k : ℕ) → position p xs ≡ Some k → (x : Symbol) × (slice_get xs k ≡ Some x) × (p x ≡ true)
 found_at p [] k e = absurd (cc)
 found_at p (x ∷ xs) k e = let found = position-Some p (x ∷ xs) k x e in (get_or (x ∷ xs) k x, slice_get-get_or (x ∷ xs) k x found.0, found.1)
 
@@ -163,31 +182,25 @@ one_kind Function Predicate e = absurd (cc)
 one_kind Predicate Function e = absurd (cc)
 one_kind Predicate Predicate e = refl
 
-length_replicate : (n x : ℕ) → length (replicate n x) ≡ n
-length_replicate zero x = refl
-length_replicate (suc n) x = ap suc (length_replicate n x)
-
-pub head_ok : (declared : List Text) (name : Text) (kind : Kind) (arity : ℕ) (v w : Vocabulary) (number : ℕ) → head declared name kind arity v ≡ Ok (number, w) → IsHead v w kind arity number
+pub head_ok : (declared : List Text) (name : Text) (kind : Kind) (arity : ℕ) (added : Symbol) (v w : Vocabulary) (number : ℕ) → (0 < length v.sorts → IsDeclared (length v.sorts) added) → added.kind ≡ kind → length added.args ≡ arity
+    → head declared name kind arity added v ≡ Ok (number, w) → IsHead v w kind arity number
 unfolding head
-head_ok declared name kind arity v w number e = by (found_symbol v name kind arity) refl e
+head_ok declared name kind arity added v w number fits of_kind args e = by (found_symbol v name kind arity) refl e
   where
-    added : Vocabulary
-    added = record v { symbols = v.symbols ++ undeclared name kind arity ∷ [] }
-
-    is_added : IsHead v (record v { symbols = v.symbols ++ undeclared name kind arity ∷ [] }) kind arity (length v.symbols)
+    is_added : IsHead v (record v { symbols = v.symbols ++ added ∷ [] }) kind arity (length v.symbols)
     is_added = record {
-      grows = symbol_added v (undeclared name kind arity) (undeclared_fits (length v.sorts) name kind arity);
-      symbol = undeclared name kind arity;
-      at = last_of v.symbols (undeclared name kind arity);
-      of_kind = refl;
-      args = length_replicate arity 0;
+      grows = symbol_added v added fits;
+      symbol = added;
+      at = last_of v.symbols added;
+      of_kind = of_kind;
+      args = args;
     }
 
-    room : (b : Bool) → ◌≡◌ {A = Outcome SortRule Vocabulary ℕ} (cond b (Err (Limit Symbols)) (Ok (length v.symbols, record v { symbols = v.symbols ++ undeclared name kind arity ∷ [] }))) (Ok (number, w)) → IsHead v w kind arity number
+    room : (b : Bool) → ◌≡◌ {A = Outcome SortRule Vocabulary ℕ} (cond b (Err (Limit Symbols)) (Ok (length v.symbols, record v { symbols = v.symbols ++ added ∷ [] }))) (Ok (number, w)) → IsHead v w kind arity number
     room true k = absurd (cc)
-    room false k = at_ok {E = SortRule} (λ n u. IsHead v u kind arity n) (length v.symbols) number (record v { symbols = v.symbols ++ undeclared name kind arity ∷ [] }) w k is_added
+    room false k = at_ok {E = SortRule} (λ n u. IsHead v u kind arity n) (length v.symbols) number (record v { symbols = v.symbols ++ added ∷ [] }) w k is_added
 
-    new : (b : Bool) → ◌≡◌ {A = Outcome SortRule Vocabulary ℕ} (cond b (Err Arity) (with_symbol (undeclared name kind arity) v)) (Ok (number, w)) → IsHead v w kind arity number
+    new : (b : Bool) → ◌≡◌ {A = Outcome SortRule Vocabulary ℕ} (cond b (Err Arity) (with_symbol added v)) (Ok (number, w)) → IsHead v w kind arity number
     new true k = absurd (cc)
     new false k = room (length v.symbols == 16777216) k
 
@@ -198,9 +211,16 @@ head_ok declared name kind arity v w number e = by (found_symbol v name kind ari
         let rest = both (is_kind found.0.kind kind) (length found.0.args == arity) tests.1 in
         record { grows = grows_not v; symbol = found.0; at = found.1; of_kind = one_kind found.0.kind kind rest.0; args = grind (arith, nat_tests) }
 
-    by : (o : Option ℕ) → found_symbol v name kind arity ≡ o → head_at declared name kind arity o v ≡ Ok (number, w) → IsHead v w kind arity number
+    by : (o : Option ℕ) → found_symbol v name kind arity ≡ o → head_at declared name added o v ≡ Ok (number, w) → IsHead v w kind arity number
     by (Some n) is k = at_ok {E = SortRule} (λ m u. IsHead v u kind arity m) n number v w k (known n is)
     by None is k = new (is_among name declared) k
+
+-- a head of these arguments, at a place that asks for this sort
+pub head_of : (here : Setting) (scope : List Variable) (name : Text) (kind : Kind) (ts : List STerm) (asked : Option ℕ) (v w : Vocabulary) (number : ℕ) → head here.declared name kind (length ts) (new_symbol here.by_place v name kind (map (known_sort scope v) ts) asked) v ≡ Ok (number, w)
+    → IsHead v w kind (length ts) number
+head_of here scope name kind ts asked v w number e =
+    head_ok here.declared name kind (length ts) (new_symbol here.by_place v name kind (map (known_sort scope v) ts) asked) v w number (new_symbol_fits here.by_place v name kind (map (known_sort scope v) ts) asked) refl
+    (new_arity here.by_place v scope ts) e
 
 -- ---- terms
 
@@ -210,7 +230,7 @@ pub record HasSort (v w : Vocabulary) (scope : List ℕ) (x : Sorted) : Type 0 w
   pub sort : sort_of_term w scope x.term ≡ Some x.sort
 
 abbrev pub TermFits : STerm → Type 0
-TermFits t = (here : Setting) (scope : List Variable) (v w : Vocabulary) (x : Sorted) → denoted_term here scope t v ≡ Ok (x, w) → HasSort v w (sorts_of scope) x
+TermFits t = (here : Setting) (scope : List Variable) (asked : Option ℕ) (v w : Vocabulary) (x : Sorted) → denoted_term here scope t asked v ≡ Ok (x, w) → HasSort v w (sorts_of scope) x
 
 -- The terms have the sorts that the symbol wants from that place on.
 pub record Fit (v w : Vocabulary) (scope : List ℕ) (wanted : List ℕ) (xs : List Term) : Type 0 where
@@ -225,7 +245,7 @@ drop_at (y ∷ xs) zero x e = ap (λ z. z ∷ xs) (same e)
     same k = cc
 drop_at (y ∷ xs) (suc i) x e = rw add-one (rw add-one at (drop_at xs i x e))
 
-wanted_sort : (r : Option ℕ) (s : ℕ) → is_sort r s ≡ true → r ≡ Some s
+pub wanted_sort : (r : Option ℕ) (s : ℕ) → is_sort r s ≡ true → r ≡ Some s
 wanted_sort None s e = absurd (cc)
 wanted_sort (Some r) s e = let same : r ≡ s = grind (arith, nat_tests) in ap Some same
 
@@ -236,8 +256,9 @@ module _ (here : Setting) (scope : List Variable) (number : ℕ) (symbol : Symbo
   one_argument : (place : ℕ) (t : STerm) (v w : Vocabulary) (y : Term) → TermFits t → slice_get v.symbols number ≡ Some symbol → argument number place (denoted_term here scope t) v ≡ Ok (y, w)
       → Extends v w × ((s : ℕ) × (slice_get symbol.args place ≡ Some s) × (sort_of_term w (sorts_of scope) y ≡ Some s))
   one_argument place t v w y fits at e =
-      let parts = then_ok (denoted_term here scope t v) (fitting number place) y w e in
-      let good = fits here scope v parts.1 parts.0 parts.2 in
+      let asked = argument_sort v number place in
+      let parts = then_ok (denoted_term here scope t asked v) (fitting number place) y w e in
+      let good = fits here scope asked v parts.1 parts.0 parts.2 in
       by parts.0 parts.1 good (is_sort (argument_sort parts.1 number place) parts.0.sort) refl parts.3
     where
       by : (x : Sorted) (u : Vocabulary) → HasSort v u (sorts_of scope) x → (b : Bool) → is_sort (argument_sort u number place) x.sort ≡ b → ◌≡◌ {A = Outcome SortRule Vocabulary Term} (cond b (Ok (x.term, u)) (Err WrongSort)) (Ok (y, w))
@@ -268,7 +289,7 @@ pub terms_fit : (t : STerm) → TermFits t
 terms_fit = term_induction TermFits (record { var = var_fits; app = app_fits })
   where
     var_fits : (name : Text) → TermFits (tm.Var name)
-    var_fits name here scope v w x e = by (nearest scope name) refl (rw denoted_term-Var at e)
+    var_fits name here scope asked v w x e = by (nearest scope name) refl (rw denoted_term-Var at e)
       where
         by : (o : Option (ℕ × ℕ)) → nearest scope name ≡ o → variable_at here.outside o v ≡ Ok (x, w) → HasSort v w (sorts_of scope) x
         by None is k = absurd (cc)
@@ -277,9 +298,9 @@ terms_fit = term_induction TermFits (record { var = var_fits; app = app_fits })
             (record { grows = grows_not v; sort = rw sort_of_term-Var (nearest_sort scope [] name p is) })
 
     app_fits : (f : Text) (ts : List STerm) → AllByRecursion TermFits ts → TermFits (tm.App f ts)
-    app_fits f ts all here scope v w x e =
-        let parts = then_ok (head here.declared f Function (length ts) v) (λ g u. mapped (made g (result_sort u g)) (each (λ place t. argument g place (denoted_term here scope t)) 0 ts u)) x w (rw denoted_term-App at e) in
-        let found = head_ok here.declared f Function (length ts) v parts.1 parts.0 parts.2 in
+    app_fits f ts all here scope asked v w x e =
+        let parts = then_ok (head here.declared f Function (length ts) (new_function here scope v f ts asked) v) (λ g u. mapped (made g (result_sort u g)) (each (λ place t. argument g place (denoted_term here scope t)) 0 ts u)) x w (rw denoted_term-App at e) in
+        let found = head_of here scope f Function ts asked v parts.1 parts.0 parts.2 in
         let made_of = mapped_ok (made parts.0 (result_sort parts.1 parts.0)) (each (λ place t. argument parts.0 place (denoted_term here scope t)) 0 ts parts.1) x w parts.3 in
         let fit = arguments_fit here scope parts.0 found.symbol ts 0 parts.1 w made_of.0 all found.at (omega (arith, found.args)) made_of.1 in
         let result : result_sort parts.1 parts.0 ≡ found.symbol.result = ap result_at found.at in

@@ -1,6 +1,6 @@
 -- What terms and formulas denote (TPTP technical manual, quantification and connectives): trees in which a bound
 -- variable is the number of binders between it and its own.
-use Rattle.std.specs.Prelude.{ℕ, ◌+◌, ◌==◌, ◌++◌, not, if◌then◌else◌, List, [], ◌∷◌, length, map, take, Option, Some}
+use Rattle.std.specs.Prelude.{ℕ, ◌+◌, ◌==◌, ◌++◌, Bool, not, if◌then◌else◌, List, [], ◌∷◌, length, map, take, Option, Some}
 use Rattle.std.specs.Prelude.{None, Ok, Err}
 use Rattle.std.specs.List.{filter, flat_map}
 use Rattle.std.specs.Str.{bytes_eq}
@@ -13,7 +13,7 @@ use Rattle.tptp_base.specs.declared.surface.SortName.{SortName}
 use Rattle.tptp_base.specs.declared.surface.BinOp.{BinOp}
 use Rattle.tptp_base.specs.declared.surface.Quant.{Quant}
 use Rattle.tptp_base.specs.declared.item.Lang.{Lang}
-use Rattle.fof_terms.specs.Vocabulary.{Vocabulary}
+use Rattle.fof_terms.specs.Vocabulary.{Vocabulary, found_symbol}
 use Rattle.fof_terms.specs.Sorts.{is_sort}
 use Rattle.fof_terms.specs.declared.signature.Kind.TheVariants.{Function, Predicate}
 use Rattle.fof_terms.specs.declared.term.Term.{Term, Var, App}
@@ -23,7 +23,7 @@ use Rattle.sort_check.specs.declared.fault.SortRule.TheVariants.{FreeVariable, W
 use Rattle.sort_check.specs.declared.scope.Variable.{Variable}
 use Rattle.sort_check.specs.declared.terms.Sorted.{Sorted}
 use Rattle.sort_check.specs.Outcomes.{Outcome, and_then, mapped, each}
-use Rattle.sort_check.specs.Symbols.{Text, head, argument_sort, result_sort, named_sort}
+use Rattle.sort_check.specs.Symbols.{Text, new_symbol, head, argument_sort, result_sort, named_sort}
 use Rattle.tptp_base.specs.declared.surface.STerm.TheOpen as st
 use Rattle.tptp_base.specs.declared.surface.Surface.TheOpen as sf
 use Rattle.tptp_base.specs.declared.surface.BinOp.TheVariants as op
@@ -41,37 +41,71 @@ abbrev pub nearest : List Variable → Text → Option (ℕ × ℕ)
 nearest [] name = None
 nearest (x ∷ inner) name = or_else (nearest inner name) (if bytes_eq x.name name then Some (length inner, x.sort) else None)
 
--- the names that the type lines declare, and the fault of a variable that is not in scope
+-- the names that the type lines declare, the fault of a variable that is not in scope, and whether a new symbol has the
+-- sorts of its place
 pub record Setting : Type 0 where
   pub declared : List Text
   pub outside : SortRule
+  pub by_place : Bool
 
 -- ---- terms, with their sorts
 
 abbrev pub TermOutcome : Type 0
 TermOutcome = Outcome SortRule Vocabulary Sorted
 
+-- what a term denotes at a place that asks for this sort, or for none
+abbrev pub Denoting : Type 0
+Denoting = Option ℕ → Vocabulary → TermOutcome
+
+-- that, and the sort of the term as far as it is known before it is walked
+pub record Walk : Type 0 where
+  pub known : Vocabulary → Option ℕ
+  pub denotes : Setting → Denoting
+
 abbrev pub variable_at : SortRule → Option (ℕ × ℕ) → Vocabulary → TermOutcome
 variable_at outside (Some found) v = Ok (record { term = Var found.0; sort = found.1 }, v)
 variable_at outside None v = Err outside
 
+-- the sort of a variable, and of an application of a symbol that is there
+abbrev pub variable_known : Option (ℕ × ℕ) → Option ℕ
+variable_known (Some found) = Some found.1
+variable_known None = None
+
+abbrev pub application_known : Vocabulary → Option ℕ → Option ℕ
+application_known v (Some symbol) = Some (result_sort v symbol)
+application_known v None = None
+
 abbrev pub fitting : ℕ → ℕ → Sorted → Vocabulary → Outcome SortRule Vocabulary Term
 fitting symbol place t v = if is_sort (argument_sort v symbol place) t.sort then Ok (t.term, v) else Err WrongSort
 
--- an argument: first its inside, then its sort
-abbrev pub argument : ℕ → ℕ → (Vocabulary → TermOutcome) → Vocabulary → Outcome SortRule Vocabulary Term
-argument symbol place t v = and_then (t v) (fitting symbol place)
+-- an argument: first its inside, at a place that asks for the symbol's sort there, and then its sort
+abbrev pub argument : ℕ → ℕ → Denoting → Vocabulary → Outcome SortRule Vocabulary Term
+argument symbol place t v = and_then (t (argument_sort v symbol place) v) (fitting symbol place)
 
 abbrev pub made : ℕ → ℕ → List Term → Sorted
 made symbol sort args = record { term = App symbol args; sort = sort }
 
-abbrev pub term_step : Setting → List Variable → st.STerm-F (Vocabulary → TermOutcome) → Vocabulary → TermOutcome
-term_step here scope (st.Var name) v = variable_at here.outside (nearest scope name) v
-term_step here scope (st.App name args) v =
-    and_then (head here.declared name Function (length args) v) (λ f w. mapped (made f (result_sort w f)) (each (argument f) 0 args w))
+-- a new symbol is made of what is known of its arguments before they are walked
+abbrev pub term_step : List Variable → st.STerm-F Walk → Walk
+term_step scope (st.Var name) = record {
+  known = λ v. variable_known (nearest scope name);
+  denotes = λ here asked v. variable_at here.outside (nearest scope name) v;
+}
+term_step scope (st.App name args) = record {
+  known = λ v. application_known v (found_symbol v name Function (length args));
+  denotes = λ here asked v.
+      and_then (head here.declared name Function (length args) (new_symbol here.by_place v name Function (map (λ (t : Walk). t.known v) args) asked) v)
+      (λ f w. mapped (made f (result_sort w f)) (each (λ place (t : Walk). argument f place (t.denotes here)) 0 args w));
+}
 
-unfoldable pub denoted_term : Setting → List Variable → STerm → Vocabulary → TermOutcome
-denoted_term here scope = fold-STerm (Vocabulary → TermOutcome) (term_step here scope)
+unfoldable pub walked : List Variable → STerm → Walk
+walked scope = fold-STerm Walk (term_step scope)
+
+abbrev pub denoted_term : Setting → List Variable → STerm → Denoting
+denoted_term here scope t = (walked scope t).denotes here
+
+abbrev pub known_sort : List Variable → Vocabulary → STerm → Option ℕ
+known_sort scope v t = (walked scope t).known v
 
 -- ---- formulas
 
@@ -90,14 +124,16 @@ beside n (Err e) = Err e
 
 abbrev pub atom : Setting → List Variable → Text → List STerm → Vocabulary → Outcome SortRule Vocabulary Form
 atom here scope name args v =
-    and_then (head here.declared name Predicate (length args) v) (λ p w. mapped (Atom p) (each (λ place t. argument p place (denoted_term here scope t)) 0 args w))
+    and_then (head here.declared name Predicate (length args) (new_symbol here.by_place v name Predicate (map (known_sort scope v) args) None) v)
+    (λ p w. mapped (Atom p) (each (λ place t. argument p place (denoted_term here scope t)) 0 args w))
 
 abbrev pub equal : Sorted → Sorted → Vocabulary → Outcome SortRule Vocabulary Form
 equal l r v = if l.sort == r.sort then Ok (Eq l.term r.term, v) else Err WrongSort
 
--- an equation: both sides, then their sorts
+-- An equation: both sides, then their sorts. Each side's place asks for the sort of the other, as far as it is known.
 abbrev pub equation : Setting → List Variable → STerm → STerm → Vocabulary → Outcome SortRule Vocabulary Form
-equation here scope l r v = and_then (denoted_term here scope l v) (λ x w. and_then (denoted_term here scope r w) (equal x))
+equation here scope l r v =
+    and_then (denoted_term here scope l (known_sort scope v r) v) (λ x w. and_then (denoted_term here scope r (Some x.sort) w) (equal x))
 
 -- a connective between two formulas, in the order of the text
 abbrev pub joined : BinOp → Form → Form → Form
@@ -190,17 +226,23 @@ abbrev pub without_count : Outcome SortRule State Form → Outcome SortRule Voca
 without_count (Ok p) = Ok (p.0, p.1.vocabulary)
 without_count (Err e) = Err e
 
--- a formula of FOF or TFF binds its variables itself
-abbrev pub sentence : List Text → Surface → Vocabulary → Outcome SortRule Vocabulary Form
-sentence declared a v = without_count (denoted_form (record { declared = declared; outside = FreeVariable }) a [] (record { vocabulary = v; bound = 0 }))
+-- where a formula stands
+abbrev pub outermost : Bool → List Text → SortRule → Setting
+outermost by_place declared outside = record { declared = declared; outside = outside; by_place = by_place }
+
+-- a formula of FOF, TFF or TCF binds its variables itself
+abbrev pub sentence : Bool → List Text → Surface → Vocabulary → Outcome SortRule Vocabulary Form
+sentence by_place declared a v = without_count (denoted_form (outermost by_place declared FreeVariable) a [] (record { vocabulary = v; bound = 0 }))
 
 -- a variable of a clause that is not among its first 250 is one too many
-abbrev pub clause : List Text → Surface → Vocabulary → Outcome SortRule Vocabulary Form
-clause declared a v =
+abbrev pub clause : Bool → List Text → Surface → Vocabulary → Outcome SortRule Vocabulary Form
+clause by_place declared a v =
     let scope = clause_scope a in
-    mapped (closed q.All scope) (without_count (denoted_form (record { declared = declared; outside = Variables }) a scope (record { vocabulary = v; bound = 0 })))
+    mapped (closed q.All scope) (without_count (denoted_form (outermost by_place declared Variables) a scope (record { vocabulary = v; bound = 0 })))
 
-abbrev pub formula : Lang → List Text → Surface → Vocabulary → Outcome SortRule Vocabulary Form
-formula lang.Cnf declared a v = clause declared a v
-formula lang.Fof declared a v = sentence declared a v
-formula lang.Tff declared a v = sentence declared a v
+-- the formula of a language, in which a new symbol has the sorts of its place or is one of individuals
+abbrev pub formula : Bool → Lang → List Text → Surface → Vocabulary → Outcome SortRule Vocabulary Form
+formula by_place lang.Cnf declared a v = clause by_place declared a v
+formula by_place lang.Fof declared a v = sentence by_place declared a v
+formula by_place lang.Tff declared a v = sentence by_place declared a v
+formula by_place lang.Tcf declared a v = sentence by_place declared a v

@@ -1,8 +1,8 @@
 -- Names as symbols and sorts (TPTP technical manual, types). A name that a type line of the same text declares has its
 -- one kind and arity; another name is known by name, kind and number of arguments, and has the sort of individuals
--- throughout.
-use Rattle.std.specs.Prelude.{ℕ, ◌==◌, ◌++◌, Bool, if◌then◌else◌, List, [], ◌∷◌, length, Option, Some, None, Ok, Err}
-use Rattle.std.specs.Prelude.{slice_get, replicate}
+-- throughout, or in a derivation the sorts of the place where it is first met.
+use Rattle.std.specs.Prelude.{ℕ, ◌==◌, ◌++◌, nat_lt, Bool, true, false, if◌then◌else◌, List, [], ◌∷◌, length, map, Option}
+use Rattle.std.specs.Prelude.{Some, None, Ok, Err, slice_get}
 use Rattle.std.specs.List.{list_any}
 use Rattle.std.specs.Str.{bytes_eq}
 use Rattle.tptp_base.specs.declared.limit.LimitName.TheVariants.{Symbols}
@@ -28,21 +28,28 @@ with_name name names = if is_among name names then names else names ++ name ∷ 
 
 -- ---- symbols
 
--- a symbol of individuals
-abbrev pub undeclared : Text → Kind → ℕ → Symbol
-undeclared name kind arity = record { name = name; kind = kind; args = replicate arity 0; result = 0 }
+-- The sort that a new symbol gets where a place tells one, which the vocabulary has: by place it is that sort. Else it
+-- is that of individuals.
+abbrev pub place_sort : Bool → Vocabulary → Option ℕ → ℕ
+place_sort false v told = 0
+place_sort true v None = 0
+place_sort true v (Some sort) = if nat_lt sort (length v.sorts) then sort else 0
+
+-- the symbol that a new name becomes, from what is known of its arguments and what its place asks for
+abbrev pub new_symbol : Bool → Vocabulary → Text → Kind → List (Option ℕ) → Option ℕ → Symbol
+new_symbol by_place v name kind known asked = record { name = name; kind = kind; args = map (place_sort by_place v) known; result = place_sort by_place v asked }
 
 -- a further symbol, with its number
 abbrev pub with_symbol : Symbol → Vocabulary → Outcome SortRule Vocabulary ℕ
 with_symbol s v = if length v.symbols == 16777216 then Err (Limit Symbols) else Ok (length v.symbols, record v { symbols = v.symbols ++ s ∷ [] })
 
-abbrev pub head_at : List Text → Text → Kind → ℕ → Option ℕ → Vocabulary → Outcome SortRule Vocabulary ℕ
-head_at declared name kind arity (Some number) v = Ok (number, v)
-head_at declared name kind arity None v = if is_among name declared then Err Arity else with_symbol (undeclared name kind arity) v
+abbrev pub head_at : List Text → Text → Symbol → Option ℕ → Vocabulary → Outcome SortRule Vocabulary ℕ
+head_at declared name new (Some number) v = Ok (number, v)
+head_at declared name new None v = if is_among name declared then Err Arity else with_symbol new v
 
--- the symbol that a name of that kind means before so many arguments
-unfoldable pub head : List Text → Text → Kind → ℕ → Vocabulary → Outcome SortRule Vocabulary ℕ
-head declared name kind arity v = head_at declared name kind arity (found_symbol v name kind arity) v
+-- the symbol that a name of that kind means before so many arguments: this new one where there is none
+unfoldable pub head : List Text → Text → Kind → ℕ → Symbol → Vocabulary → Outcome SortRule Vocabulary ℕ
+head declared name kind arity new v = head_at declared name new (found_symbol v name kind arity) v
 
 abbrev pub argument_at : Option Symbol → ℕ → Option ℕ
 argument_at (Some s) place = slice_get s.args place

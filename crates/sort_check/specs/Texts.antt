@@ -132,15 +132,20 @@ abbrev pub reading : Bool → Outcome SortRule Vocabulary Form → Outcome SortR
 reading conjectured (Ok p) = Ok (p.0, record { vocabulary = p.1; conjectured = conjectured })
 reading conjectured (Err e) = Err e
 
-abbrev pub body_form : List Text → Annotated → Body → Vocabulary → Outcome SortRule Vocabulary Form
-body_form names a (body.Logic f) v = formula a.lang names f v
-body_form names a (body.Typing t) v = Err NotTyped
+-- whether a new symbol has the sorts of its place: in derivations
+abbrev pub is_by_place : TextKind → Bool
+is_by_place kind.Problem = false
+is_by_place kind.Derivation = true
+
+abbrev pub body_form : TextKind → List Text → Annotated → Body → Vocabulary → Outcome SortRule Vocabulary Form
+body_form kind names a (body.Logic f) v = formula (is_by_place kind) a.lang names f v
+body_form kind names a (body.Typing t) v = Err NotTyped
 
 -- the second conjecture of a problem is refused before its formula is looked at
 abbrev pub line_form : TextKind → List Text → Annotated → Reading → Outcome SortRule Reading Form
 line_form kind names a s =
     if is_single kind && (is_conjecture a.role && s.conjectured) then Err TwoConjectures
-    else reading (is_conjecture a.role || s.conjectured) (body_form names a a.body s.vocabulary)
+    else reading (is_conjecture a.role || s.conjectured) (body_form kind names a a.body s.vocabulary)
 
 abbrev pub line : TextKind → List Text → ℕ → Annotated → Reading → Outcome SortFault Reading (Option Line)
 line kind names item a s = if is_typing a.role then Ok (None, s) else at_line a (mapped (λ form. Some (line_of item a form)) (line_form kind names a s))

@@ -14,20 +14,23 @@ use fof_terms::{Form, Signature};
 use std::alloc::Global;
 use tptp_base::{Lang, List, Quant, Surface};
 
-/// What a formula of that language denotes.
+/// What a formula of that language denotes, where a new symbol has the sorts of its place or is one of individuals.
 pub fn denote_formula(
     alloc: Global,
     lang: Lang,
     declared: &Names,
     signature: &mut Signature,
     form: &Surface,
+    by_place: bool,
 ) -> Result<Form, Stop>
-    ensures value { Answers (spec.formula lang declared.now form.now signature.old) result signature.new }
+    ensures value { Answers (spec.formula by_place lang declared.now form.now signature.old) result signature.new }
     ensures keeps { Extends signature.old signature.new }
 {
     match lang {
-        Lang::Cnf => denote_clause(alloc, declared, signature, form),
-        Lang::Fof | Lang::Tff => denote_sentence(alloc, declared, signature, form),
+        Lang::Cnf => denote_clause(alloc, declared, signature, form, by_place),
+        Lang::Fof | Lang::Tff | Lang::Tcf => {
+            denote_sentence(alloc, declared, signature, form, by_place)
+        }
     }
 }
 
@@ -37,11 +40,12 @@ fn denote_sentence(
     declared: &Names,
     signature: &mut Signature,
     form: &Surface,
+    by_place: bool,
 ) -> Result<Form, Stop>
-    ensures value { Answers (spec.sentence declared.now form.now signature.old) result signature.new }
+    ensures value { Answers (spec.sentence by_place declared.now form.now signature.old) result signature.new }
     ensures keeps { Extends signature.old signature.new }
 {
-    let mut scope = Scope::over(List::new(alloc), SortRule::FreeVariable);
+    let mut scope = Scope::over(List::new(alloc), SortRule::FreeVariable, by_place);
     denote_form(form, alloc, declared, signature, &mut scope)
 }
 
@@ -52,13 +56,14 @@ fn denote_clause(
     declared: &Names,
     signature: &mut Signature,
     form: &Surface,
+    by_place: bool,
 ) -> Result<Form, Stop>
-    ensures value { Answers (spec.clause declared.now form.now signature.old) result signature.new }
+    ensures value { Answers (spec.clause by_place declared.now form.now signature.old) result signature.new }
     ensures keeps { Extends signature.old signature.new }
 {
     let mut variables = List::new(alloc);
     note_variables(form, alloc, &mut variables)?;
-    let mut scope = Scope::over(variables, SortRule::Variables);
+    let mut scope = Scope::over(variables, SortRule::Variables, by_place);
     let body = denote_form(form, alloc, declared, signature, &mut scope)?;
     Ok(close_to(alloc, Quant::All, &mut scope, 0, body)?)
 }

@@ -232,7 +232,7 @@ fn line_form(
     if is_single(kind) && is_new && *conjectured {
         return Err(Stop::Rule(SortRule::TwoConjectures));
     }
-    let form = body_form(alloc, line, signature, names)?;
+    let form = body_form(alloc, line, signature, names, kind)?;
     *conjectured = is_new || *conjectured;
     Ok(form)
 }
@@ -243,12 +243,15 @@ fn body_form(
     line: &Annotated,
     signature: &mut Signature,
     names: &Names,
+    kind: TextKind,
 ) -> Result<Form, Stop>
-    ensures value { Answers (spec.body_form names.now line.now line.now.body signature.old) result signature.new }
+    ensures value { Answers (spec.body_form kind names.now line.now line.now.body signature.old) result signature.new }
     ensures keeps { Extends signature.old signature.new }
 {
     match &line.body {
-        Body::Logic(form) => denote_formula(alloc, line.lang, names, signature, form),
+        Body::Logic(form) => {
+            denote_formula(alloc, line.lang, names, signature, form, is_by_place(kind))
+        }
         Body::Typing(_) => Err(Stop::Rule(SortRule::NotTyped)),
     }
 }
@@ -290,6 +293,16 @@ fn is_conjecture(role: Role) -> bool
     ensures { result ≡ spec.is_conjecture role }
 {
     matches!(role, Role::Conjecture)
+}
+
+// Whether a new symbol of a text of that kind has the sorts of its place.
+fn is_by_place(kind: TextKind) -> bool
+    ensures { result ≡ spec.is_by_place kind }
+{
+    match kind {
+        TextKind::Problem => false,
+        TextKind::Derivation => true,
+    }
 }
 
 // Whether a text of that kind has at most one conjecture.

@@ -9,9 +9,9 @@ ghost use Rattle.sort_check.specs.code.Denotation as spec_code;
 
 use crate::binding::{bound_variables, close_to};
 use crate::fault::{SortRule, Stop};
+use crate::heads::{head, known};
 use crate::names::Names;
 use crate::scope::Scope;
-use crate::symbols::head;
 use crate::terms::{denote_arguments, denote_term};
 use fof_terms::{Form, Kind, Signature};
 use std::alloc::Global;
@@ -153,15 +153,18 @@ fn denote_atom(
         alloc,
         declared,
         signature,
+        scope,
         name,
         Kind::Predicate,
-        args.len(),
+        args,
+        None,
     )?;
     let args = denote_arguments(args, alloc, declared, signature, scope, predicate)?;
     Ok(Form::Atom(predicate, args))
 }
 
-// What an equation denotes: both sides, then their sorts.
+// What an equation denotes: both sides, then their sorts. Each side's place asks for the sort of the other, as far as
+// it is known.
 fn denote_equation(
     alloc: Global,
     declared: &Names,
@@ -176,8 +179,9 @@ fn denote_equation(
         signature.old)) result (spec_code.state signature.new scope.now) }
     ensures keeps { Extends signature.old signature.new }
 {
-    let left = denote_term(left, alloc, declared, signature, scope)?;
-    let right = denote_term(right, alloc, declared, signature, scope)?;
+    let asked = known(signature, scope, right);
+    let left = denote_term(left, alloc, declared, signature, scope, asked)?;
+    let right = denote_term(right, alloc, declared, signature, scope, Some(left.sort))?;
     if left.sort != right.sort {
         return Err(Stop::Rule(SortRule::WrongSort));
     }

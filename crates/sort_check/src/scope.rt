@@ -21,13 +21,14 @@ pub struct Variable {
     pub sort: SortId,
 }
 
-/// The variables in scope, the outermost first, how many the formula has bound so far, and the fault of a variable that
-/// is not in scope.
+/// The variables in scope, the outermost first, how many the formula has bound so far, the fault of a variable that is
+/// not in scope, and whether a new symbol has the sorts of its place.
 #[derive(Drop)]
 pub struct Scope {
     variables: List<Variable>,
     bound: u32,
     outside: SortRule,
+    by_place: bool,
 }
 
 impl Model for Scope {
@@ -35,21 +36,32 @@ impl Model for Scope {
 
     ghost Value = { Reach };
 
-    ghost view = { λ s. record { variables = s.variables; bound = s.bound; outside = s.outside } };
+    ghost view = { λ s. record {
+      variables = s.variables;
+      bound = s.bound;
+      outside = s.outside;
+      by_place = s.by_place;
+    } };
 
-    ghost invariant = { λ s. IsReach (record { variables = s.variables; bound = s.bound; outside = s.outside }) };
+    ghost invariant = { λ s. IsReach (record {
+      variables = s.variables;
+      bound = s.bound;
+      outside = s.outside;
+      by_place = s.by_place;
+    }) };
 }
 
 impl Scope {
     /// The scope of a formula over these variables.
-    pub fn over(variables: List<Variable>, outside: SortRule) -> Scope
+    pub fn over(variables: List<Variable>, outside: SortRule, by_place: bool) -> Scope
         requires { length variables ≤ 250 }
-        ensures { result ≡ record { variables = variables; bound = 0; outside = outside } }
+        ensures { result ≡ record { variables = variables; bound = 0; outside = outside; by_place = by_place } }
     {
         Scope {
             variables,
             bound: 0,
             outside,
+            by_place,
         }
     }
 
@@ -58,6 +70,13 @@ impl Scope {
         ensures { result ≡ self.now.outside }
     {
         self.outside
+    }
+
+    /// Whether a new symbol has the sorts of its place.
+    pub fn by_place(&self) -> bool
+        ensures { result ≡ self.now.by_place }
+    {
+        self.by_place
     }
 
     /// How many variables are in scope.

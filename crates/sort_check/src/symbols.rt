@@ -1,6 +1,5 @@
 // Names as symbols and sorts of a signature.
-ghost use Rattle.std.specs.Prelude.{◌≡◌, IfOk, length};
-ghost use Rattle.std.proofs.Math.ListN.{replicate};
+ghost use Rattle.std.specs.Prelude.{◌≡◌, length};
 ghost use Rattle.fof_terms.specs.Sorts.{is_sort};
 ghost use Rattle.fof_terms.specs.Vocabulary.{IsDeclared};
 ghost use Rattle.sort_check.specs.code.Outcomes.{Answers};
@@ -8,59 +7,8 @@ ghost use Rattle.sort_check.specs.Sorting.{Extends};
 ghost use Rattle.sort_check.specs.Symbols as spec;
 
 use crate::fault::{SortRule, Stop};
-use crate::names::Names;
-use fof_terms::{Kind, SigFault, Signature, SortId, SymId, Symbol};
-use std::alloc::{AllocError, Global};
-use tptp_base::{List, SortName, Text};
-
-/// The symbol that a name of that kind means before so many arguments. One that is neither there nor declared is added.
-#[tactic(auto, unfolding(crate::specs::Symbols::head))]
-pub fn head(
-    alloc: Global,
-    declared: &Names,
-    signature: &mut Signature,
-    name: &[u8],
-    kind: Kind,
-    arity: usize,
-) -> Result<SymId, Stop>
-    ensures value { Answers (spec.head declared.now name.now kind arity signature.old) result signature.new }
-    ensures keeps { Extends signature.old signature.new }
-{
-    if let Some(number) = signature.find(name, kind, arity) {
-        return Ok(number);
-    }
-    if declared.has(name) {
-        return Err(Stop::Rule(SortRule::Arity));
-    }
-    add_undeclared(alloc, signature, name, kind, arity)
-}
-
-// A further symbol of individuals.
-fn add_undeclared(
-    alloc: Global,
-    signature: &mut Signature,
-    name: &[u8],
-    kind: Kind,
-    arity: usize,
-) -> Result<SymId, Stop>
-    ensures value { Answers
-        (spec.with_symbol (spec.undeclared name.now kind arity) signature.old) result signature.new }
-    ensures keeps { Extends signature.old signature.new }
-{
-    // A signature has sorts, as the count tells.
-    let _sorts = signature.sort_count();
-    let name = Text::from_slice(alloc, name)?;
-    let args = individuals(alloc, arity)?;
-    add_symbol(
-        signature,
-        Symbol {
-            name,
-            kind,
-            args,
-            result: 0,
-        },
-    )
-}
+use fof_terms::{SigFault, Signature, SortId, SymId, Symbol};
+use tptp_base::SortName;
 
 /// A further symbol.
 pub fn add_symbol(signature: &mut Signature, symbol: Symbol) -> Result<SymId, Stop>
@@ -75,23 +23,32 @@ pub fn add_symbol(signature: &mut Signature, symbol: Symbol) -> Result<SymId, St
     }
 }
 
-// So many sorts of individuals.
-fn individuals(alloc: Global, count: usize) -> Result<List<SortId>, AllocError>
-    ensures { IfOk result (λ sorts. sorts ≡ replicate count 0) }
+/// The sort that a new symbol gets where its place tells one.
+pub fn place_sort(by_place: bool, signature: &Signature, told: Option<SortId>) -> SortId
+    ensures { result ≡ spec.place_sort by_place signature.now told }
 {
-    let sorts = vec![in alloc; 0; count]?;
-    Ok(List::from_vec(sorts))
+    match told {
+        Some(sort) if by_place && sort < signature.sort_count() => sort,
+        _ => 0,
+    }
+}
+
+/// The sort that the symbol of that number has at a place.
+pub fn argument_sort(signature: &Signature, number: SymId, place: usize) -> Option<SortId>
+    ensures { result ≡ spec.argument_sort signature.now number place }
+{
+    match signature.symbol(number) {
+        Some(symbol) => symbol.args.get(place).copied(),
+        None => None,
+    }
 }
 
 /// Whether the symbol of that number has that sort at a place.
 pub fn is_argument(signature: &Signature, number: SymId, place: usize, sort: SortId) -> bool
     ensures { result ≡ is_sort (spec.argument_sort signature.now number place) sort }
 {
-    match signature.symbol(number) {
-        Some(symbol) => match symbol.args.get(place) {
-            Some(wanted) => *wanted == sort,
-            None => false,
-        },
+    match argument_sort(signature, number, place) {
+        Some(wanted) => wanted == sort,
         None => false,
     }
 }

@@ -6,9 +6,10 @@ ghost use Rattle.sort_check.specs.Denotation as spec;
 ghost use Rattle.sort_check.specs.code.Denotation as spec_code;
 
 use crate::fault::{SortRule, Stop};
+use crate::heads::head;
 use crate::names::Names;
 use crate::scope::Scope;
-use crate::symbols::{head, is_argument, result_sort};
+use crate::symbols::{argument_sort, is_argument, result_sort};
 use fof_terms::{Kind, Signature, SortId, SymId, Term};
 use std::alloc::Global;
 use tptp_base::{List, STerm};
@@ -20,7 +21,7 @@ pub struct Sorted {
     pub sort: SortId,
 }
 
-/// What a term denotes.
+/// What a term denotes at a place that asks for that sort.
 #[cycle(term)]
 #[tactic(auto, using(crate::proofs::Equations::term_equations))]
 pub fn denote_term(
@@ -29,10 +30,12 @@ pub fn denote_term(
     declared: &Names,
     signature: &mut Signature,
     scope: &Scope,
+    asked: Option<SortId>,
 ) -> Result<Sorted, Stop>
     ensures value { Answers
         (spec.denoted_term
-        (spec_code.setting declared.now scope.now) scope.now.variables term.now signature.old) result signature.new }
+        (spec_code.setting declared.now scope.now) scope.now.variables term.now asked
+        signature.old) result signature.new }
     ensures keeps { Extends signature.old signature.new }
 {
     match term {
@@ -48,9 +51,11 @@ pub fn denote_term(
                 alloc,
                 declared,
                 signature,
+                scope,
                 name.as_slice(),
                 Kind::Function,
-                args.len(),
+                args.as_slice(),
+                asked,
             )?;
             let sort = result_sort(signature, function);
             let args = denote_arguments(
@@ -119,7 +124,8 @@ fn denote_argument(
         (spec_code.setting declared.now scope.now) scope.now.variables term.now) signature.old) result signature.new }
     ensures keeps { Extends signature.old signature.new }
 {
-    let found = denote_term(term, alloc, declared, signature, scope)?;
+    let asked = argument_sort(signature, symbol, place);
+    let found = denote_term(term, alloc, declared, signature, scope, asked)?;
     if !is_argument(signature, symbol, place, found.sort) {
         return Err(Stop::Rule(SortRule::WrongSort));
     }

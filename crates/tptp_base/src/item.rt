@@ -7,6 +7,8 @@ pub enum Lang {
     Cnf,
     Fof,
     Tff,
+    /// Typed clauses, which stand in derivations alone.
+    Tcf,
 }
 
 /// The roles of formulas.

@@ -25,7 +25,7 @@ pub fn bytes_of(alloc: Global, text: &Text, times: u32) -> Result<usize> {
 
 // How many bytes the canonical text of the items has that the tokens spell.
 fn printed(alloc: Global, tokens: &Tokens) -> Result<usize>
-    ensures { IfOk result (λ count. (items : List Item) × grammar.Answers tokens.now.items tokens.now.end (Ok items)
+    ensures { IfOk result (λ count. (items : List Item) × grammar.Answers tokens.now.style tokens.now.items tokens.now.end (Ok items)
         × (count ≡ length (canonical_text items))) }
 {
     let items = parse(alloc, tokens)?;

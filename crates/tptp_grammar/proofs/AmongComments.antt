@@ -1,6 +1,7 @@
 -- Tokens among comments: where the tokens that were read stand in the list that has comments between them.
 use Rattle.std.proofs.Common.{◌≡◌, Bool, true, false, ℕ, List, [], ◌∷◌, ◌++◌, refl, sym, ◌∙◌, ap, subst}
 use Rattle.first_fault.specs.Nesting.{Nested, plain}
+use Rattle.tptp_lexer.specs.declared.style.Style.{Style}
 use Rattle.tptp_lexer.specs.declared.token.Token.{Token}
 use Rattle.tptp_lexer.specs.declared.token.Token.TheVariants.{Comment}
 use Rattle.tptp_base.specs.declared.place.Place.{Place}
@@ -48,18 +49,18 @@ data Remarks : List Placed → Type 0 where
   no_remark : Remarks []
   remark : {t : Token} {place : Place} {rest : List Placed} → is_comment t ≡ true → Remarks rest → Remarks ((t, place) ∷ rest)
 
-record Rest (raw : List Placed) : Type 0 where
+record Rest (style : Style) (raw : List Placed) : Type 0 where
   items : List Item
-  spells : IsFile items raw []
+  spells : IsFile style items raw []
 
-remark_file : (t : Token) (place : Place) (rest : List Placed) (items : List Item) → is_comment t ≡ true → IsFile items rest [] → Rest ((t, place) ∷ rest)
-remark_file t place rest items e h =
+remark_file : (style : Style) (t : Token) (place : Place) (rest : List Placed) (items : List Item) → is_comment t ≡ true → IsFile style items rest [] → Rest style ((t, place) ∷ rest)
+remark_file style t place rest items e h =
     let c = comment_text t e in
-    let here : Rest ((Comment c.0, place) ∷ rest) = record { items = it.Comment c.0 ∷ items; spells = comment h } in subst (λ u. Rest ((u, place) ∷ rest)) (sym c.1) here
+    let here : Rest style ((Comment c.0, place) ∷ rest) = record { items = it.Comment c.0 ∷ items; spells = comment h } in subst (λ u. Rest style ((u, place) ∷ rest)) (sym c.1) here
 
-rest_of : {raw : List Placed} → Remarks raw → Rest raw
+rest_of : {style : Style} {raw : List Placed} → Remarks raw → Rest style raw
 rest_of no_remark = record { items = []; spells = end_of_file }
-rest_of (remark {t = t} {place = place} {rest = rest} e h) = let r = rest_of h in remark_file t place rest r.items e r.spells
+rest_of {style = style} (remark {t = t} {place = place} {rest = rest} e h) = let r = rest_of {style = style} h in remark_file style t place rest r.items e r.spells
 
 -- the list through its last token
 record Last (raw : List Placed) (us : Tokens) : Type 0 where
@@ -91,21 +92,21 @@ tail_of : Tokens → Tokens
 tail_of [] = []
 tail_of (t ∷ ts) = ts
 
-pub second_of : {place : Place} {i : Item} {ts rest : Tokens} → IsItem place i ts rest → (t : Nested Token) (us : Tokens) → ts ≡ t ∷ us → Second us
+pub second_of : {style : Style} {place : Place} {i : Item} {ts rest : Tokens} → IsItem style place i ts rest → (t : Nested Token) (us : Tokens) → ts ≡ t ∷ us → Second us
 unfolding tail_of
-second_of (g.annotated {ts = ts} e h j k x) t us is = record { head = _; more = ts; is = sym (ap tail_of is) }
+second_of (g.annotated {ts = ts} e has h j k x) t us is = record { head = _; more = ts; is = sym (ap tail_of is) }
 second_of (g.include {f = f} {ts = ts} e h) t us is = record { head = _; more = _; is = sym (ap tail_of is) }
 
 -- the item, and the comments behind it
-pub record Whole (raw : List Placed) (us : Tokens) : Type 0 where
+pub record Whole (style : Style) (raw : List Placed) (us : Tokens) : Type 0 where
   pub items : List Item
-  pub spells : IsFile items raw us
+  pub spells : IsFile style items raw us
 
-pub whole_of : (place : Place) (i : Item) (t : Token) (n : ℕ) (raw : List Placed) (us : Tokens) → IsItem place i ((t, n) ∷ us) [] → Holds raw us → Whole ((t, place) ∷ raw) ((t, n) ∷ us)
-whole_of place i t n raw us h k =
+pub whole_of : (style : Style) (place : Place) (i : Item) (t : Token) (n : ℕ) (raw : List Placed) (us : Tokens) → IsItem style place i ((t, n) ∷ us) [] → Holds raw us → Whole style ((t, place) ∷ raw) ((t, n) ∷ us)
+whole_of style place i t n raw us h k =
     let s = second_of h (t, n) us refl in
     let l = last_of k s.head s.more s.is in
-    let r = rest_of l.others in
+    let r = rest_of {style = style} l.others in
     record { items = i ∷ r.items; spells = input h l.through r.spells }
 
 -- ---- what was read, found among the comments

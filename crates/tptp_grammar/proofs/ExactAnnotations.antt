@@ -20,6 +20,7 @@ use Rattle.tptp_base.specs.declared.item.GTerm.{GTerm}
 use Rattle.tptp_grammar.specs.Tokens.{Tokens}
 use Rattle.tptp_grammar.specs.Formulas.{IsFormula}
 use Rattle.tptp_grammar.specs.Clauses.{IsClause}
+use Rattle.tptp_grammar.specs.TypedClauses.{IsTypedClause}
 use Rattle.tptp_grammar.specs.Types.{IsTyping}
 use Rattle.tptp_grammar.specs.GeneralTerms as t
 use Rattle.tptp_grammar.specs.GeneralTerms.{IsGeneralTerm, IsGeneralList}
@@ -29,6 +30,7 @@ use Rattle.tptp_grammar.specs.code.ReadTerms.{is_mark}
 use Rattle.tptp_grammar.specs.code.ReadTypes.{typing}
 use Rattle.tptp_grammar.specs.code.ReadFormulas.{formula}
 use Rattle.tptp_grammar.specs.code.ReadClauses.{clause}
+use Rattle.tptp_grammar.specs.code.ReadTypedClauses.{typed_clause}
 use Rattle.tptp_grammar.specs.code.ReadGeneral.{general, nesting}
 use Rattle.tptp_grammar.specs.code.ReadItems.{body_of, body, ended, Annotations, info_at, info, no_info, with_info, sourced_at, sourced, no_annotations, annotations_at, annotations}
 use Rattle.tptp_base.specs.Roles.{is_typing}
@@ -36,6 +38,7 @@ use Rattle.tptp_grammar.proofs.Marks.{is_kind, ends_literals, ends_formula, good
 use Rattle.tptp_grammar.proofs.ExactTypings.{ends_shape, good_typing}
 use Rattle.tptp_grammar.proofs.ExactFormulas.{good_formula}
 use Rattle.tptp_grammar.proofs.ExactClauses.{good_clause}
+use Rattle.tptp_grammar.proofs.ExactTypedClauses.{good_typed_clause}
 use Rattle.tptp_grammar.proofs.ExactGeneral.{ends_general, OpenGeneralList, of_open_list, to_open_list, good_nesting, good_general}
 
 -- ---- bodies
@@ -78,6 +81,9 @@ split_tff : (r : Role) → is_typing r ≡ false → (b : Body) (ts rest : Token
 split_tff r e b ts rest (g.tff_body {f = f} k h) = (f, h, refl)
 split_tff r e b ts rest (g.type_body h) = cc
 
+split_tcf : (r : Role) (b : Body) (ts rest : Tokens) → IsBody lang.Tcf r b ts rest → (f : Surface) × IsTypedClause 0 f ts rest × (bd.Logic f ≡ b)
+split_tcf r b ts rest (g.tcf_body {f = f} h) = (f, h, refl)
+
 split_type : (r : Role) → is_typing r ≡ true → (b : Body) (ts rest : Tokens) → IsBody lang.Tff r b ts rest → (t : Typing) × IsTyping 0 t ts rest × (bd.Typing t ≡ b)
 split_type r e b ts rest (g.tff_body k h) = absurd (k (is_typing_role r e))
 split_type r e b ts rest (g.type_body {t = t} h) = (t, h, refl)
@@ -91,6 +97,10 @@ good_body_by lang.Fof r b e room limit k =
     good_as limit (body_of lang.Fof b room) (IsBody lang.Fof r) (IsBody lang.Fof r) ends_formula ends_body
     (good_map limit (formula false room) (body_of lang.Fof b room) (IsFormula false 0) (IsBody lang.Fof r) ends_formula bd.Logic (λ ts. refl) (good_formula false room 0 limit k) (λ x ts rest h. g.fof_body h) (split_fof r))
     (λ x ts rest h. h) (λ x ts rest h. h) body_ends_formula
+good_body_by lang.Tcf r b e room limit k =
+    good_as limit (body_of lang.Tcf b room) (IsBody lang.Tcf r) (IsBody lang.Tcf r) ends_literals ends_body
+    (good_map limit (typed_clause room) (body_of lang.Tcf b room) (IsTypedClause 0) (IsBody lang.Tcf r) ends_literals bd.Logic (λ ts. refl) (good_typed_clause room 0 limit k) (λ x ts rest h. g.tcf_body h) (split_tcf r))
+    (λ x ts rest h. h) (λ x ts rest h. h) body_ends_clause
 good_body_by lang.Tff r false e room limit k =
     good_as limit (body_of lang.Tff false room) (IsBody lang.Tff r) (IsBody lang.Tff r) ends_formula ends_body
     (good_map limit (formula true room) (body_of lang.Tff false room) (IsFormula true 0) (IsBody lang.Tff r) ends_formula bd.Logic (λ ts. refl) (good_formula true room 0 limit k) (λ x ts rest h. g.tff_body (no_typing_role r e) h) (split_tff r e))

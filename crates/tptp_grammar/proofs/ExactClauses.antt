@@ -168,7 +168,7 @@ module _ (room d limit : ℕ) (e : limit ≡ d + room) (a : Surface) where
   good_literals = good_choice limit (literals room a) (literals_at room a) (Literals d a) ends_literals (λ us. refl) exact_literals found_literals (record { value = a; text = λ rest. rest; spells = λ rest. alone })
 
 -- what a literal begins with
-data LiteralHead : Option Token → Type 0 where
+pub data LiteralHead : Option Token → Type 0 where
   basic_head : {h : Option Token} → BasicHead h → LiteralHead h
   tilde : LiteralHead (Some (Sign m.Tilde))
 
@@ -177,6 +177,16 @@ head_of_literal (g.positive h) = basic_head (head_of_atom h)
 head_of_literal (g.unequal h) = basic_head (head_of_inequation h)
 head_of_literal (g.negative h) = tilde
 head_of_literal (g.negative_in_parentheses h) = tilde
+
+-- what a clause begins with
+pub data ClauseHead : Option Token → Type 0 where
+  literal_head : {h : Option Token} → LiteralHead h → ClauseHead h
+  open_head : ClauseHead (Some (Sign m.Open))
+
+pub head_of_clause : {d : ℕ} {f : Surface} {ts rest : Tokens} → IsClause d f ts rest → ClauseHead (next (plain ts))
+head_of_clause (g.literal h) = literal_head (head_of_literal h)
+head_of_clause (g.literals h k) = literal_head (head_of_literal h)
+head_of_clause (g.clause_in_parentheses h) = open_head
 
 abbrev EnclosedClause : ℕ → Surface → Tokens → Tokens → Type 0
 EnclosedClause d f ts rest = IsClause (suc d) f ts ((Sign m.Close, suc d) ∷ rest)
@@ -187,7 +197,7 @@ OpenClause d = After (Sign m.Open) (suc d) (λ x. x) (EnclosedClause d)
 of_open_clause : (d : ℕ) (f : Surface) (ts rest : Tokens) → OpenClause d f ts rest → IsClause d f ts rest
 of_open_clause d f ts rest (after h) = g.clause_in_parentheses h
 
-some_clause : (d : ℕ) → Inhabited (IsClause d)
+pub some_clause : (d : ℕ) → Inhabited (IsClause d)
 some_clause d = record { value = (some_atom d).value; text = (some_atom d).text; spells = λ rest. g.literal (g.positive ((some_atom d).spells rest)) }
 
 module _ (room d limit : ℕ) (e : limit ≡ d + room) (nested : Reader Token Surface) (good : GoodAt limit (Sign m.Open) nested (OpenClause d) always) where

@@ -22,16 +22,19 @@ use Rattle.tptp_grammar.specs.Terms as t
 use Rattle.tptp_grammar.specs.Terms.{IsTerm}
 use Rattle.tptp_grammar.specs.Formulas as f
 use Rattle.tptp_grammar.specs.Clauses as c
+use Rattle.tptp_grammar.specs.TypedClauses as q
 use Rattle.tptp_grammar.specs.GeneralTerms as g
 use Rattle.tptp_grammar.specs.GeneralTerms.{IsFormulaOf, IsGeneralData}
 use Rattle.tptp_grammar.specs.code.ReadTerms.{is_mark, term}
 use Rattle.tptp_grammar.specs.code.ReadFormulas.{formula}
 use Rattle.tptp_grammar.specs.code.ReadClauses.{clause}
+use Rattle.tptp_grammar.specs.code.ReadTypedClauses.{typed_clause}
 use Rattle.tptp_grammar.specs.code.ReadGeneral.{formula_of, formula_open, formula_in_at, formula_in, term_open, term_in_at, term_in, embedded, formula_data_at, formula_data}
 use Rattle.tptp_grammar.proofs.Marks.{text_is, closes, ends_term, ends_literals, ends_formula, good_in}
 use Rattle.tptp_grammar.proofs.ExactTerms.{good_term}
 use Rattle.tptp_grammar.proofs.ExactFormulas.{good_formula}
 use Rattle.tptp_grammar.proofs.ExactClauses.{good_clause}
+use Rattle.tptp_grammar.proofs.ExactTypedClauses.{good_typed_clause}
 
 -- ---- embedded formulas and terms
 
@@ -51,6 +54,7 @@ closes_formula h e = cc
 good_formula_of : (l : Lang) (room d limit : ℕ) → limit ≡ d + room → Good limit (formula_of l room) (IsFormulaOf l d) closes
 good_formula_of lang.Cnf room d limit e = good_as limit (clause room) (IsFormulaOf lang.Cnf d) (IsFormulaOf lang.Cnf d) ends_literals closes (good_clause room d limit e) (λ x ts rest h. h) (λ x ts rest h. h) closes_literals
 good_formula_of lang.Fof room d limit e = good_as limit (formula false room) (IsFormulaOf lang.Fof d) (IsFormulaOf lang.Fof d) ends_formula closes (good_formula false room d limit e) (λ x ts rest h. h) (λ x ts rest h. h) closes_formula
+good_formula_of lang.Tcf room d limit e = good_as limit (typed_clause room) (IsFormulaOf lang.Tcf d) (IsFormulaOf lang.Tcf d) ends_literals closes (good_typed_clause room d limit e) (λ x ts rest h. h) (λ x ts rest h. h) closes_literals
 good_formula_of lang.Tff room d limit e = good_as limit (formula true room) (IsFormulaOf lang.Tff d) (IsFormulaOf lang.Tff d) ends_formula closes (good_formula true room d limit e) (λ x ts rest h. h) (λ x ts rest h. h) closes_formula
 
 abbrev EnclosedFormula : Lang → ℕ → Surface → Tokens → Tokens → Type 0
@@ -61,6 +65,7 @@ OpenFormula l d = After (Sign m.Open) (suc d) (λ x. x) (EnclosedFormula l d)
 
 some_formula : (l : Lang) (d : ℕ) → Inhabited (EnclosedFormula l d)
 some_formula lang.Cnf d = record { value = fm.Atom [] []; text = λ rest. (Lower [], suc d) ∷ (Sign m.Close, suc d) ∷ rest; spells = λ rest. c.literal (c.positive (t.predicate (t.constant refl))) }
+some_formula lang.Tcf d = record { value = fm.Atom [] []; text = λ rest. (Lower [], suc d) ∷ (Sign m.Close, suc d) ∷ rest; spells = λ rest. q.unquantified (c.literal (c.positive (t.predicate (t.constant refl)))) }
 some_formula lang.Fof d = record { value = fm.Atom [] []; text = λ rest. (Lower [], suc d) ∷ (Sign m.Close, suc d) ∷ rest; spells = λ rest. f.single (f.atom (t.predicate (t.constant refl))) }
 some_formula lang.Tff d = record { value = fm.Atom [] []; text = λ rest. (Lower [], suc d) ∷ (Sign m.Close, suc d) ∷ rest; spells = λ rest. f.single (f.atom (t.predicate (t.constant refl))) }
 
@@ -120,24 +125,29 @@ module _ (room d limit : ℕ) (e : limit ≡ d + room) where
 
 -- ---- words that embed
 
-embedded_by : (w : Text) (a b c : Bool) → bytes_eq w (embedded_text lang.Cnf) ≡ a → bytes_eq w (embedded_text lang.Fof) ≡ b → bytes_eq w (embedded_text lang.Tff) ≡ c → (l : Lang) → (if a then Some lang.Cnf else if b then Some lang.Fof else if c then Some lang.Tff else None) ≡ Some l → w ≡ embedded_text l
-embedded_by w true b c i j k l e = let same : lang.Cnf ≡ l = cc in subst (λ x. w ≡ embedded_text x) same (text_is w (embedded_text lang.Cnf) i)
-embedded_by w false true c i j k l e = let same : lang.Fof ≡ l = cc in subst (λ x. w ≡ embedded_text x) same (text_is w (embedded_text lang.Fof) j)
-embedded_by w false false true i j k l e = let same : lang.Tff ≡ l = cc in subst (λ x. w ≡ embedded_text x) same (text_is w (embedded_text lang.Tff) k)
+-- the word before a formula of the language
+abbrev IsEmbedded : Text → Lang → Type 0
+IsEmbedded w l = (w ≡ embedded_text l) × (l ≡ lang.Tcf → ⊥)
+
+embedded_by : (w : Text) (a b c : Bool) → bytes_eq w (embedded_text lang.Cnf) ≡ a → bytes_eq w (embedded_text lang.Fof) ≡ b → bytes_eq w (embedded_text lang.Tff) ≡ c → (l : Lang) → (if a then Some lang.Cnf else if b then Some lang.Fof else if c then Some lang.Tff else None) ≡ Some l → IsEmbedded w l
+embedded_by w true b c i j k l e = let same : lang.Cnf ≡ l = cc in subst (IsEmbedded w) same (text_is w (embedded_text lang.Cnf) i, λ never. (cc))
+embedded_by w false true c i j k l e = let same : lang.Fof ≡ l = cc in subst (IsEmbedded w) same (text_is w (embedded_text lang.Fof) j, λ never. (cc))
+embedded_by w false false true i j k l e = let same : lang.Tff ≡ l = cc in subst (IsEmbedded w) same (text_is w (embedded_text lang.Tff) k, λ never. (cc))
 embedded_by w false false false i j k l e = cc
 
-embedded_is : (w : Text) (l : Lang) → embedded w ≡ Some l → w ≡ embedded_text l
+embedded_is : (w : Text) (l : Lang) → embedded w ≡ Some l → IsEmbedded w l
 unfolding embedded
 embedded_is w l e = embedded_by w (bytes_eq w (embedded_text lang.Cnf)) (bytes_eq w (embedded_text lang.Fof)) (bytes_eq w (embedded_text lang.Tff)) refl refl refl l e
 
-is_embedded_text : (l : Lang) → embedded (embedded_text l) ≡ Some l
+is_embedded_text : (l : Lang) → (l ≡ lang.Tcf → ⊥) → embedded (embedded_text l) ≡ Some l
 unfolding embedded
-is_embedded_text lang.Cnf = refl
-is_embedded_text lang.Fof = refl
-is_embedded_text lang.Tff = refl
+is_embedded_text lang.Cnf other = refl
+is_embedded_text lang.Fof other = refl
+is_embedded_text lang.Tff other = refl
+is_embedded_text lang.Tcf other = absurd (other refl)
 
-pub is_embedded : (w : Text) (l : Lang) → w ≡ embedded_text l → embedded w ≡ Some l
-is_embedded w l e = ap embedded e ∙ is_embedded_text l
+pub is_embedded : (w : Text) (l : Lang) → w ≡ embedded_text l → (l ≡ lang.Tcf → ⊥) → embedded w ≡ Some l
+is_embedded w l e other = ap embedded e ∙ is_embedded_text l other
 
 term_word : (room : ℕ) (w : Text) → w ≡ codes "$fot" → (us : List Token) → formula_data room w (Dollar w ∷ us) ≡ mapped gt.Term (term_in room us)
 unfolding formula_data embedded
@@ -151,8 +161,8 @@ no_word : (room : ℕ) (w : Text) → embedded w ≡ None → bytes_eq w (codes 
 unfolding formula_data
 no_word room w e k us = ap (λ o. formula_data_at room w o us) e ∙ rw k refl
 
-of_formula_word : (d : ℕ) (w : Text) (l : Lang) → w ≡ embedded_text l → (x : GTerm) (ts rest : Tokens) → After (Dollar w) d (gt.Formula l) (OpenFormula l d) x ts rest → IsGeneralData d x ts rest
-of_formula_word d w l e x ts rest (after (after h)) = g.formula_data e h
+of_formula_word : (d : ℕ) (w : Text) (l : Lang) → IsEmbedded w l → (x : GTerm) (ts rest : Tokens) → After (Dollar w) d (gt.Formula l) (OpenFormula l d) x ts rest → IsGeneralData d x ts rest
+of_formula_word d w l e x ts rest (after (after h)) = g.formula_data e.0 e.1 h
 
 of_term_word : (d : ℕ) (w : Text) → w ≡ codes "$fot" → (x : GTerm) (ts rest : Tokens) → After (Dollar w) d gt.Term (OpenTerm d) x ts rest → IsGeneralData d x ts rest
 of_term_word d w e x ts rest (after (after h)) = g.term_data e h

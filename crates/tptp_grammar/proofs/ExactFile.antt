@@ -6,6 +6,7 @@ use Rattle.first_fault.specs.code.Reading.{Cause, TooDeep}
 use Rattle.first_fault.proofs.Exact.{plain-append}
 use Rattle.first_fault.proofs.Found.{Found, over_join}
 use Rattle.first_fault.proofs.Separated.{length-plain}
+use Rattle.tptp_lexer.specs.declared.style.Style.{Style}
 use Rattle.tptp_lexer.specs.declared.token.Token.{Token}
 use Rattle.tptp_lexer.specs.declared.token.Token.TheVariants.{Comment}
 use Rattle.tptp_base.specs.declared.place.Place.{Place}
@@ -66,91 +67,91 @@ solid_ends (ends_here {t = t} {place = place} e) x = solid_kept t place x e
 solid_ends (ends_drop {t = t} {place = place} {fr = fr} e h) x = solid_dropped t place (fr ++ x) e ∙ solid_ends h x
 solid_ends (ends_keep {t = t} {place = place} {fr = fr} e h) x = solid_kept t place (fr ++ x) e ∙ ap (λ l. t ∷ l) (solid_ends h x)
 
-module _ (room : ℕ) where
+module _ (style : Style) (room : ℕ) where
   -- what is left of an item is passed over
-  skip_drop : (left : ℕ) (t : Token) (place : Place) (rest : List Placed) → is_comment t ≡ true → file_from room (suc left) ((t, place) ∷ rest) ≡ file_from room (suc left) rest
-  skip_drop left t place rest e = ap (λ b. file_from room (if b then suc left else left) rest) e
+  skip_drop : (left : ℕ) (t : Token) (place : Place) (rest : List Placed) → is_comment t ≡ true → file_from style room (suc left) ((t, place) ∷ rest) ≡ file_from style room (suc left) rest
+  skip_drop left t place rest e = ap (λ b. file_from style room (if b then suc left else left) rest) e
 
-  skip_keep : (left : ℕ) (t : Token) (place : Place) (rest : List Placed) → is_comment t ≡ false → file_from room (suc left) ((t, place) ∷ rest) ≡ file_from room left rest
-  skip_keep left t place rest e = ap (λ b. file_from room (if b then suc left else left) rest) e
+  skip_keep : (left : ℕ) (t : Token) (place : Place) (rest : List Placed) → is_comment t ≡ false → file_from style room (suc left) ((t, place) ∷ rest) ≡ file_from style room left rest
+  skip_keep left t place rest e = ap (λ b. file_from style room (if b then suc left else left) rest) e
 
   some_taken : {fr : List Placed} {us : Tokens} → Ends fr us → (n : ℕ) × (length us ≡ suc n)
   some_taken (ends_here e) = (0, refl)
   some_taken (ends_drop e h) = some_taken h
   some_taken (ends_keep {us = us} e h) = (length us, refl)
 
-  skip_ends : {fr : List Placed} {us : Tokens} → Ends fr us → (x : List Placed) → file_from room (length us) (fr ++ x) ≡ file_from room zero x
+  skip_ends : {fr : List Placed} {us : Tokens} → Ends fr us → (x : List Placed) → file_from style room (length us) (fr ++ x) ≡ file_from style room zero x
   skip_ends (ends_here {t = t} {place = place} e) x = skip_keep 0 t place x e
   skip_ends (ends_drop {t = t} {place = place} {fr = fr} {us = us} e h) x =
       let n = some_taken h in
-      ap (λ k. file_from room k ((t, place) ∷ (fr ++ x))) n.1 ∙ skip_drop n.0 t place (fr ++ x) e ∙ ap (λ k. file_from room k (fr ++ x)) (sym n.1) ∙ skip_ends h x
+      ap (λ k. file_from style room k ((t, place) ∷ (fr ++ x))) n.1 ∙ skip_drop n.0 t place (fr ++ x) e ∙ ap (λ k. file_from style room k (fr ++ x)) (sym n.1) ∙ skip_ends h x
   skip_ends (ends_keep {t = t} {place = place} {fr = fr} {us = us} e h) x = skip_keep (length us) t place (fr ++ x) e ∙ skip_ends h x
 
   -- from a token between items on
-  pub started_item : (t : Token) (place : Place) (rest : List Placed) → is_comment t ≡ false → file room ((t, place) ∷ rest) ≡ followed (item room place (t ∷ solid rest)) (λ left. file_from room left rest) (length (solid rest))
+  pub started_item : (t : Token) (place : Place) (rest : List Placed) → is_comment t ≡ false → file style room ((t, place) ∷ rest) ≡ followed (item style room place (t ∷ solid rest)) (λ left. file_from style room left rest) (length (solid rest))
   unfolding file
   started_item (Comment text) place rest e = cc
   started_item t place rest e = refl
 
-  pub started_comment : (text : Text) (place : Place) (rest : List Placed) → file room ((Comment text, place) ∷ rest) ≡ with_item (it.Comment text) (file room rest)
+  pub started_comment : (text : Text) (place : Place) (rest : List Placed) → file style room ((Comment text, place) ∷ rest) ≡ with_item (it.Comment text) (file style room rest)
   unfolding file
   started_comment text place rest = refl
 
   -- an item that is read, and what follows it
-  pub item_read : (t : Token) (place : Place) (fr x : List Placed) (us : Tokens) (i : Item) → is_comment t ≡ false → Ends fr us → item room place (t ∷ solid (fr ++ x)) ≡ Ok (i, solid x) → file room ((t, place) ∷ (fr ++ x)) ≡ with_item i (file room x)
+  pub item_read : (t : Token) (place : Place) (fr x : List Placed) (us : Tokens) (i : Item) → is_comment t ≡ false → Ends fr us → item style room place (t ∷ solid (fr ++ x)) ≡ Ok (i, solid x) → file style room ((t, place) ∷ (fr ++ x)) ≡ with_item i (file style room x)
   unfolding file
   item_read t place fr x us i e h k =
       let size : length (solid (fr ++ x)) - length (solid x) ≡ length us = omega (arith, ap length (solid_ends h x), length-append (plain us) (solid x), length-plain us) in
-      started_item t place (fr ++ x) e ∙ ap (λ o. followed o (λ left. file_from room left (fr ++ x)) (length (solid (fr ++ x)))) k
-      ∙ ap (λ n. with_item i (file_from room n (fr ++ x))) size ∙ ap (with_item i) (skip_ends h x)
+      started_item t place (fr ++ x) e ∙ ap (λ o. followed o (λ left. file_from style room left (fr ++ x)) (length (solid (fr ++ x)))) k
+      ∙ ap (λ n. with_item i (file_from style room n (fr ++ x))) size ∙ ap (with_item i) (skip_ends h x)
 
-  pub item_fails : (t : Token) (place : Place) (rest : List Placed) (f : Cause × List Token) → is_comment t ≡ false → item room place (t ∷ solid rest) ≡ Err f → file room ((t, place) ∷ rest) ≡ Err f
-  item_fails t place rest f e k = started_item t place rest e ∙ ap (λ o. followed o (λ left. file_from room left rest) (length (solid rest))) k
+  pub item_fails : (t : Token) (place : Place) (rest : List Placed) (f : Cause × List Token) → is_comment t ≡ false → item style room place (t ∷ solid rest) ≡ Err f → file style room ((t, place) ∷ rest) ≡ Err f
+  item_fails t place rest f e k = started_item t place rest e ∙ ap (λ o. followed o (λ left. file_from style room left rest) (length (solid rest))) k
 
 -- ---- what is spelled is found
 
 -- an item begins with a word
-pub first_solid : {place : Place} {i : Item} {t : Token} {n : ℕ} {us mid : Tokens} → IsItem place i ((t, n) ∷ us) mid → is_comment t ≡ false
-first_solid (g.annotated e h j k x) = refl
+pub first_solid : {style : Style} {place : Place} {i : Item} {t : Token} {n : ℕ} {us mid : Tokens} → IsItem style place i ((t, n) ∷ us) mid → is_comment t ≡ false
+first_solid (g.annotated e has h j k x) = refl
 first_solid (g.include e h) = refl
 
-pub solid_file : {items : List Item} {raw : List Placed} {us : Tokens} → IsFile items raw us → solid raw ≡ plain us
+pub solid_file : {style : Style} {items : List Item} {raw : List Placed} {us : Tokens} → IsFile style items raw us → solid raw ≡ plain us
 solid_file end_of_file = refl
 solid_file (comment h) = solid_file h
 solid_file (input {t = t} {place = place} {ts = ts} {rest = rest} {us = us} {mid = mid} i thr h) =
     let c = cut_of thr in
     solid_kept t place ts (first_solid i) ∙ ap (λ l. t ∷ l) (ap solid c.text ∙ solid_ends c.ends rest ∙ ap (λ l. plain c.taken ++ l) (solid_file h) ∙ sym (plain-append c.taken mid) ∙ ap plain (sym c.tokens))
 
-abbrev pub FoundFile : ℕ → List Item → List Placed → Tokens → Type 0
-FoundFile room items raw us = (Within room us × (file room raw ≡ Ok items)) ⊎ ((over : Tokens) × FirstOver room us over × (file room raw ≡ Err (TooDeep, plain over)))
+abbrev pub FoundFile : Style → ℕ → List Item → List Placed → Tokens → Type 0
+FoundFile style room items raw us = (Within room us × (file style room raw ≡ Ok items)) ⊎ ((over : Tokens) × FirstOver room us over × (file style room raw ≡ Err (TooDeep, plain over)))
 
 pub all_within : {limit : ℕ} {ts rest : Tokens} → WithinTo limit ts rest → Within limit rest → Within limit ts
 all_within done k = k
 all_within (before le h) k = (le, all_within h k)
 
-module _ (room : ℕ) where
-  found_comment : (text : Text) (place : Place) (items : List Item) (rest : List Placed) (us : Tokens) → FoundFile room items rest us → FoundFile room (it.Comment text ∷ items) ((Comment text, place) ∷ rest) us
-  found_comment text place items rest us (inl (h, k)) = inl (h, started_comment room text place rest ∙ ap (with_item (it.Comment text)) k)
-  found_comment text place items rest us (inr (over, h, k)) = inr (over, h, started_comment room text place rest ∙ ap (with_item (it.Comment text)) k)
+module _ (style : Style) (room : ℕ) where
+  found_comment : (text : Text) (place : Place) (items : List Item) (rest : List Placed) (us : Tokens) → FoundFile style room items rest us → FoundFile style room (it.Comment text ∷ items) ((Comment text, place) ∷ rest) us
+  found_comment text place items rest us (inl (h, k)) = inl (h, started_comment style room text place rest ∙ ap (with_item (it.Comment text)) k)
+  found_comment text place items rest us (inr (over, h, k)) = inr (over, h, started_comment style room text place rest ∙ ap (with_item (it.Comment text)) k)
 
-  module _ (i : Item) (t : Token) (place : Place) (n : ℕ) (items : List Item) (ts rest : List Placed) (us mid : Tokens) (derived : IsItem place i ((t, n) ∷ us) mid) (thr : Through ts rest us mid) (h : IsFile items rest mid) where
+  module _ (i : Item) (t : Token) (place : Place) (n : ℕ) (items : List Item) (ts rest : List Placed) (us mid : Tokens) (derived : IsItem style place i ((t, n) ∷ us) mid) (thr : Through ts rest us mid) (h : IsFile style items rest mid) where
     whole_solid : t ∷ solid ts ≡ plain ((t, n) ∷ us)
     whole_solid = sym (solid_kept t place ts (first_solid derived)) ∙ solid_file (input derived thr h)
 
-    found_rest : item room place (plain ((t, n) ∷ us)) ≡ Ok (i, plain mid) → file room ((t, place) ∷ ts) ≡ with_item i (file room rest)
+    found_rest : item style room place (plain ((t, n) ∷ us)) ≡ Ok (i, plain mid) → file style room ((t, place) ∷ ts) ≡ with_item i (file style room rest)
     found_rest k =
         let c = cut_of thr in
-        let at : item room place (t ∷ solid (c.fr ++ rest)) ≡ Ok (i, solid rest) = ap (λ l. item room place (t ∷ solid l)) (sym c.text) ∙ ap (item room place) whole_solid ∙ k ∙ ap (λ l. Ok (i, l)) (sym (solid_file h)) in
-        ap (λ l. file room ((t, place) ∷ l)) c.text ∙ item_read room t place c.fr rest c.taken i (first_solid derived) c.ends at
+        let at : item style room place (t ∷ solid (c.fr ++ rest)) ≡ Ok (i, solid rest) = ap (λ l. item style room place (t ∷ solid l)) (sym c.text) ∙ ap (item style room place) whole_solid ∙ k ∙ ap (λ l. Ok (i, l)) (sym (solid_file h)) in
+        ap (λ l. file style room ((t, place) ∷ l)) c.text ∙ item_read style room t place c.fr rest c.taken i (first_solid derived) c.ends at
 
-    found_input : Found room (item room place) i ((t, n) ∷ us) mid → FoundFile room items rest mid → FoundFile room (i ∷ items) ((t, place) ∷ ts) ((t, n) ∷ us)
+    found_input : Found room (item style room place) i ((t, n) ∷ us) mid → FoundFile style room items rest mid → FoundFile style room (i ∷ items) ((t, place) ∷ ts) ((t, n) ∷ us)
     found_input (inl (w, k)) (inl (v, l)) = inl (all_within w v, found_rest k ∙ ap (with_item i) l)
     found_input (inl (w, k)) (inr (over, v, l)) = inr (over, over_join w v, found_rest k ∙ ap (with_item i) l)
-    found_input (inr (over, w, k)) second = inr (over, w, item_fails room t place ts (TooDeep, plain over) (first_solid derived) (ap (item room place) whole_solid ∙ k))
+    found_input (inr (over, w, k)) second = inr (over, w, item_fails style room t place ts (TooDeep, plain over) (first_solid derived) (ap (item style room place) whole_solid ∙ k))
 
-  pub found_file : {items : List Item} {raw : List Placed} {us : Tokens} → IsFile items raw us → FoundFile room items raw us
+  pub found_file : {items : List Item} {raw : List Placed} {us : Tokens} → IsFile style items raw us → FoundFile style room items raw us
   unfolding file
   found_file end_of_file = inl (tt, refl)
   found_file (comment {text = text} {place = place} {items = items} {rest = rest} {us = us} h) = found_comment text place items rest us (found_file h)
   found_file (input {i = i} {t = t} {place = place} {n = n} {items = items} {ts = ts} {rest = rest} {us = us} {mid = mid} derived thr h) =
-      found_input i t place n items ts rest us mid derived thr h ((good_item room room (omega arith) place).found i ((t, n) ∷ us) mid derived refl) (found_file h)
+      found_input i t place n items ts rest us mid derived thr h ((good_item style room room (omega arith) place).found i ((t, n) ∷ us) mid derived refl) (found_file h)

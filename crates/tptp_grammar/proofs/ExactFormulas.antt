@@ -1,17 +1,16 @@
 -- The readers of formulas are exact and find all that is derived.
-use Rattle.std.proofs.Common.{◌≡◌, Bool, true, ℕ, zero, suc, ◌+◌, ◌-◌, ◌≤◌, ◌<◌, List, [], ◌∷◌, length, Option, Some, Ok, Err, ◌⊎◌, inl, inr, refl, sym, ◌∙◌, ap, arith}
+use Rattle.std.proofs.Common.{◌≡◌, Bool, true, ℕ, zero, suc, ◌+◌, ◌-◌, ◌≤◌, ◌<◌, List, [], ◌∷◌, length, Option, Some, Ok, Err, inl, refl, sym, ◌∙◌, ap, arith}
 use Rattle.first_fault.specs.Nesting.{plain}
 use Rattle.first_fault.proofs.NestingFacts.{done}
 use Rattle.first_fault.specs.code.Reading.{TooDeep, Reader, mapped, next, closed, separated}
 use Rattle.first_fault.specs.Rules.{Listed, last, more}
-use Rattle.first_fault.proofs.Exact.{Exact, Inhabited, Can, exact_done, exact_stop}
+use Rattle.first_fault.proofs.Exact.{Exact, Inhabited, exact_done}
 use Rattle.first_fault.proofs.Found.{Found, found_as}
 use Rattle.first_fault.proofs.Good.{Good, GoodAt, After, after, Both, both, widen, good_as, good_both, good_choice, behind_token, over_token, unmapped, always}
 use Rattle.tptp_lexer.specs.declared.token.Token.{Token}
 use Rattle.tptp_lexer.specs.declared.token.Token.TheVariants.{Lower, Mark as Sign}
 use Rattle.tptp_lexer.specs.declared.token.Mark.{Mark}
 use Rattle.tptp_lexer.specs.declared.token.Mark.TheVariants as m
-use Rattle.tptp_base.specs.declared.surface.BoundVar.{BoundVar}
 use Rattle.tptp_base.specs.declared.surface.BinOp.{BinOp}
 use Rattle.tptp_base.specs.declared.surface.BinOp.TheVariants as op
 use Rattle.tptp_base.specs.declared.surface.Quant.{Quant}
@@ -21,12 +20,13 @@ use Rattle.tptp_base.specs.declared.surface.Surface.TheVariants as fm
 use Rattle.tptp_grammar.specs.Tokens.{Tokens, operator, quantifier}
 use Rattle.tptp_grammar.specs.Terms as t
 use Rattle.tptp_grammar.specs.Formulas as g
-use Rattle.tptp_grammar.specs.Formulas.{under, IsUnit, IsFormula, AreUnits}
+use Rattle.tptp_grammar.specs.Formulas.{IsUnit, IsFormula, AreUnits}
 use Rattle.tptp_grammar.specs.code.ReadTerms.{is_mark, basic}
-use Rattle.tptp_grammar.specs.code.ReadFormulas.{bracket, joined_at, joined, formula_by, bound, scope_at, scope, quantified, unit_at, unit_by, deeper, unit, formula}
+use Rattle.tptp_grammar.specs.code.ReadFormulas.{joined_at, joined, formula_by, quantified, unit_at, unit_by, deeper, unit, formula}
 use Rattle.tptp_grammar.proofs.Marks.{ends_unit, ends_formula, formula_ends_unit, formula_ends_units, separates, good_in, good_list}
 use Rattle.tptp_grammar.proofs.ExactAtoms.{IsBasic, of_atom, of_inequation, upper, lower, quoted, BasicHead, term_head, dollar, head_of_atom, head_of_inequation, moves_atom, moves_inequation, some_atom, good_basic}
-use Rattle.tptp_grammar.proofs.ExactVariables.{IsBracket, good_bracket, moves_bound_variables, some_in_bracket}
+use Rattle.tptp_grammar.proofs.ExactVariables.{moves_bound_variables}
+use Rattle.tptp_grammar.proofs.ExactScopes.{Scopes, Quantified, good_quantified}
 
 -- ---- each takes a token
 
@@ -181,15 +181,6 @@ deeper_none typed zero levels at us le = refl
 deeper_none typed (suc room) zero at us le = absurd (omega arith)
 deeper_none typed (suc room) (suc levels) at us le = deeper_none typed room levels at us (omega arith)
 
-lt_or_le : (a b : ℕ) → (a < b) ⊎ (b ≤ a)
-lt_or_le a zero = inr (omega arith)
-lt_or_le zero (suc b) = inl (omega arith)
-lt_or_le (suc a) (suc b) = elim (lt_or_le a b) [ inl h ↦ inl (omega arith) | inr h ↦ inr (omega arith) ]
-
-under_is : (d : ℕ) (xs : List BoundVar) → under d xs ≡ d + length xs
-under_is d [] = omega arith
-under_is d (x ∷ xs) = omega (arith, under_is d xs)
-
 -- ---- units
 
 some_unit : (typed : Bool) (d : ℕ) → Inhabited (IsUnit typed d)
@@ -201,16 +192,10 @@ EnclosedFormula typed d f ts rest = IsFormula typed (suc d) f ts ((Sign m.Close,
 some_enclosed_formula : (typed : Bool) (d : ℕ) → Inhabited (EnclosedFormula typed d)
 some_enclosed_formula typed d = record { value = fm.Atom [] []; text = λ rest. (Lower [], suc d) ∷ (Sign m.Close, suc d) ∷ rest; spells = λ rest. g.single (g.atom (t.predicate (t.constant refl))) }
 
-abbrev Scope : Bool → ℕ → Quant → List BoundVar → Surface → Tokens → Tokens → Type 0
-Scope typed d q xs = After (Sign m.Colon) (under d xs) (fm.Bind q xs) (IsUnit typed (under d xs))
+scopes : (typed : Bool) → Scopes (IsUnit typed) (unit typed) (deeper typed)
+scopes typed = record { is = deeper_is typed; none = deeper_none typed; some = some_unit typed }
 
-some_scope : (typed : Bool) (d : ℕ) (q : Quant) (xs : List BoundVar) → Inhabited (Scope typed d q xs)
-some_scope typed d q xs = record { value = fm.Bind q xs (some_unit typed (under d xs)).value; text = λ rest. (Sign m.Colon, under d xs) ∷ (some_unit typed (under d xs)).text rest; spells = λ rest. after ((some_unit typed (under d xs)).spells rest) }
-
-abbrev Quantified : Bool → ℕ → Quant → Surface → Tokens → Tokens → Type 0
-Quantified typed d q = Both (IsBracket typed d) (Scope typed d q)
-
-of_quantified : (typed : Bool) (d : ℕ) (mark : Mark) (q : Quant) → quantifier mark ≡ Some q → (f : Surface) (ts rest : Tokens) → After (Sign mark) d (λ x. x) (Quantified typed d q) f ts rest → IsUnit typed d f ts rest
+of_quantified : (typed : Bool) (d : ℕ) (mark : Mark) (q : Quant) → quantifier mark ≡ Some q → (f : Surface) (ts rest : Tokens) → After (Sign mark) d (λ x. x) (Quantified (IsUnit typed) typed d q) f ts rest → IsUnit typed d f ts rest
 of_quantified typed d mark q e f ts rest (after (both (after h) (after k))) = g.quantified e h k
 
 of_tilde : (typed : Bool) (d : ℕ) (f : Surface) (ts rest : Tokens) → After (Sign m.Tilde) (suc d) fm.Not (IsUnit typed (suc d)) f ts rest → IsUnit typed d f ts rest
@@ -248,51 +233,18 @@ module _ (typed : Bool) (d limit : ℕ) where
       (λ us. unmapped _ _ refl)
 
 module _ (typed : Bool) (room d limit : ℕ) (e : limit ≡ d + room) (ih : (r d : ℕ) → r < room → limit ≡ d + r → Good limit (unit typed r) (IsUnit typed d) ends_unit) where
-  module _ (q : Quant) (x : BoundVar) (xs : List BoundVar) where
-    abbrev scope_from : Option Token → Reader Token Surface
-    scope_from h = scope_at (deeper typed room) q (x ∷ xs) h
-
-    colon_scope : (length xs < room) ⊎ (room ≤ length xs) → GoodAt limit (Sign m.Colon) (scope_from (Some (Sign m.Colon))) (Scope typed d q (x ∷ xs)) ends_unit
-    colon_scope (inl lt) =
-        let level : under d (x ∷ xs) ≡ d + length xs + 1 = omega (arith, under_is d xs) in
-        behind_token limit (Sign m.Colon) (under d (x ∷ xs)) (scope_from (Some (Sign m.Colon))) (fm.Bind q (x ∷ xs)) (IsUnit typed (under d (x ∷ xs))) ends_unit (unit typed (room - suc (length xs))) (omega arith)
-        (ih (room - suc (length xs)) (under d (x ∷ xs)) (omega arith) (omega arith)) (λ us. ap (mapped (fm.Bind q (x ∷ xs))) (deeper_is typed room (length xs) (Sign m.Colon ∷ us) us lt))
-    colon_scope (inr le) =
-        let level : under d (x ∷ xs) ≡ d + length xs + 1 = omega (arith, under_is d xs) in
-        over_token limit (Sign m.Colon) (under d (x ∷ xs)) (scope_from (Some (Sign m.Colon))) (fm.Bind q (x ∷ xs)) (IsUnit typed (under d (x ∷ xs))) ends_unit (omega arith) (some_unit typed (under d (x ∷ xs)))
-        (λ us. ap (mapped (fm.Bind q (x ∷ xs))) (deeper_none typed room (length xs) (Sign m.Colon ∷ us) us le))
-
-    colon_here : GoodAt limit (Sign m.Colon) (scope_from (Some (Sign m.Colon))) (Scope typed d q (x ∷ xs)) ends_unit
-    colon_here = colon_scope (lt_or_le (length xs) room)
-
-    exact_scope : (ts : List Token) → Exact (scope_from (next ts)) (Scope typed d q (x ∷ xs)) limit ts (scope_from (next ts) ts)
-    exact_scope (Sign m.Colon ∷ ts) = colon_here.exact ts
-    exact_scope ts = exact_stop (scope_from (next ts)) (Scope typed d q (x ∷ xs)) limit ts (some_scope typed d q (x ∷ xs)) (λ other k. refl)
-
-    found_scope : (f : Surface) (ts rest : Tokens) → Scope typed d q (x ∷ xs) f ts rest → ends_unit (next (plain rest)) ≡ true → Found limit (scope_from (next (plain ts))) f ts rest
-    found_scope f ts rest (after h) k = colon_here.found f ts rest (after h) k
-
-    good_scope : Good limit (scope (deeper typed room) q (x ∷ xs)) (Scope typed d q (x ∷ xs)) ends_unit
-    unfolding scope
-    good_scope = good_choice limit (scope (deeper typed room) q (x ∷ xs)) scope_from (Scope typed d q (x ∷ xs)) ends_unit (λ us. refl) exact_scope found_scope (some_scope typed d q (x ∷ xs))
-
-  scope_of : (q : Quant) (xs : List BoundVar) → Can (IsBracket typed d) xs → Good limit (scope (deeper typed room) q xs) (Scope typed d q xs) ends_unit
-  scope_of q [] can = absurd (some_in_bracket can.spells refl)
-  scope_of q (x ∷ xs) can = good_scope q x xs
-
-  good_quantified : (q : Quant) → Good limit (quantified typed room (deeper typed room) q) (Quantified typed d q) ends_unit
-  unfolding quantified
-  good_quantified q = good_both limit (bracket typed room) (scope (deeper typed room) q) (IsBracket typed d) (Scope typed d q) always ends_unit (λ xs v mid rest h k. refl) (good_bracket typed room d limit e) (scope_of q)
+  read_quantified : (q : Quant) → Good limit (quantified typed room (deeper typed room) q) (Quantified (IsUnit typed) typed d q) ends_unit
+  read_quantified q = good_quantified (IsUnit typed) (unit typed) (deeper typed) (scopes typed) ends_unit room d limit e ih typed q
 
   abbrev unit_from : Option Token → Reader Token Surface
   unit_from h = unit_at typed room (deeper typed room) h
 
-  good_quantifier : (mark : Mark) (q : Quant) → ((us : List Token) → unit_from (Some (Sign mark)) (Sign mark ∷ us) ≡ quantified typed room (deeper typed room) q us) → GoodAt limit (Sign mark) (unit_from (Some (Sign mark))) (After (Sign mark) d (λ x. x) (Quantified typed d q)) ends_unit
-  good_quantifier mark q same = behind_token limit (Sign mark) d (unit_from (Some (Sign mark))) (λ x. x) (Quantified typed d q) ends_unit (quantified typed room (deeper typed room) q) (omega arith) (good_quantified q) (λ us. unmapped _ _ (same us))
+  good_quantifier : (mark : Mark) (q : Quant) → ((us : List Token) → unit_from (Some (Sign mark)) (Sign mark ∷ us) ≡ quantified typed room (deeper typed room) q us) → GoodAt limit (Sign mark) (unit_from (Some (Sign mark))) (After (Sign mark) d (λ x. x) (Quantified (IsUnit typed) typed d q)) ends_unit
+  good_quantifier mark q same = behind_token limit (Sign mark) d (unit_from (Some (Sign mark))) (λ x. x) (Quantified (IsUnit typed) typed d q) ends_unit (quantified typed room (deeper typed room) q) (omega arith) (read_quantified q) (λ us. unmapped _ _ (same us))
 
   exact_quantifier : (mark : Mark) (q : Quant) → quantifier mark ≡ Some q → ((us : List Token) → unit_from (Some (Sign mark)) (Sign mark ∷ us) ≡ quantified typed room (deeper typed room) q us) → (ts : List Token)
       → Exact (unit_from (Some (Sign mark))) (IsUnit typed d) limit (Sign mark ∷ ts) (unit_from (Some (Sign mark)) (Sign mark ∷ ts))
-  exact_quantifier mark q is same ts = widen (unit_from (Some (Sign mark))) (After (Sign mark) d (λ x. x) (Quantified typed d q)) (IsUnit typed d) limit (of_quantified typed d mark q is) (Sign mark ∷ ts) (unit_from (Some (Sign mark)) (Sign mark ∷ ts)) ((good_quantifier mark q same).exact ts)
+  exact_quantifier mark q is same ts = widen (unit_from (Some (Sign mark))) (After (Sign mark) d (λ x. x) (Quantified (IsUnit typed) typed d q)) (IsUnit typed d) limit (of_quantified typed d mark q is) (Sign mark ∷ ts) (unit_from (Some (Sign mark)) (Sign mark ∷ ts)) ((good_quantifier mark q same).exact ts)
 
   exact_unit : (ts : List Token) → Exact (unit_from (next ts)) (IsUnit typed d) limit ts (unit_from (next ts) ts)
   exact_unit (Sign m.Tilde ∷ ts) = widen (unit_from (Some (Sign m.Tilde))) (After (Sign m.Tilde) (suc d) fm.Not (IsUnit typed (suc d))) (IsUnit typed d) limit (of_tilde typed d) (Sign m.Tilde ∷ ts) (unit_from (Some (Sign m.Tilde)) (Sign m.Tilde ∷ ts)) ((tilde typed d limit room e ih).exact ts)

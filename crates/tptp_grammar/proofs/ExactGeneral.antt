@@ -24,6 +24,7 @@ use Rattle.tptp_grammar.proofs.Marks.{closes, closes_list, sees_mark, good_in, g
 use Rattle.tptp_grammar.proofs.ExactTerms.{moves_term}
 use Rattle.tptp_grammar.proofs.ExactFormulas.{moves_formula}
 use Rattle.tptp_grammar.proofs.ExactClauses.{moves_clause}
+use Rattle.tptp_grammar.proofs.ExactTypedClauses.{moves_typed_clause}
 use Rattle.tptp_grammar.proofs.ExactEmbedded.{at_formula, at_term, exact_embedding, is_embedded, some_data}
 
 -- ---- each takes a token
@@ -32,6 +33,7 @@ moves_formula_of : (l : Lang) (d : ℕ) (x : Surface) (ts rest : Tokens) → IsF
 moves_formula_of lang.Cnf d x ts rest h = moves_clause h
 moves_formula_of lang.Fof d x ts rest h = moves_formula h
 moves_formula_of lang.Tff d x ts rest h = moves_formula h
+moves_formula_of lang.Tcf d x ts rest h = moves_typed_clause h
 
 mutual
   moves_data : {d : ℕ} {x : GTerm} {ts rest : Tokens} → IsGeneralData d x ts rest → length rest < length ts
@@ -40,7 +42,7 @@ mutual
   moves_data g.general_variable = omega arith
   moves_data g.number = omega arith
   moves_data g.distinct_object = omega arith
-  moves_data (g.formula_data {d = d} {l = l} {f = x} {ts = us} {rest = rest} e h) = omega (arith, moves_formula_of l (suc d) x us ((Sign m.Close, suc d) ∷ rest) h)
+  moves_data (g.formula_data {d = d} {l = l} {f = x} {ts = us} {rest = rest} e other h) = omega (arith, moves_formula_of l (suc d) x us ((Sign m.Close, suc d) ∷ rest) h)
   moves_data (g.term_data e h) = omega (arith, moves_term h)
 
   pub moves_general : {d : ℕ} {x : GTerm} {ts rest : Tokens} → IsGeneralTerm d x ts rest → length rest < length ts
@@ -143,7 +145,7 @@ head_of_data (g.general_function {w = w} {f = f} e h) = head_of_word w f e
 head_of_data g.general_variable = upper
 head_of_data g.number = number
 head_of_data g.distinct_object = distinct
-head_of_data (g.formula_data e h) = dollar
+head_of_data (g.formula_data e other h) = dollar
 head_of_data (g.term_data e h) = dollar
 
 -- it begins with no closing bracket
@@ -206,7 +208,7 @@ module _ (room d limit : ℕ) (e : limit ≡ d + room) (n : Nesting) (good : Goo
   found_data x ts rest g.general_variable k = inl (before (omega arith) done, refl)
   found_data x ts rest g.number k = inl (before (omega arith) done, refl)
   found_data x ts rest g.distinct_object k = inl (before (omega arith) done, refl)
-  found_data x ts rest (g.formula_data {w = w} {l = l} i h) k = (at_formula room d limit e w l (is_embedded w l i)).found x ts rest (after (after h)) refl
+  found_data x ts rest (g.formula_data {w = w} {l = l} i other h) k = (at_formula room d limit e w l (is_embedded w l i other)).found x ts rest (after (after h)) refl
   found_data x ts rest (g.term_data {w = w} i h) k = (at_term room d limit e w i).found x ts rest (after (after h)) refl
 
   good_data : Good limit (general_data_by room n) (IsGeneralData d) ends_data

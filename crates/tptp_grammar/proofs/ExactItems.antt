@@ -1,5 +1,5 @@
 -- The readers of annotated formulas, includes and items are exact and find all that is derived.
-use Rattle.std.proofs.Common.{◌≡◌, Bool, true, false, if◌then◌else◌, ℕ, ◌+◌, List, [], ◌∷◌, Option, Some, None, Err, inl, refl, sym, ◌∙◌, ap, subst, codes, arith}
+use Rattle.std.proofs.Common.{◌≡◌, Bool, true, false, ◌&&◌, if◌then◌else◌, ℕ, ◌+◌, List, [], ◌∷◌, Option, Some, None, Err, inl, refl, sym, ◌∙◌, ap, subst, codes, arith}
 use Rattle.std.specs.Str.{bytes_eq}
 use Rattle.first_fault.specs.Nesting.{plain}
 use Rattle.first_fault.proofs.NestingFacts.{done, before}
@@ -8,6 +8,8 @@ use Rattle.first_fault.specs.Rules.{Listed}
 use Rattle.first_fault.proofs.Exact.{Exact, Inhabited, exact_stop, exact_token}
 use Rattle.first_fault.proofs.Found.{Found}
 use Rattle.first_fault.proofs.Good.{Good, GoodAt, After, after, Both, both, widen, good_as, good_both, good_choice, good_map, behind_token, unmapped, always}
+use Rattle.tptp_lexer.specs.declared.style.Style.{Style}
+use Rattle.tptp_lexer.specs.declared.style.Style.TheVariants.{Problem, Derivation}
 use Rattle.tptp_lexer.specs.declared.token.Token.{Token}
 use Rattle.tptp_lexer.specs.declared.token.Token.TheVariants.{Lower, Quoted, Mark as Sign}
 use Rattle.tptp_lexer.specs.declared.token.Mark.TheVariants as m
@@ -18,7 +20,7 @@ use Rattle.tptp_base.specs.declared.item.Lang.TheVariants as lang
 use Rattle.tptp_base.specs.declared.item.Role.{Role}
 use Rattle.tptp_base.specs.declared.item.Body.{Body}
 use Rattle.tptp_base.specs.declared.item.Item.{Item}
-use Rattle.tptp_grammar.specs.Tokens.{Text, Tokens, lang_text}
+use Rattle.tptp_grammar.specs.Tokens.{Text, Tokens, lang_text, has_language}
 use Rattle.tptp_grammar.specs.Items as g
 use Rattle.tptp_grammar.specs.Items.{IsName, IsBody, IsSelection, IsItem}
 use Rattle.tptp_grammar.specs.code.ReadTerms.{is_mark, same_mark}
@@ -81,30 +83,30 @@ module _ (room limit : ℕ) (e : limit ≡ 0 + room) (place : Place) (l : Lang) 
   good_annotated = good_behind m.Open limit 0 (omega arith) (named room place l) (Named place l) always good_named
 
 -- from the parts to the item
-module _ {place : Place} {l : Lang} {w : Text} (e : w ≡ lang_text l) where
+module _ (style : Style) {place : Place} {l : Lang} {w : Text} (e : w ≡ lang_text l) (has : has_language style l ≡ true) where
   of_finished : {n : Name} {r : Role} {b : Body} {v : Item} {ts us mid end rest : Tokens} → IsName n ts ((Sign m.Comma, 0) ∷ us) → IsRole r us ((Sign m.Comma, 0) ∷ mid) → IsBody l r b mid end → Finished place l n r b v end rest
-      → IsItem place v ((Lower w, 0) ∷ (Sign m.Open, 0) ∷ ts) rest
-  of_finished h (role_word i) k (finish x) = g.annotated e h i k (of_annotations x)
+      → IsItem style place v ((Lower w, 0) ∷ (Sign m.Open, 0) ∷ ts) rest
+  of_finished h (role_word i) k (finish x) = g.annotated e has h i k (of_annotations x)
 
-  of_bodied : {n : Name} {r : Role} {v : Item} {ts us mid rest : Tokens} → IsName n ts ((Sign m.Comma, 0) ∷ us) → IsRole r us ((Sign m.Comma, 0) ∷ mid) → Bodied place l n r v mid rest → IsItem place v ((Lower w, 0) ∷ (Sign m.Open, 0) ∷ ts) rest
+  of_bodied : {n : Name} {r : Role} {v : Item} {ts us mid rest : Tokens} → IsName n ts ((Sign m.Comma, 0) ∷ us) → IsRole r us ((Sign m.Comma, 0) ∷ mid) → Bodied place l n r v mid rest → IsItem style place v ((Lower w, 0) ∷ (Sign m.Open, 0) ∷ ts) rest
   of_bodied h i (both k x) = of_finished h i k x
 
-  of_second : {n : Name} {r : Role} {v : Item} {ts us mid rest : Tokens} → IsName n ts ((Sign m.Comma, 0) ∷ us) → IsRole r us mid → Commaed (Bodied place l n r) v mid rest → IsItem place v ((Lower w, 0) ∷ (Sign m.Open, 0) ∷ ts) rest
+  of_second : {n : Name} {r : Role} {v : Item} {ts us mid rest : Tokens} → IsName n ts ((Sign m.Comma, 0) ∷ us) → IsRole r us mid → Commaed (Bodied place l n r) v mid rest → IsItem style place v ((Lower w, 0) ∷ (Sign m.Open, 0) ∷ ts) rest
   of_second h i (after k) = of_bodied h i k
 
-  of_roled : {n : Name} {v : Item} {ts us rest : Tokens} → IsName n ts ((Sign m.Comma, 0) ∷ us) → Roled place l n v us rest → IsItem place v ((Lower w, 0) ∷ (Sign m.Open, 0) ∷ ts) rest
+  of_roled : {n : Name} {v : Item} {ts us rest : Tokens} → IsName n ts ((Sign m.Comma, 0) ∷ us) → Roled place l n v us rest → IsItem style place v ((Lower w, 0) ∷ (Sign m.Open, 0) ∷ ts) rest
   of_roled h (both i k) = of_second h i k
 
-  of_first : {n : Name} {v : Item} {ts mid rest : Tokens} → IsName n ts mid → Commaed (Roled place l n) v mid rest → IsItem place v ((Lower w, 0) ∷ (Sign m.Open, 0) ∷ ts) rest
+  of_first : {n : Name} {v : Item} {ts mid rest : Tokens} → IsName n ts mid → Commaed (Roled place l n) v mid rest → IsItem style place v ((Lower w, 0) ∷ (Sign m.Open, 0) ∷ ts) rest
   of_first h (after k) = of_roled h k
 
-  of_named : {v : Item} {ts rest : Tokens} → Named place l v ts rest → IsItem place v ((Lower w, 0) ∷ (Sign m.Open, 0) ∷ ts) rest
+  of_named : {v : Item} {ts rest : Tokens} → Named place l v ts rest → IsItem style place v ((Lower w, 0) ∷ (Sign m.Open, 0) ∷ ts) rest
   of_named (both h k) = of_first h k
 
-  of_annotated : {v : Item} {ts rest : Tokens} → Annotated_from place l v ts rest → IsItem place v ((Lower w, 0) ∷ ts) rest
+  of_annotated : {v : Item} {ts rest : Tokens} → Annotated_from place l v ts rest → IsItem style place v ((Lower w, 0) ∷ ts) rest
   of_annotated (after h) = of_named h
 
-  of_lang : (v : Item) (ts rest : Tokens) → After (Lower w) 0 (λ x. x) (Annotated_from place l) v ts rest → IsItem place v ts rest
+  of_lang : (v : Item) (ts rest : Tokens) → After (Lower w) 0 (λ x. x) (Annotated_from place l) v ts rest → IsItem style place v ts rest
   of_lang v ts rest (after h) = of_annotated h
 
 -- ---- includes
@@ -207,86 +209,122 @@ module _ (limit : ℕ) where
     unfolding include
     good_include = good_behind m.Open limit 0 (omega arith) (included place) (Both IsFileName (FromFile place)) always good_included
 
-of_from : {place : Place} {w f : Text} {v : Item} {ts mid rest : Tokens} → w ≡ codes "include" → IsFileName f ts mid → FromFile place f v mid rest → IsItem place v ((Lower w, 0) ∷ (Sign m.Open, 0) ∷ ts) rest
+of_from : {style : Style} {place : Place} {w f : Text} {v : Item} {ts mid rest : Tokens} → w ≡ codes "include" → IsFileName f ts mid → FromFile place f v mid rest → IsItem style place v ((Lower w, 0) ∷ (Sign m.Open, 0) ∷ ts) rest
 of_from e quoted_name (from h) = g.include e h
 
-of_file : {place : Place} {w : Text} {v : Item} {ts rest : Tokens} → w ≡ codes "include" → Both IsFileName (FromFile place) v ts rest → IsItem place v ((Lower w, 0) ∷ (Sign m.Open, 0) ∷ ts) rest
+of_file : {style : Style} {place : Place} {w : Text} {v : Item} {ts rest : Tokens} → w ≡ codes "include" → Both IsFileName (FromFile place) v ts rest → IsItem style place v ((Lower w, 0) ∷ (Sign m.Open, 0) ∷ ts) rest
 of_file e (both h k) = of_from e h k
 
-of_include_open : {place : Place} {w : Text} {v : Item} {ts rest : Tokens} → w ≡ codes "include" → After (Sign m.Open) 0 (λ x. x) (Both IsFileName (FromFile place)) v ts rest → IsItem place v ((Lower w, 0) ∷ ts) rest
+of_include_open : {style : Style} {place : Place} {w : Text} {v : Item} {ts rest : Tokens} → w ≡ codes "include" → After (Sign m.Open) 0 (λ x. x) (Both IsFileName (FromFile place)) v ts rest → IsItem style place v ((Lower w, 0) ∷ ts) rest
 of_include_open e (after h) = of_file e h
 
-of_include : {place : Place} {w : Text} → w ≡ codes "include" → (v : Item) (ts rest : Tokens) → After (Lower w) 0 (λ x. x) (After (Sign m.Open) 0 (λ x. x) (Both IsFileName (FromFile place))) v ts rest → IsItem place v ts rest
+of_include : {style : Style} {place : Place} {w : Text} → w ≡ codes "include" → (v : Item) (ts rest : Tokens) → After (Lower w) 0 (λ x. x) (After (Sign m.Open) 0 (λ x. x) (Both IsFileName (FromFile place))) v ts rest → IsItem style place v ts rest
 of_include e v ts rest (after h) = of_include_open e h
 
 -- ---- items
 
-lang_by : (w : Text) (a b c : Bool) → bytes_eq w (lang_text lang.Cnf) ≡ a → bytes_eq w (lang_text lang.Fof) ≡ b → bytes_eq w (lang_text lang.Tff) ≡ c → (l : Lang) → (if a then Some lang.Cnf else if b then Some lang.Fof else if c then Some lang.Tff else None) ≡ Some l → w ≡ lang_text l
-lang_by w true b c i j k l e = let same : lang.Cnf ≡ l = cc in subst (λ x. w ≡ lang_text x) same (text_is w (lang_text lang.Cnf) i)
-lang_by w false true c i j k l e = let same : lang.Fof ≡ l = cc in subst (λ x. w ≡ lang_text x) same (text_is w (lang_text lang.Fof) j)
-lang_by w false false true i j k l e = let same : lang.Tff ≡ l = cc in subst (λ x. w ≡ lang_text x) same (text_is w (lang_text lang.Tff) k)
-lang_by w false false false i j k l e = cc
+-- the language of a word, by the tests for each
+abbrev lang_tests : Bool → Bool → Bool → Bool → Option Lang
+lang_tests a b c d = if a then Some lang.Cnf else if b then Some lang.Fof else if c then Some lang.Tff else if d then Some lang.Tcf else None
 
-lang_is : (w : Text) (l : Lang) → lang_of w ≡ Some l → w ≡ lang_text l
+abbrev IsLang : Style → Text → Lang → Type 0
+IsLang style w l = (w ≡ lang_text l) × (has_language style l ≡ true)
+
+typed_by : (style : Style) (w : Text) (h b : Bool) → has_language style lang.Tcf ≡ h → bytes_eq w (lang_text lang.Tcf) ≡ b → (h && b) ≡ true → IsLang style w lang.Tcf
+typed_by style w true true i j e = (text_is w (lang_text lang.Tcf) j, i)
+typed_by style w true false i j e = cc
+typed_by style w false b i j e = cc
+
+has_cnf : (style : Style) → has_language style lang.Cnf ≡ true
+has_cnf Problem = refl
+has_cnf Derivation = refl
+
+has_fof : (style : Style) → has_language style lang.Fof ≡ true
+has_fof Problem = refl
+has_fof Derivation = refl
+
+has_tff : (style : Style) → has_language style lang.Tff ≡ true
+has_tff Problem = refl
+has_tff Derivation = refl
+
+lang_by : (style : Style) (w : Text) (a b c d : Bool) → bytes_eq w (lang_text lang.Cnf) ≡ a → bytes_eq w (lang_text lang.Fof) ≡ b → bytes_eq w (lang_text lang.Tff) ≡ c → (has_language style lang.Tcf && bytes_eq w (lang_text lang.Tcf)) ≡ d
+    → (l : Lang) → lang_tests a b c d ≡ Some l → IsLang style w l
+lang_by style w true b c d i j k x l e = let same : lang.Cnf ≡ l = cc in subst (IsLang style w) same (text_is w (lang_text lang.Cnf) i, has_cnf style)
+lang_by style w false true c d i j k x l e = let same : lang.Fof ≡ l = cc in subst (IsLang style w) same (text_is w (lang_text lang.Fof) j, has_fof style)
+lang_by style w false false true d i j k x l e = let same : lang.Tff ≡ l = cc in subst (IsLang style w) same (text_is w (lang_text lang.Tff) k, has_tff style)
+lang_by style w false false false true i j k x l e =
+    let same : lang.Tcf ≡ l = cc in subst (IsLang style w) same (typed_by style w (has_language style lang.Tcf) (bytes_eq w (lang_text lang.Tcf)) refl refl x)
+lang_by style w false false false false i j k x l e = cc
+
+lang_is : (style : Style) (w : Text) (l : Lang) → lang_of style w ≡ Some l → IsLang style w l
 unfolding lang_of
-lang_is w l e = lang_by w (bytes_eq w (lang_text lang.Cnf)) (bytes_eq w (lang_text lang.Fof)) (bytes_eq w (lang_text lang.Tff)) refl refl refl l e
+lang_is style w l e =
+    lang_by style w (bytes_eq w (lang_text lang.Cnf)) (bytes_eq w (lang_text lang.Fof)) (bytes_eq w (lang_text lang.Tff)) (has_language style lang.Tcf && bytes_eq w (lang_text lang.Tcf)) refl refl refl refl l e
 
-is_lang_text : (l : Lang) → lang_of (lang_text l) ≡ Some l
+is_lang_text : (style : Style) (l : Lang) → has_language style l ≡ true → lang_of style (lang_text l) ≡ Some l
 unfolding lang_of
-is_lang_text lang.Cnf = refl
-is_lang_text lang.Fof = refl
-is_lang_text lang.Tff = refl
+is_lang_text style lang.Cnf h = refl
+is_lang_text style lang.Fof h = refl
+is_lang_text style lang.Tff h = refl
+is_lang_text Derivation lang.Tcf h = refl
+is_lang_text Problem lang.Tcf h = cc
 
-is_lang : (w : Text) (l : Lang) → w ≡ lang_text l → lang_of w ≡ Some l
-is_lang w l e = ap lang_of e ∙ is_lang_text l
+is_lang : (style : Style) (w : Text) (l : Lang) → w ≡ lang_text l → has_language style l ≡ true → lang_of style w ≡ Some l
+is_lang style w l e h = ap (lang_of style) e ∙ is_lang_text style l h
 
-module _ (room : ℕ) (place : Place) (w : Text) where
-  lang_word : (l : Lang) → lang_of w ≡ Some l → (us : List Token) → item_at room place (Some (Lower w)) (Lower w ∷ us) ≡ annotated room place l us
+-- an include is no formula of a language
+include_is_none : (style : Style) → lang_of style (codes "include") ≡ None
+unfolding lang_of
+include_is_none Problem = refl
+include_is_none Derivation = refl
+
+module _ (style : Style) (room : ℕ) (place : Place) (w : Text) where
+  lang_word : (l : Lang) → lang_of style w ≡ Some l → (us : List Token) → item_at style room place (Some (Lower w)) (Lower w ∷ us) ≡ annotated room place l us
   lang_word l e us = ap (λ o. worded room place w o (Lower w ∷ us)) e
 
-  include_word : w ≡ codes "include" → (us : List Token) → item_at room place (Some (Lower w)) (Lower w ∷ us) ≡ include place us
-  unfolding lang_of
-  include_word e us = subst (λ v. worded room place v (lang_of v) (Lower w ∷ us) ≡ include place us) (sym e) refl
+  include_word : w ≡ codes "include" → (us : List Token) → item_at style room place (Some (Lower w)) (Lower w ∷ us) ≡ include place us
+  include_word e us =
+      subst (λ v. worded room place v (lang_of style v) (Lower w ∷ us) ≡ include place us) (sym e) (ap (λ o. worded room place (codes "include") o (Lower w ∷ us)) (include_is_none style))
 
-  other_word : lang_of w ≡ None → bytes_eq w (codes "include") ≡ false → (us : List Token) → item_at room place (Some (Lower w)) us ≡ Err (Unexpected, us)
+  other_word : lang_of style w ≡ None → bytes_eq w (codes "include") ≡ false → (us : List Token) → item_at style room place (Some (Lower w)) us ≡ Err (Unexpected, us)
   other_word e k us = ap (λ o. worded room place w o us) e ∙ rw k refl
 
-some_item : (place : Place) → Inhabited (IsItem place)
-some_item place = record {
+some_item : (style : Style) (place : Place) → Inhabited (IsItem style place)
+some_item style place = record {
   value = include_of place [] None;
   text = λ rest. (Lower (codes "include"), 0) ∷ (Sign m.Open, 0) ∷ (Quoted [], 0) ∷ (Sign m.Close, 0) ∷ (Sign m.Dot, 0) ∷ rest;
   spells = λ rest. g.include refl g.whole_file;
 }
 
-module _ (room limit : ℕ) (e : limit ≡ 0 + room) (place : Place) where
-  at_lang : (w : Text) (l : Lang) → lang_of w ≡ Some l → GoodAt limit (Lower w) (item_at room place (Some (Lower w))) (After (Lower w) 0 (λ x. x) (Annotated_from place l)) always
-  at_lang w l is = behind_token limit (Lower w) 0 (item_at room place (Some (Lower w))) (λ x. x) (Annotated_from place l) always (annotated room place l) (omega arith) (good_annotated room limit e place l) (λ us. unmapped _ _ (lang_word room place w l is us))
+module _ (style : Style) (room limit : ℕ) (e : limit ≡ 0 + room) (place : Place) where
+  at_lang : (w : Text) (l : Lang) → lang_of style w ≡ Some l → GoodAt limit (Lower w) (item_at style room place (Some (Lower w))) (After (Lower w) 0 (λ x. x) (Annotated_from place l)) always
+  at_lang w l is = behind_token limit (Lower w) 0 (item_at style room place (Some (Lower w))) (λ x. x) (Annotated_from place l) always (annotated room place l) (omega arith) (good_annotated room limit e place l) (λ us. unmapped _ _ (lang_word style room place w l is us))
 
-  at_include : (w : Text) → w ≡ codes "include" → GoodAt limit (Lower w) (item_at room place (Some (Lower w))) (After (Lower w) 0 (λ x. x) (After (Sign m.Open) 0 (λ x. x) (Both IsFileName (FromFile place)))) always
-  at_include w is = behind_token limit (Lower w) 0 (item_at room place (Some (Lower w))) (λ x. x) (After (Sign m.Open) 0 (λ x. x) (Both IsFileName (FromFile place))) always (include place) (omega arith) (good_include limit place) (λ us. unmapped _ _ (include_word room place w is us))
+  at_include : (w : Text) → w ≡ codes "include" → GoodAt limit (Lower w) (item_at style room place (Some (Lower w))) (After (Lower w) 0 (λ x. x) (After (Sign m.Open) 0 (λ x. x) (Both IsFileName (FromFile place)))) always
+  at_include w is = behind_token limit (Lower w) 0 (item_at style room place (Some (Lower w))) (λ x. x) (After (Sign m.Open) 0 (λ x. x) (Both IsFileName (FromFile place))) always (include place) (omega arith) (good_include limit place) (λ us. unmapped _ _ (include_word style room place w is us))
 
-  exact_other : (w : Text) (b : Bool) → lang_of w ≡ None → bytes_eq w (codes "include") ≡ b → (ts : List Token) → Exact (item_at room place (Some (Lower w))) (IsItem place) limit (Lower w ∷ ts) (item_at room place (Some (Lower w)) (Lower w ∷ ts))
+  exact_other : (w : Text) (b : Bool) → lang_of style w ≡ None → bytes_eq w (codes "include") ≡ b → (ts : List Token) → Exact (item_at style room place (Some (Lower w))) (IsItem style place) limit (Lower w ∷ ts) (item_at style room place (Some (Lower w)) (Lower w ∷ ts))
   exact_other w true i k ts =
       let is = text_is w (codes "include") k in
-      widen (item_at room place (Some (Lower w))) (After (Lower w) 0 (λ x. x) (After (Sign m.Open) 0 (λ x. x) (Both IsFileName (FromFile place)))) (IsItem place) limit (of_include is) (Lower w ∷ ts) (item_at room place (Some (Lower w)) (Lower w ∷ ts)) ((at_include w is).exact ts)
+      widen (item_at style room place (Some (Lower w))) (After (Lower w) 0 (λ x. x) (After (Sign m.Open) 0 (λ x. x) (Both IsFileName (FromFile place)))) (IsItem style place) limit (of_include is) (Lower w ∷ ts) (item_at style room place (Some (Lower w)) (Lower w ∷ ts)) ((at_include w is).exact ts)
   exact_other w false i k ts =
-      subst (Exact (item_at room place (Some (Lower w))) (IsItem place) limit (Lower w ∷ ts)) (sym (other_word room place w i k (Lower w ∷ ts)))
-      (exact_stop (item_at room place (Some (Lower w))) (IsItem place) limit (Lower w ∷ ts) (some_item place) (λ other n. other_word room place w i k other))
+      subst (Exact (item_at style room place (Some (Lower w))) (IsItem style place) limit (Lower w ∷ ts)) (sym (other_word style room place w i k (Lower w ∷ ts)))
+      (exact_stop (item_at style room place (Some (Lower w))) (IsItem style place) limit (Lower w ∷ ts) (some_item style place) (λ other n. other_word style room place w i k other))
 
-  exact_word : (w : Text) (o : Option Lang) → lang_of w ≡ o → (ts : List Token) → Exact (item_at room place (Some (Lower w))) (IsItem place) limit (Lower w ∷ ts) (item_at room place (Some (Lower w)) (Lower w ∷ ts))
+  exact_word : (w : Text) (o : Option Lang) → lang_of style w ≡ o → (ts : List Token) → Exact (item_at style room place (Some (Lower w))) (IsItem style place) limit (Lower w ∷ ts) (item_at style room place (Some (Lower w)) (Lower w ∷ ts))
   exact_word w (Some l) is ts =
-      widen (item_at room place (Some (Lower w))) (After (Lower w) 0 (λ x. x) (Annotated_from place l)) (IsItem place) limit (of_lang (lang_is w l is)) (Lower w ∷ ts) (item_at room place (Some (Lower w)) (Lower w ∷ ts)) ((at_lang w l is).exact ts)
+      widen (item_at style room place (Some (Lower w))) (After (Lower w) 0 (λ x. x) (Annotated_from place l)) (IsItem style place) limit (let known = lang_is style w l is in of_lang style known.0 known.1) (Lower w ∷ ts) (item_at style room place (Some (Lower w)) (Lower w ∷ ts)) ((at_lang w l is).exact ts)
   exact_word w None is ts = exact_other w (bytes_eq w (codes "include")) is refl ts
 
-  exact_item : (ts : List Token) → Exact (item_at room place (next ts)) (IsItem place) limit ts (item_at room place (next ts) ts)
-  exact_item (Lower w ∷ ts) = exact_word w (lang_of w) refl ts
-  exact_item ts = exact_stop (item_at room place (next ts)) (IsItem place) limit ts (some_item place) (λ other k. refl)
+  exact_item : (ts : List Token) → Exact (item_at style room place (next ts)) (IsItem style place) limit ts (item_at style room place (next ts) ts)
+  exact_item (Lower w ∷ ts) = exact_word w (lang_of style w) refl ts
+  exact_item ts = exact_stop (item_at style room place (next ts)) (IsItem style place) limit ts (some_item style place) (λ other k. refl)
 
-  found_item : (v : Item) (ts rest : Tokens) → IsItem place v ts rest → Found limit (item_at room place (next (plain ts))) v ts rest
-  found_item v ts rest (g.annotated {l = l} {w = w} i h j k x) =
-      (at_lang w l (is_lang w l i)).found v ts rest (after (after (both h (after (both (role_word j) (after (both k (finish (to_annotations x))))))))) refl
+  found_item : (v : Item) (ts rest : Tokens) → IsItem style place v ts rest → Found limit (item_at style room place (next (plain ts))) v ts rest
+  found_item v ts rest (g.annotated {l = l} {w = w} i has h j k x) =
+      (at_lang w l (is_lang style w l i has)).found v ts rest (after (after (both h (after (both (role_word j) (after (both k (finish (to_annotations x))))))))) refl
   found_item v ts rest (g.include {w = w} i h) = (at_include w i).found v ts rest (after (after (both quoted_name (from h)))) refl
 
-  pub good_item : Good limit (item room place) (IsItem place) always
+  pub good_item : Good limit (item style room place) (IsItem style place) always
   unfolding item
-  good_item = good_choice limit (item room place) (item_at room place) (IsItem place) always (λ us. refl) exact_item (λ v ts rest h k. found_item v ts rest h) (some_item place)
+  good_item = good_choice limit (item style room place) (item_at style room place) (IsItem style place) always (λ us. refl) exact_item (λ v ts rest h k. found_item v ts rest h) (some_item style place)

@@ -6,6 +6,8 @@ pub mod ExactTypings
 pub mod ExactVariables
 pub mod ExactFormulas
 pub mod ExactClauses
+pub mod ExactScopes
+pub mod ExactTypedClauses
 pub mod ExactEmbedded
 pub mod ExactGeneral
 pub mod Solids

@@ -12,8 +12,10 @@ use Rattle.tptp_grammar.specs.code.Outcomes.{Reads}
 use Rattle.tptp_grammar.specs.code.ReadTerms.{is_mark}
 use Rattle.tptp_grammar.specs.code.ReadTypes.{inside, mapping, map_open, typing, typing_open}
 use Rattle.tptp_grammar.specs.code.ReadFormulas.{bracket, deeper, unit, formula_by, formula, parenthesis}
+use Rattle.tptp_grammar.specs.code.ReadTypedClauses.{deeper_clause, typed_clause}
 use Rattle.tptp_grammar.specs.code.ReadGeneral.{general, nesting, listed, general_arguments, general_bracketed, general_pair}
 use Rattle.tptp_grammar.proofs.ExactFormulas.{deeper_is, deeper_none}
+use Rattle.tptp_grammar.proofs.ExactTypedClauses.{deeper_clause_is, deeper_clause_none}
 use Rattle.tptp_grammar.proofs.ExactVariables.{good_bracket, some_in_bracket, IsBracket}
 
 -- what is read of one list, of another that is the same
@@ -54,6 +56,14 @@ read_some typed room xs ts rest h = names_some xs (some_in_bracket (h.spells [])
 
 pub bracket_some : (typed : Bool) (room : ℕ) (xs : List BoundVar) (ts rest : List Token) → bracket typed room ts ≡ Ok (xs, rest) → 0 < length xs
 bracket_some typed room xs ts rest e = read_some typed room xs ts rest (subst (Exact (bracket typed room) (IsBracket typed 0) room ts) e ((good_bracket typed room 0 room (omega arith)).exact ts))
+
+-- ---- typed clauses
+
+pub no_clause_deeper : (room levels : ℕ) (at us : List Token) → 1 ≤ levels → room < levels → deeper_clause room (levels - 1) at us ≡ Err (TooDeep, at)
+no_clause_deeper room levels at us some lt = deeper_clause_none room (levels - 1) at us (omega arith)
+
+pub some_clause_deeper : (room levels : ℕ) (at us : List Token) → 1 ≤ levels → levels ≤ room → deeper_clause room (levels - 1) at us ≡ typed_clause (room - levels) us
+some_clause_deeper room levels at us some le = let e : room - suc (levels - 1) ≡ room - levels = omega arith in deeper_clause_is room (levels - 1) at us (omega arith) ∙ ap (λ n. typed_clause n us) e
 
 -- ---- general terms
 

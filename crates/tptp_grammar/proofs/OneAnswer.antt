@@ -1,6 +1,7 @@
 -- Tokens have an answer, and only one.
 use Rattle.std.proofs.Common.{◌≡◌, Bool, true, false, if◌then◌else◌, List, [], ◌∷◌, ◌++◌, length, Option, Some, None, Result, Ok, Err, ◌⊎◌, inl, inr, refl, sym, ◌∙◌, ap, subst, append_assoc}
 use Rattle.first_fault.specs.code.Reading.{Cause, Unexpected, TooDeep}
+use Rattle.tptp_lexer.specs.declared.style.Style.{Style}
 use Rattle.tptp_lexer.specs.declared.token.Token.{Token}
 use Rattle.tptp_base.specs.declared.place.Place.{Place}
 use Rattle.tptp_base.specs.declared.item.Item.{Item}
@@ -17,7 +18,7 @@ use Rattle.tptp_grammar.specs.Laws.{IsOne, HasAnswer}
 use Rattle.tptp_grammar.proofs.Whole.{ok_says, fault_says, one_list}
 use Rattle.tptp_grammar.proofs.Stuck.{Stuck, same_stuck, possible_within, possible_so, not_possible, deep_stuck}
 
-module _ (tokens : List Placed) (end : Place) where
+module _ (style : Style) (tokens : List Placed) (end : Place) where
   -- the fault of an impossible token
   abbrev refusal : Placed → GrammarFault
   refusal entry = a_code.refusal_at (Some entry) end
@@ -25,24 +26,24 @@ module _ (tokens : List Placed) (end : Place) where
   -- a fault at the token at which the list can't be gone on from
   record Spot (f : GrammarFault) : Type 0 where
     entry : Placed
-    at : Stuck max_nesting tokens entry
-    why : ((f ≡ refusal entry) × (IsPossible (at.front ++ (entry ∷ [])) → ⊥)) ⊎ ((f ≡ fault.Deep entry.1) × IsPossible (at.front ++ (entry ∷ [])))
+    at : Stuck style max_nesting tokens entry
+    why : ((f ≡ refusal entry) × (IsPossible style (at.front ++ (entry ∷ [])) → ⊥)) ⊎ ((f ≡ fault.Deep entry.1) × IsPossible style (at.front ++ (entry ∷ [])))
 
   refusal_is : (token : Token) (place : Place) (b : Bool) → is_outside token ≡ b → refusal (token, place) ≡ (if b then fault.Profile place else fault.Token place)
   refusal_is token place b e = ap (λ k. if k then fault.Profile place else fault.Token place) e
 
-  impossible_spot : (b : Bool) (place : Place) → a.IsImpossibleAs b tokens place → Spot (if b then fault.Profile place else fault.Token place)
+  impossible_spot : (b : Bool) (place : Place) → a.IsImpossibleAs style b tokens place → Spot (if b then fault.Profile place else fault.Token place)
   impossible_spot b place (token, is, h) = record {
     entry = (token, place);
-    at = record { front = h.front; rest = h.rest; text = h.text; possible = h.possible; no_more = λ p. h.impossible (possible_so max_nesting (h.front ++ ((token, place) ∷ [])) p) };
+    at = record { front = h.front; rest = h.rest; text = h.text; possible = h.possible; no_more = λ p. h.impossible (possible_so style max_nesting (h.front ++ ((token, place) ∷ [])) p) };
     why = inl (sym (refusal_is token place b is), h.impossible);
   }
 
   -- want of memory, the end of all tokens, or a token
   abbrev Kind : GrammarFault → Type 0
-  Kind f = (f ≡ fault.Memory) ⊎ (((f ≡ fault.End end) × IsUnfinished max_nesting tokens) ⊎ Spot f)
+  Kind f = (f ≡ fault.Memory) ⊎ (((f ≡ fault.End end) × IsUnfinished style max_nesting tokens) ⊎ Spot f)
 
-  kind : (f : GrammarFault) → a.FaultIs tokens end f → Kind f
+  kind : (f : GrammarFault) → a.FaultIs style tokens end f → Kind f
   kind fault.Memory h = inl refl
   kind (fault.End place) h = inr (inl (ap fault.End h.0, h.1))
   kind (fault.Token place) h = inr (inr (impossible_spot false place h))
@@ -54,25 +55,25 @@ module _ (tokens : List Placed) (end : Place) where
       rest = h.rest;
       text = h.text;
       possible = record { more = (h.token, place) ∷ h.more; items = h.items; before = h.before; later = (h.token, h.level) ∷ h.later; spells = h.spells; same = h.same; within = h.within };
-      no_more = deep_stuck max_nesting h.front h.more (h.token, place) h.items h.before h.later h.level h.spells h.same h.within h.deep;
+      no_more = deep_stuck style max_nesting h.front h.more (h.token, place) h.items h.before h.later h.level h.spells h.same h.within h.deep;
     };
-    why = inr (refl, (h.more, h.items, (h.before ++ ((h.token, h.level) ∷ h.later), subst (λ l. IsFile h.items l (h.before ++ ((h.token, h.level) ∷ h.later))) (sym (append_assoc h.front ((h.token, place) ∷ []) h.more)) h.spells)));
+    why = inr (refl, (h.more, h.items, (h.before ++ ((h.token, h.level) ∷ h.later), subst (λ l. IsFile style h.items l (h.before ++ ((h.token, h.level) ∷ h.later))) (sym (append_assoc h.front ((h.token, place) ∷ []) h.more)) h.spells)));
   }))
 
-  no_spot : (f : GrammarFault) → IsPossibleWithin max_nesting tokens → Spot f → ⊥
-  no_spot f p s = not_possible max_nesting s.at.front s.at.rest s.entry (subst (IsPossibleWithin max_nesting) s.at.text p) s.at.no_more
+  no_spot : (f : GrammarFault) → IsPossibleWithin style max_nesting tokens → Spot f → ⊥
+  no_spot f p s = not_possible style max_nesting s.at.front s.at.rest s.entry (subst (IsPossibleWithin style max_nesting) s.at.text p) s.at.no_more
 
   one_spot : (f g : GrammarFault) → Spot f → Spot g → f ≡ g
   one_spot f g s r =
-      let same = same_stuck max_nesting tokens s.entry r.entry s.at r.at in
+      let same = same_stuck style max_nesting tokens s.entry r.entry s.at r.at in
       let fronts : s.at.front ++ (s.entry ∷ []) ≡ r.at.front ++ (r.entry ∷ []) = ap (λ l. l ++ (s.entry ∷ [])) same.0 ∙ ap (λ (v : Placed). r.at.front ++ (v ∷ [])) same.1 in
       elim s.why [
         | inl h ↦ elim r.why [
           | inl k ↦ h.0 ∙ ap refusal same.1 ∙ sym k.0
-          | inr k ↦ absurd (h.1 (subst IsPossible (sym fronts) k.1))
+          | inr k ↦ absurd (h.1 (subst (IsPossible style) (sym fronts) k.1))
         ]
         | inr h ↦ elim r.why [
-          | inl k ↦ absurd (k.1 (subst IsPossible fronts h.1))
+          | inl k ↦ absurd (k.1 (subst (IsPossible style) fronts h.1))
           | inr k ↦ h.0 ∙ ap (λ (v : Placed). fault.Deep v.1) same.1 ∙ sym k.0
         ]
       ]
@@ -88,13 +89,13 @@ module _ (tokens : List Placed) (end : Place) where
   one_fault f g (inr (inr s)) (inr (inl k)) = absurd (no_spot f k.1.possible s)
   one_fault f g (inr (inr s)) (inr (inr r)) = inr (inr (one_spot f g s r))
 
-  not_both : (items : List Item) (f : GrammarFault) → a.Answers tokens end (Ok items) → Kind f → f ≡ fault.Memory
+  not_both : (items : List Item) (f : GrammarFault) → a.Answers style tokens end (Ok items) → Kind f → f ≡ fault.Memory
   not_both items f s (inl e) = e
   not_both items f s (inr (inl h)) = absurd (h.1.nothing items (s.0, s.1))
-  not_both items f s (inr (inr r)) = absurd (no_spot f (possible_within max_nesting items tokens s) r)
+  not_both items f s (inr (inr r)) = absurd (no_spot f (possible_within style max_nesting items tokens s) r)
 
-  pub one : (answer other : Result (List Item) GrammarFault) → a.Answers tokens end answer → a.Answers tokens end other → IsOne answer other
-  one (Ok items) (Ok others) s r = inl (ap Ok (one_list tokens items others (s.0, s.1) (r.0, r.1)))
+  pub one : (answer other : Result (List Item) GrammarFault) → a.Answers style tokens end answer → a.Answers style tokens end other → IsOne answer other
+  one (Ok items) (Ok others) s r = inl (ap Ok (one_list style tokens items others (s.0, s.1) (r.0, r.1)))
   one (Ok items) (Err g) s k = inr (inr (ap Err (not_both items g s (kind g k))))
   one (Err f) (Ok items) h s = inr (inl (ap Err (not_both items f s (kind f h))))
   one (Err f) (Err g) h k = elim (one_fault f g (kind f h) (kind g k)) [
@@ -124,17 +125,17 @@ module _ (tokens : List Placed) (end : Place) where
   depth_not None e = cc
   depth_not (Some entry) e = cc
 
-  by_fault : (c : Cause) (left : List Token) → file max_nesting tokens ≡ Err (c, left) → HasAnswer tokens end
+  by_fault : (c : Cause) (left : List Token) → file style max_nesting tokens ≡ Err (c, left) → HasAnswer style tokens end
   by_fault Unexpected left e =
       let o = a_code.entry_at (length left) tokens in
-      (Err (a_code.refusal_at o end), no_memory (a_code.refusal_at o end) (refusal_not o), fault_says tokens end stop.Unexpected (length left) (left, refl, e))
+      (Err (a_code.refusal_at o end), no_memory (a_code.refusal_at o end) (refusal_not o), fault_says style tokens end stop.Unexpected (length left) (left, refl, e))
   by_fault TooDeep left e =
       let o = a_code.entry_at (length left) tokens in
-      (Err (a_code.depth_at o end), no_memory (a_code.depth_at o end) (depth_not o), fault_says tokens end stop.TooDeep (length left) (left, refl, e))
+      (Err (a_code.depth_at o end), no_memory (a_code.depth_at o end) (depth_not o), fault_says style tokens end stop.TooDeep (length left) (left, refl, e))
 
-  by_outcome : (o : FileOutcome) → file max_nesting tokens ≡ o → HasAnswer tokens end
-  by_outcome (Ok items) e = (Ok items, λ never. (cc), ok_says tokens items e)
+  by_outcome : (o : FileOutcome) → file style max_nesting tokens ≡ o → HasAnswer style tokens end
+  by_outcome (Ok items) e = (Ok items, λ never. (cc), ok_says style tokens items e)
   by_outcome (Err f) e = by_fault f.0 f.1 e
 
-  pub some : HasAnswer tokens end
-  some = by_outcome (file max_nesting tokens) refl
+  pub some : HasAnswer style tokens end
+  some = by_outcome (file style max_nesting tokens) refl

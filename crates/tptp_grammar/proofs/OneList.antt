@@ -13,4 +13,4 @@ use Rattle.tptp_grammar.proofs.Whole.{one_list}
 pub one_reading : (style : Style) (file : ℕ) (text : Text) (region : Region) (items others : List Item) → PartSpells style file text region items → PartSpells style file text region others → items ≡ others
 one_reading style file text region items others (tokens, end, (k, cut, is), spells) (again, last, (n, other, also), respells) =
     let (lists, ends, rests) = same_cut style (placed file text) cut other refl (stuck_end style) (stuck_end style) in
-    one_list tokens items others spells (subst (Spells others) (sym lists) respells)
+    one_list style tokens items others spells (subst (Spells style others) (sym lists) respells)

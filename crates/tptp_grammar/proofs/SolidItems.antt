@@ -1,6 +1,7 @@
 -- No production has a comment among its tokens.
 use Rattle.std.proofs.Common.{◌≡◌, Bool, false, ℕ, suc, List, ◌∷◌, Option, Some, refl}
 use Rattle.first_fault.specs.Rules.{Listed, last, more}
+use Rattle.tptp_lexer.specs.declared.style.Style.{Style}
 use Rattle.tptp_lexer.specs.declared.token.Token.{Token}
 use Rattle.tptp_lexer.specs.declared.token.Token.TheVariants.{Lower, Quoted, Mark as Sign}
 use Rattle.tptp_lexer.specs.declared.token.Mark.{Mark}
@@ -29,6 +30,8 @@ use Rattle.tptp_grammar.specs.Formulas as f
 use Rattle.tptp_grammar.specs.Formulas.{IsBoundVariable, IsUnit, IsFormula, AreUnits}
 use Rattle.tptp_grammar.specs.Clauses as c
 use Rattle.tptp_grammar.specs.Clauses.{IsLiteral, IsClause}
+use Rattle.tptp_grammar.specs.TypedClauses as q
+use Rattle.tptp_grammar.specs.TypedClauses.{IsTypedClause}
 use Rattle.tptp_grammar.specs.GeneralTerms as g
 use Rattle.tptp_grammar.specs.GeneralTerms.{IsFormulaOf, IsGeneralData, IsGeneralTerm, IsGeneralList, AreGeneralTerms}
 use Rattle.tptp_grammar.specs.Items as i
@@ -145,10 +148,15 @@ of_clause (c.literal h) = of_literal h
 of_clause (c.literals h k) = then (of_literal h) (of_literals k)
 of_clause (c.clause_in_parentheses h) = one refl (ends (of_clause h))
 
+of_typed_clause : {d : ℕ} {x : Surface} {ts rest : Tokens} → IsTypedClause d x ts rest → SolidTo ts rest
+of_typed_clause (q.unquantified h) = of_clause h
+of_typed_clause (q.quantified_clause h k) = one refl (one refl (then (of_variables h) (one refl (of_typed_clause k))))
+
 of_embedded : (l : Lang) (d : ℕ) (x : Surface) (ts rest : Tokens) → IsFormulaOf l d x ts rest → SolidTo ts rest
 of_embedded lang.Cnf d x ts rest h = of_clause h
 of_embedded lang.Fof d x ts rest h = of_formula h
 of_embedded lang.Tff d x ts rest h = of_formula h
+of_embedded lang.Tcf d x ts rest h = of_typed_clause h
 
 mutual
   of_data : {d : ℕ} {x : GTerm} {ts rest : Tokens} → IsGeneralData d x ts rest → SolidTo ts rest
@@ -157,7 +165,7 @@ mutual
   of_data g.general_variable = one refl none
   of_data g.number = one refl none
   of_data g.distinct_object = one refl none
-  of_data (g.formula_data {d = d} {l = l} {f = x} {ts = ts} {rest = rest} e h) = one refl (one refl (ends (of_embedded l (suc d) x ts ((Sign m.Close, suc d) ∷ rest) h)))
+  of_data (g.formula_data {d = d} {l = l} {f = x} {ts = ts} {rest = rest} e other h) = one refl (one refl (ends (of_embedded l (suc d) x ts ((Sign m.Close, suc d) ∷ rest) h)))
   of_data (g.term_data e h) = one refl (one refl (ends (of_term h)))
 
   of_general : {d : ℕ} {x : GTerm} {ts rest : Tokens} → IsGeneralTerm d x ts rest → SolidTo ts rest
@@ -185,6 +193,7 @@ of_body : {l : Lang} {r : Role} {b : Body} {ts rest : Tokens} → IsBody l r b t
 of_body (i.cnf_body h) = of_clause h
 of_body (i.fof_body h) = of_formula h
 of_body (i.tff_body e h) = of_formula h
+of_body (i.tcf_body h) = of_typed_clause h
 of_body (i.type_body h) = of_typing h
 
 pub of_end : {s : Option GTerm} {xs : Option (List GTerm)} {ts rest : Tokens} → IsEnd s xs ts rest → SolidTo ts rest
@@ -196,6 +205,6 @@ pub of_selection : {xs : Option (List Name)} {ts rest : Tokens} → IsSelection 
 of_selection i.whole_file = one refl (one refl none)
 of_selection (i.selected h) = one refl (one refl (then (of_names h) (one refl (one refl none))))
 
-pub of_item : {place : Place} {x : Item} {ts rest : Tokens} → IsItem place x ts rest → SolidTo ts rest
-of_item (i.annotated e h j k x) = one refl (one refl (then (of_name h) (one refl (one refl (join (of_body k) (of_end x))))))
+pub of_item : {style : Style} {place : Place} {x : Item} {ts rest : Tokens} → IsItem style place x ts rest → SolidTo ts rest
+of_item (i.annotated e has h j k x) = one refl (one refl (then (of_name h) (one refl (one refl (join (of_body k) (of_end x))))))
 of_item (i.include e h) = one refl (one refl (one refl (of_selection h)))

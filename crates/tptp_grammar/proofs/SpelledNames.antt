@@ -31,6 +31,8 @@ use Rattle.tptp_grammar.specs.Formulas as f
 use Rattle.tptp_grammar.specs.Formulas.{IsUnit, IsFormula, AreUnits}
 use Rattle.tptp_grammar.specs.Clauses as c
 use Rattle.tptp_grammar.specs.Clauses.{IsLiteral, IsClause}
+use Rattle.tptp_grammar.specs.TypedClauses as q
+use Rattle.tptp_grammar.specs.TypedClauses.{IsTypedClause}
 use Rattle.tptp_grammar.specs.Items as i
 use Rattle.tptp_grammar.specs.Items.{IsBody, IsItem}
 use Rattle.tptp_grammar.specs.Solid.{Placed}
@@ -124,6 +126,10 @@ of_clause (c.literals {f = a} {fs = fs} h k) all =
     (let first = of_literal h all in let others = of_literals k first.1.1 in (rw names-Or (quotable_both (names_of_form a) (together (map names_of_form fs)) first.0 others.0), others.1))
 of_clause (c.clause_in_parentheses h) all = (let inner = of_clause h all.1 in (inner.0, inner.1.1))
 
+of_typed_clause : {d : ℕ} {a : Surface} {ts rest : Tokens} → IsTypedClause d a ts rest → Words ts → Spelt (names_of_form a) rest
+of_typed_clause (q.unquantified h) all = of_clause h all
+of_typed_clause (q.quantified_clause h k) all = (let inner = of_typed_clause k (behind (of_variables h) all.1.1).1.1 in (rw names-Bind inner.0, inner.1))
+
 -- ---- items
 
 of_typing : {d : ℕ} {s : Typing} {ts rest : Tokens} → IsTyping d s ts rest → Words ts → Spelt (s.name ∷ []) rest
@@ -134,10 +140,11 @@ of_body : {l : Lang} {r : Role} {b : Body} {ts rest : Tokens} → IsBody l r b t
 of_body (i.cnf_body h) all = of_clause h all
 of_body (i.fof_body h) all = of_formula h all
 of_body (i.tff_body e h) all = of_formula h all
+of_body (i.tcf_body h) all = of_typed_clause h all
 of_body (i.type_body h) all = of_typing h all
 
-of_item : {place : Place} {x : Item} {ts rest : Tokens} → IsItem place x ts rest → Words ts → Spelt (names_of_item x) rest
-of_item (i.annotated e h j k x) all = (let inner = of_body k (behind (of_name h) all.1.1).1.1.1 in (inner.0, behind (of_end x) inner.1))
+of_item : {style : Style} {place : Place} {x : Item} {ts rest : Tokens} → IsItem style place x ts rest → Words ts → Spelt (names_of_item x) rest
+of_item (i.annotated e has h j k x) all = (let inner = of_body k (behind (of_name h) all.1.1).1.1.1 in (inner.0, behind (of_end x) inner.1))
 of_item (i.include e h) all = ((all.1.1.0, tt), behind (of_selection h) all.1.1.1)
 
 -- ---- files
@@ -153,12 +160,12 @@ through_nameable (last_token solid) all behind_ = (all.0, behind_)
 through_nameable (dropped h) all behind_ = through_nameable h all.1 behind_
 through_nameable (token solid h) all behind_ = (all.0, through_nameable h all.1 behind_)
 
-file_nameable : {items : List Item} {ts : List Placed} {us : Tokens} → IsFile items ts us → AreNameable ts → Words us
+file_nameable : {style : Style} {items : List Item} {ts : List Placed} {us : Tokens} → IsFile style items ts us → AreNameable ts → Words us
 file_nameable end_of_file all = tt
 file_nameable (comment h) all = file_nameable h all.1
 file_nameable (input h through k) all = (all.0, through_nameable through all.1 (file_nameable k (rest_nameable through all.1)))
 
-file_names : {items : List Item} {ts : List Placed} {us : Tokens} → IsFile items ts us → Words us → AreQuotable (names_of_items items)
+file_names : {style : Style} {items : List Item} {ts : List Placed} {us : Tokens} → IsFile style items ts us → Words us → AreQuotable (names_of_items items)
 file_names end_of_file all = tt
 file_names (comment h) all = file_names h all
 file_names (input {i = x} {items = items} h through k) all =
@@ -166,5 +173,5 @@ file_names (input {i = x} {items = items} h through k) all =
 
 -- The tokens of a part of a text spell items whose names can be written between quotes.
 pub spelled_names : (style : Style) (file : ℕ) (whole : Bytes) (at : ℕ) (text : Bytes) (tokens : List Placed) (end : ℕ) (rest : Bytes) (items : List Item)
-    → Cut style (placed file whole) at text tokens end rest → Spells items tokens → AreQuotable (names_of_items items)
+    → Cut style (placed file whole) at text tokens end rest → Spells style items tokens → AreQuotable (names_of_items items)
 spelled_names style file whole at text tokens end rest items cut spells = file_names spells.1 (file_nameable spells.1 (cut_nameable style file whole cut))

@@ -36,6 +36,8 @@ use Rattle.tptp_grammar.specs.Formulas as f
 use Rattle.tptp_grammar.specs.Formulas.{IsBoundVariable, IsUnit, IsFormula, AreUnits}
 use Rattle.tptp_grammar.specs.Clauses as c
 use Rattle.tptp_grammar.specs.Clauses.{IsLiteral, IsClause}
+use Rattle.tptp_grammar.specs.TypedClauses as q
+use Rattle.tptp_grammar.specs.TypedClauses.{IsTypedClause}
 use Rattle.tptp_grammar.specs.GeneralTerms as g
 use Rattle.tptp_grammar.specs.GeneralTerms.{IsFormulaOf, IsGeneralData, IsGeneralTerm, IsGeneralList, AreGeneralTerms}
 use Rattle.tptp_grammar.specs.Items as i
@@ -205,12 +207,17 @@ of_clause (c.literal h) = of_literal h
 of_clause (c.literals {fs = fs} h k) = rw size-Or (more_members (map size_of_form fs) (of_literal h) (of_literals k))
 of_clause (c.clause_in_parentheses h) = after (before (of_clause h))
 
+of_typed_clause : {d : ℕ} {a : Surface} {ts rest : Tokens} → IsTypedClause d a ts rest → Fits (size_of_form a) ts rest
+of_typed_clause (q.unquantified h) = of_clause h
+of_typed_clause (q.quantified_clause h k) = rw size-Bind (after (after (beside (before (before (of_variables h))) (of_typed_clause k))))
+
 -- ---- general terms
 
 of_embedded : (l : Lang) (d : ℕ) (a : Surface) (ts rest : Tokens) → IsFormulaOf l d a ts rest → Fits (size_of_form a) ts rest
 of_embedded lang.Cnf d a ts rest h = of_clause h
 of_embedded lang.Fof d a ts rest h = of_formula h
 of_embedded lang.Tff d a ts rest h = of_formula h
+of_embedded lang.Tcf d a ts rest h = of_typed_clause h
 
 mutual
   of_data : {d : ℕ} {x : GTerm} {ts rest : Tokens} → IsGeneralData d x ts rest → Fits (size_of_general x) ts rest
@@ -219,7 +226,7 @@ mutual
   of_data g.general_variable = rw size-general-Var word_variable
   of_data g.number = rw size-Number word_small
   of_data g.distinct_object = rw size-Distinct word_small
-  of_data (g.formula_data {d = d} {l = l} {f = a} {ts = ts} {rest = rest} e h) = rw size-Formula (after (after (before (of_embedded l (suc d) a ts ((Sign m.Close, suc d) ∷ rest) h))))
+  of_data (g.formula_data {d = d} {l = l} {f = a} {ts = ts} {rest = rest} e other h) = rw size-Formula (after (after (before (of_embedded l (suc d) a ts ((Sign m.Close, suc d) ∷ rest) h))))
   of_data (g.term_data e h) = rw size-Term (after (after (before (of_term h))))
 
   of_general : {d : ℕ} {x : GTerm} {ts rest : Tokens} → IsGeneralTerm d x ts rest → Fits (size_of_general x) ts rest
@@ -249,6 +256,7 @@ of_body : {l : Lang} {r : Role} {b : Body} {ts rest : Tokens} → IsBody l r b t
 of_body (i.cnf_body h) = of_clause h
 of_body (i.fof_body h) = of_formula h
 of_body (i.tff_body e h) = of_formula h
+of_body (i.tcf_body h) = of_typed_clause h
 of_body (i.type_body h) = of_typing h
 
 of_end : {s : Option GTerm} {xs : Option (List GTerm)} {ts rest : Tokens} → IsEnd s xs ts rest → Fits (both (size_of_source s) (size_of_info xs)) ts rest
@@ -260,8 +268,8 @@ of_selection : {xs : Option (List Name)} {ts rest : Tokens} → IsSelection xs t
 of_selection i.whole_file = after word_small
 of_selection (i.selected h) = after (after (before (before (before (of_names h)))))
 
-of_item : {place : Place} {x : Item} {ts rest : Tokens} → IsItem place x ts rest → Fits (size_of_item x) ts rest
-of_item (i.annotated e h j k x) = after (after (behind (of_name h) (after (after (after (beside (of_body k) (of_end x)))))))
+of_item : {style : Style} {place : Place} {x : Item} {ts rest : Tokens} → IsItem style place x ts rest → Fits (size_of_item x) ts rest
+of_item (i.annotated e has h j k x) = after (after (behind (of_name h) (after (after (after (beside (of_body k) (of_end x)))))))
 of_item (i.include e h) = after (after (after (of_selection h)))
 
 -- ---- files
@@ -272,7 +280,7 @@ through_fewer (dropped others) = let few = through_fewer others in omega (arith,
 through_fewer (token h others) = let few = through_fewer others in omega (arith, few)
 
 -- the size of a file's items: each has tokens of its own
-file_within : {items : List Item} {ts : List Placed} {us : Tokens} → IsFile items ts us → IsWithin (length ts) (size_of_items items)
+file_within : {style : Style} {items : List Item} {ts : List Placed} {us : Tokens} → IsFile style items ts us → IsWithin (length ts) (size_of_items items)
 file_within end_of_file = record { longest = omega arith; variables = omega arith }
 file_within (comment {items = items} others) =
     let later = file_within others in
@@ -286,8 +294,8 @@ file_within (input {i = x} {items = items} is through others) =
       variables = omega (arith, first.variables, later.variables, few);
     }
 
-pub tokens_within : (tokens : List Placed) (items : List Item) → Spells items tokens → IsWithin (length tokens) (size_of_items items)
-tokens_within tokens items spells = file_within spells.1
+pub tokens_within : (style : Style) (tokens : List Placed) (items : List Item) → Spells style items tokens → IsWithin (length tokens) (size_of_items items)
+tokens_within style tokens items spells = file_within spells.1
 
 -- ---- texts
 
@@ -304,4 +312,4 @@ within_more n k size le h = record { longest = omega (arith, le, h.longest); var
 
 pub text_within : (style : Style) (file : ℕ) (text : Bytes) (region : Region) (items : List Item) → PartSpells style file text region items → IsWithin (length (part text region)) (size_of_items items)
 text_within style file text region items (tokens, end, (k, cut, is), spells) =
-    within_more (length tokens) (length (part text region)) (size_of_items items) (cut_few cut) (tokens_within tokens items spells)
+    within_more (length tokens) (length (part text region)) (size_of_items items) (cut_few cut) (tokens_within style tokens items spells)

@@ -6,6 +6,7 @@ use Rattle.first_fault.specs.Nesting.{Nested, plain, Within, FirstOver, here, be
 use Rattle.first_fault.specs.code.Reading.{TooDeep, next}
 use Rattle.first_fault.proofs.Exact.{plain-append}
 use Rattle.first_fault.proofs.Separated.{length-plain}
+use Rattle.tptp_lexer.specs.declared.style.Style.{Style}
 use Rattle.tptp_lexer.specs.declared.token.Token.{Token}
 use Rattle.tptp_base.specs.declared.item.Item.{Item}
 use Rattle.tptp_grammar.specs.Tokens.{Tokens}
@@ -48,42 +49,42 @@ within_front limit [] second h = tt
 within_front limit (u ∷ first) second h = (h.0, within_front limit first second h.1)
 
 -- what begins a possible list is possible
-pub possible_front : (limit : ℕ) (front more : List Placed) → IsPossibleWithin limit (front ++ more) → IsPossibleWithin limit front
-possible_front limit front more h =
+pub possible_front : (style : Style) (limit : ℕ) (front more : List Placed) → IsPossibleWithin style limit (front ++ more) → IsPossibleWithin style limit front
+possible_front style limit front more h =
     let p = parts h.before (solid front) (solid more) (h.same ∙ solid_append front more) in record {
       more = more ++ h.more;
       items = h.items;
       before = p.left;
       later = p.right ++ h.later;
-      spells = subst (λ l. IsFile h.items l (p.left ++ (p.right ++ h.later))) (append_assoc front more h.more)
-          (subst (λ l. IsFile h.items ((front ++ more) ++ h.more) l) (append_assoc p.left p.right h.later) (subst (λ l. IsFile h.items ((front ++ more) ++ h.more) (l ++ h.later)) p.is h.spells));
+      spells = subst (λ l. IsFile style h.items l (p.left ++ (p.right ++ h.later))) (append_assoc front more h.more)
+          (subst (λ l. IsFile style h.items ((front ++ more) ++ h.more) l) (append_assoc p.left p.right h.later) (subst (λ l. IsFile style h.items ((front ++ more) ++ h.more) (l ++ h.later)) p.is h.spells));
       same = p.left_is;
       within = within_front limit p.left p.right (subst (Within limit) p.is h.within);
     }
 
-pub possible_within : (limit : ℕ) (items : List Item) (tokens : List Placed) → SpellsWithin limit items tokens → IsPossibleWithin limit tokens
-possible_within limit items tokens (us, spells, within) = record {
+pub possible_within : (style : Style) (limit : ℕ) (items : List Item) (tokens : List Placed) → SpellsWithin style limit items tokens → IsPossibleWithin style limit tokens
+possible_within style limit items tokens (us, spells, within) = record {
   more = [];
   items = items;
   before = us;
   later = [];
-  spells = subst (λ l. IsFile items l (us ++ [])) (sym (append-nil tokens)) (subst (λ l. IsFile items tokens l) (sym (append-nil us)) spells);
+  spells = subst (λ l. IsFile style items l (us ++ [])) (sym (append-nil tokens)) (subst (λ l. IsFile style items tokens l) (sym (append-nil us)) spells);
   same = sym (solid_file spells);
   within = within;
 }
 
-pub possible_so : (limit : ℕ) (tokens : List Placed) → IsPossibleWithin limit tokens → IsPossible tokens
-possible_so limit tokens h = (h.more, h.items, (h.before ++ h.later, h.spells))
+pub possible_so : (style : Style) (limit : ℕ) (tokens : List Placed) → IsPossibleWithin style limit tokens → IsPossible style tokens
+possible_so style limit tokens h = (h.more, h.items, (h.before ++ h.later, h.spells))
 
 -- ---- the token at which a list can't be gone on from
 
 -- some spelled text begins with the tokens before this one, within the limit, and none with this one too
-pub record Stuck (limit : ℕ) (tokens : List Placed) (entry : Placed) : Type 0 where
+pub record Stuck (style : Style) (limit : ℕ) (tokens : List Placed) (entry : Placed) : Type 0 where
   pub front : List Placed
   pub rest : List Placed
   pub text : tokens ≡ front ++ (entry ∷ rest)
-  pub possible : IsPossibleWithin limit front
-  pub no_more : IsPossibleWithin limit (front ++ (entry ∷ [])) → ⊥
+  pub possible : IsPossibleWithin style limit front
+  pub no_more : IsPossibleWithin style limit (front ++ (entry ∷ [])) → ⊥
 
 -- a list of which one part is as long as this one, or ends before it or behind it
 abbrev Compared : List Placed → List Placed → Placed → Placed → Type 0
@@ -105,14 +106,14 @@ compare (c ∷ first) (d ∷ second) rest after entry other e =
     subst (λ (v : Placed). Compared (c ∷ first) (v ∷ second) entry other) same (compare_on c first second entry other (compare first second rest after entry other others))
 
 -- a list that can be gone on from has no such token in it
-pub not_possible : (limit : ℕ) (front more : List Placed) (entry : Placed) → IsPossibleWithin limit (front ++ (entry ∷ more)) → (IsPossibleWithin limit (front ++ (entry ∷ [])) → ⊥) → ⊥
-not_possible limit front more entry h no_more = no_more (possible_front limit (front ++ (entry ∷ [])) more (subst (IsPossibleWithin limit) (sym (append_assoc front (entry ∷ []) more)) h))
+pub not_possible : (style : Style) (limit : ℕ) (front more : List Placed) (entry : Placed) → IsPossibleWithin style limit (front ++ (entry ∷ more)) → (IsPossibleWithin style limit (front ++ (entry ∷ [])) → ⊥) → ⊥
+not_possible style limit front more entry h no_more = no_more (possible_front style limit (front ++ (entry ∷ [])) more (subst (IsPossibleWithin style limit) (sym (append_assoc front (entry ∷ []) more)) h))
 
-pub same_stuck : (limit : ℕ) (tokens : List Placed) (entry other : Placed) (s : Stuck limit tokens entry) (r : Stuck limit tokens other) → (s.front ≡ r.front) × (entry ≡ other)
-same_stuck limit tokens entry other s r = elim (compare s.front r.front s.rest r.rest entry other (sym s.text ∙ r.text)) [
+pub same_stuck : (style : Style) (limit : ℕ) (tokens : List Placed) (entry other : Placed) (s : Stuck style limit tokens entry) (r : Stuck style limit tokens other) → (s.front ≡ r.front) × (entry ≡ other)
+same_stuck style limit tokens entry other s r = elim (compare s.front r.front s.rest r.rest entry other (sym s.text ∙ r.text)) [
   | inl h ↦ h
-  | inr (inl h) ↦ absurd (not_possible limit s.front h.0 entry (subst (IsPossibleWithin limit) h.1 r.possible) s.no_more)
-  | inr (inr h) ↦ absurd (not_possible limit r.front h.0 other (subst (IsPossibleWithin limit) h.1 s.possible) r.no_more)
+  | inr (inl h) ↦ absurd (not_possible style limit s.front h.0 entry (subst (IsPossibleWithin style limit) h.1 r.possible) s.no_more)
+  | inr (inr h) ↦ absurd (not_possible style limit r.front h.0 other (subst (IsPossibleWithin style limit) h.1 s.possible) r.no_more)
 ]
 
 -- ---- a token that is nested too deep
@@ -172,10 +173,10 @@ abbrev left_of : FileOutcome → List Token
 left_of (Ok items) = []
 left_of (Err f) = f.1
 
-module _ (limit : ℕ) (front more : List Placed) (entry : Placed) (items : List Item) (before later : Tokens) (level : ℕ)
-    (spells : IsFile items (front ++ (entry ∷ more)) (before ++ ((entry.0, level) ∷ later))) (same : plain before ≡ solid front) (within : Within limit before) (deep : limit < level) where
-  found_deep : file limit (front ++ (entry ∷ more)) ≡ Err (TooDeep, entry.0 ∷ plain later)
-  found_deep = elim (found_file limit spells) [
+module _ (style : Style) (limit : ℕ) (front more : List Placed) (entry : Placed) (items : List Item) (before later : Tokens) (level : ℕ)
+    (spells : IsFile style items (front ++ (entry ∷ more)) (before ++ ((entry.0, level) ∷ later))) (same : plain before ≡ solid front) (within : Within limit before) (deep : limit < level) where
+  found_deep : file style limit (front ++ (entry ∷ more)) ≡ Err (TooDeep, entry.0 ∷ plain later)
+  found_deep = elim (found_file style limit spells) [
     | inl h ↦ (let fits = (within_later limit before ((entry.0, level) ∷ later) h.0).0 in absurd (omega (arith, fits, deep)))
     | inr h ↦ h.2 ∙ ap (λ us. Err (TooDeep, plain us)) (over_here (over_later limit before ((entry.0, level) ∷ later) h.0 within h.1) (entry.0, level) later refl deep)
   ]
@@ -187,20 +188,20 @@ module _ (limit : ℕ) (front more : List Placed) (entry : Placed) (items : List
   kept : is_remark entry ≡ false
   kept = solid_head (entry ∷ more) entry.0 (plain later) left_solid
 
-  fault : FileFault limit (front ++ (entry ∷ more)) TooDeep (entry.0 ∷ plain later)
-  fault = subst (FileSays limit (front ++ (entry ∷ more))) found_deep (file_says limit (front ++ (entry ∷ more)))
+  fault : FileFault style limit (front ++ (entry ∷ more)) TooDeep (entry.0 ∷ plain later)
+  fault = subst (FileSays style limit (front ++ (entry ∷ more))) found_deep (file_says style limit (front ++ (entry ∷ more)))
 
   -- the same on each list that begins so
-  refused : (other : List Placed) → file limit (front ++ (entry ∷ other)) ≡ Err (TooDeep, solid (entry ∷ other))
+  refused : (other : List Placed) → file style limit (front ++ (entry ∷ other)) ≡ Err (TooDeep, solid (entry ∷ other))
   refused other =
       let f = fault in
       let s = same_split f.front front f.rest (entry ∷ more) (sym f.text) f.begins kept (ap length (f.left_is ∙ sym left_solid)) in
-      ap (λ l. file limit (l ++ (entry ∷ other))) (sym s.0) ∙ f.again (entry ∷ other) (ap next (sym s.1))
+      ap (λ l. file style limit (l ++ (entry ∷ other))) (sym s.0) ∙ f.again (entry ∷ other) (ap next (sym s.1))
 
-  pub deep_stuck : IsPossibleWithin limit (front ++ (entry ∷ [])) → ⊥
+  pub deep_stuck : IsPossibleWithin style limit (front ++ (entry ∷ [])) → ⊥
   deep_stuck p =
-      let at : file limit ((front ++ (entry ∷ [])) ++ p.more) ≡ Err (TooDeep, solid (entry ∷ p.more)) = ap (file limit) (append_assoc front (entry ∷ []) p.more) ∙ refused p.more in
-      elim (found_file limit p.spells) [
+      let at : file style limit ((front ++ (entry ∷ [])) ++ p.more) ≡ Err (TooDeep, solid (entry ∷ p.more)) = ap (file style limit) (append_assoc front (entry ∷ []) p.more) ∙ refused p.more in
+      elim (found_file style limit p.spells) [
         | inl h ↦ (let wrong : ◌≡◌ {A = FileOutcome} (Ok p.items) (Err (TooDeep, solid (entry ∷ p.more))) = sym h.1 ∙ at in cc)
         | inr h ↦ (
             let wrong : ◌≡◌ {A = FileOutcome} (Err (TooDeep, plain h.0)) (Err (TooDeep, solid (entry ∷ p.more))) = sym h.2 ∙ at in

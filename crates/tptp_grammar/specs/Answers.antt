@@ -1,5 +1,6 @@
 -- What the parser answers.
 use Rattle.std.specs.Prelude.{◌≡◌, Bool, true, false, List, Result, Ok, Err}
+use Rattle.tptp_lexer.specs.declared.style.Style.{Style}
 use Rattle.tptp_lexer.specs.declared.token.Token.{Token}
 use Rattle.tptp_base.specs.declared.place.Place.{Place}
 use Rattle.tptp_base.specs.declared.item.Item.{Item}
@@ -10,20 +11,20 @@ use Rattle.tptp_grammar.specs.Faults.{max_nesting, is_outside, IsImpossible, IsU
 use Rattle.tptp_grammar.specs.declared.fault.GrammarFault.TheVariants as fault
 
 -- an impossible token is Profile exactly where it is of a part that is left out
-abbrev pub IsImpossibleAs : Bool → List Placed → Place → Type 0
-IsImpossibleAs outside tokens place = (token : Token) × (is_outside token ≡ outside) × IsImpossible max_nesting tokens token place
+abbrev pub IsImpossibleAs : Style → Bool → List Placed → Place → Type 0
+IsImpossibleAs style outside tokens place = (token : Token) × (is_outside token ≡ outside) × IsImpossible style max_nesting tokens token place
 
-abbrev pub FaultIs : List Placed → Place → GrammarFault → Type 0
-FaultIs tokens end (fault.Token place) = IsImpossibleAs false tokens place
-FaultIs tokens end (fault.Profile place) = IsImpossibleAs true tokens place
-FaultIs tokens end (fault.End place) = (place ≡ end) × IsUnfinished max_nesting tokens
-FaultIs tokens end (fault.Deep place) = IsDeep max_nesting tokens place
-FaultIs tokens end fault.Memory = Unit {0}
+abbrev pub FaultIs : Style → List Placed → Place → GrammarFault → Type 0
+FaultIs style tokens end (fault.Token place) = IsImpossibleAs style false tokens place
+FaultIs style tokens end (fault.Profile place) = IsImpossibleAs style true tokens place
+FaultIs style tokens end (fault.End place) = (place ≡ end) × IsUnfinished style max_nesting tokens
+FaultIs style tokens end (fault.Deep place) = IsDeep style max_nesting tokens place
+FaultIs style tokens end fault.Memory = Unit {0}
 
 -- what is read is spelled so, and a fault is the first one
-abbrev pub Answers : List Placed → Place → Result (List Item) GrammarFault → Type 0
-Answers tokens end (Ok items) = SpellsWithin max_nesting items tokens
-Answers tokens end (Err f) = FaultIs tokens end f
+abbrev pub Answers : Style → List Placed → Place → Result (List Item) GrammarFault → Type 0
+Answers style tokens end (Ok items) = SpellsWithin style max_nesting items tokens
+Answers style tokens end (Err f) = FaultIs style tokens end f
 
 -- these items, unless memory ran out
 abbrev pub IsRead : List Item → Result (List Item) GrammarFault → Type 0

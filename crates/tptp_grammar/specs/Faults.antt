@@ -2,6 +2,7 @@
 use Rattle.std.specs.Prelude.{◌≡◌, ℕ, ◌<◌, Bool, true, false, ◌||◌, not, List, [], ◌∷◌, ◌++◌, codes}
 use Rattle.std.specs.Str.{bytes_eq}
 use Rattle.first_fault.specs.Nesting.{plain, Within}
+use Rattle.tptp_lexer.specs.declared.style.Style.{Style}
 use Rattle.tptp_lexer.specs.declared.token.Token.{Token}
 use Rattle.tptp_lexer.specs.declared.token.Token.TheVariants.{Lower, Dollar, System, Number, Distinct}
 use Rattle.tptp_base.specs.declared.place.Place.{Place}
@@ -18,7 +19,7 @@ max_nesting = 250
 abbrev pub is_defined_word : Text → Bool
 is_defined_word w = bytes_eq w (codes "$true") || bytes_eq w (codes "$false") || bytes_eq w (codes "$i") || bytes_eq w (codes "$o") || bytes_eq w (codes "$tType")
 
--- the languages that are left out
+-- the languages that are left out, of problems at least
 abbrev pub is_other_language : Text → Bool
 is_other_language w = bytes_eq w (codes "thf") || bytes_eq w (codes "tcf") || bytes_eq w (codes "tpi")
 
@@ -32,20 +33,20 @@ is_outside (Lower w) = is_other_language w
 is_outside _ = false
 
 -- The first token such that no spelled text begins with the tokens through it; those before it are within the limit.
-pub record IsImpossible (limit : ℕ) (tokens : List Placed) (token : Token) (place : Place) : Type 0 where
+pub record IsImpossible (style : Style) (limit : ℕ) (tokens : List Placed) (token : Token) (place : Place) : Type 0 where
   pub front : List Placed
   pub rest : List Placed
   pub text : tokens ≡ front ++ ((token, place) ∷ rest)
-  pub possible : IsPossibleWithin limit front
-  pub impossible : IsPossible (front ++ ((token, place) ∷ [])) → ⊥
+  pub possible : IsPossibleWithin style limit front
+  pub impossible : IsPossible style (front ++ ((token, place) ∷ [])) → ⊥
 
 -- Some spelled text begins with all tokens, within the limit, and they spell none themselves.
-pub record IsUnfinished (limit : ℕ) (tokens : List Placed) : Type 0 where
-  pub possible : IsPossibleWithin limit tokens
-  pub nothing : (items : List Item) → Spells items tokens → ⊥
+pub record IsUnfinished (style : Style) (limit : ℕ) (tokens : List Placed) : Type 0 where
+  pub possible : IsPossibleWithin style limit tokens
+  pub nothing : (items : List Item) → Spells style items tokens → ⊥
 
 -- In a spelled text that begins with the tokens through this one it is the first that is nested deeper than the limit.
-pub record IsDeep (limit : ℕ) (tokens : List Placed) (place : Place) : Type 0 where
+pub record IsDeep (style : Style) (limit : ℕ) (tokens : List Placed) (place : Place) : Type 0 where
   pub front : List Placed
   pub token : Token
   pub rest : List Placed
@@ -55,7 +56,7 @@ pub record IsDeep (limit : ℕ) (tokens : List Placed) (place : Place) : Type 0 
   pub before : Tokens
   pub level : ℕ
   pub later : Tokens
-  pub spells : IsFile items (front ++ ((token, place) ∷ more)) (before ++ ((token, level) ∷ later))
+  pub spells : IsFile style items (front ++ ((token, place) ∷ more)) (before ++ ((token, level) ∷ later))
   pub same : plain before ≡ solid front
   pub within : Within limit before
   pub deep : limit < level

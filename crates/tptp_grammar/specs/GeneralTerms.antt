@@ -10,6 +10,7 @@ use Rattle.tptp_grammar.specs.Tokens.{Text, Tokens, word, embedded_text}
 use Rattle.tptp_grammar.specs.Terms.{IsTerm}
 use Rattle.tptp_grammar.specs.Formulas.{IsFormula}
 use Rattle.tptp_grammar.specs.Clauses.{IsClause}
+use Rattle.tptp_grammar.specs.TypedClauses.{IsTypedClause}
 use Rattle.tptp_lexer.specs.declared.token.Mark.TheVariants as m
 use Rattle.tptp_base.specs.declared.item.Lang.TheVariants as lang
 use Rattle.tptp_base.specs.declared.item.GTerm.TheVariants as gt
@@ -19,6 +20,7 @@ abbrev pub IsFormulaOf : Lang → ℕ → Surface → Tokens → Tokens → Type
 IsFormulaOf lang.Cnf = IsClause
 IsFormulaOf lang.Fof = IsFormula false
 IsFormulaOf lang.Tff = IsFormula true
+IsFormulaOf lang.Tcf = IsTypedClause
 
 mutual
   -- <general_data> ::= <atomic_word> | <general_function> | <variable> | <number> | <distinct_object> | <formula_data>
@@ -31,7 +33,7 @@ mutual
     general_variable : {d : ℕ} {x : Text} {rest : Tokens} → IsGeneralData d (gt.Var x) ((Upper x, d) ∷ rest) rest
     number : {d : ℕ} {n : Text} {rest : Tokens} → IsGeneralData d (gt.Number n) ((Number n, d) ∷ rest) rest
     distinct_object : {d : ℕ} {x : Text} {rest : Tokens} → IsGeneralData d (gt.Distinct x) ((Distinct x, d) ∷ rest) rest
-    formula_data : {d : ℕ} {w : Text} {l : Lang} {f : Surface} {ts rest : Tokens} → w ≡ embedded_text l → IsFormulaOf l (suc d) f ts ((Sign m.Close, suc d) ∷ rest)
+    formula_data : {d : ℕ} {w : Text} {l : Lang} {f : Surface} {ts rest : Tokens} → w ≡ embedded_text l → (l ≡ lang.Tcf → ⊥) → IsFormulaOf l (suc d) f ts ((Sign m.Close, suc d) ∷ rest)
         → IsGeneralData d (gt.Formula l f) ((Dollar w, d) ∷ (Sign m.Open, suc d) ∷ ts) rest
     term_data : {d : ℕ} {w : Text} {x : STerm} {ts rest : Tokens} → w ≡ codes "$fot" → IsTerm (suc d) x ts ((Sign m.Close, suc d) ∷ rest)
         → IsGeneralData d (gt.Term x) ((Dollar w, d) ∷ (Sign m.Open, suc d) ∷ ts) rest

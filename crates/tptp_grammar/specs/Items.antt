@@ -1,6 +1,7 @@
 -- The productions of annotated formulas and includes.
 use Rattle.std.specs.Prelude.{◌≡◌, true, false, List, [], ◌∷◌, Option, Some, None, codes}
 use Rattle.first_fault.specs.Rules.{Listed}
+use Rattle.tptp_lexer.specs.declared.style.Style.{Style}
 use Rattle.tptp_lexer.specs.declared.token.Token.{Token}
 use Rattle.tptp_lexer.specs.declared.token.Token.TheVariants.{Lower, Quoted, Number, Mark as Sign}
 use Rattle.tptp_base.specs.Numerals.{is_integer}
@@ -13,9 +14,10 @@ use Rattle.tptp_base.specs.declared.item.Typing.{Typing}
 use Rattle.tptp_base.specs.declared.item.Body.{Body}
 use Rattle.tptp_base.specs.declared.item.GTerm.{GTerm}
 use Rattle.tptp_base.specs.declared.item.Item.{Item}
-use Rattle.tptp_grammar.specs.Tokens.{Text, Tokens, word, lang_text, role_text}
+use Rattle.tptp_grammar.specs.Tokens.{Text, Tokens, word, lang_text, has_language, role_text}
 use Rattle.tptp_grammar.specs.Formulas.{IsFormula}
 use Rattle.tptp_grammar.specs.Clauses.{IsClause}
+use Rattle.tptp_grammar.specs.TypedClauses.{IsTypedClause}
 use Rattle.tptp_grammar.specs.Types.{IsTyping}
 use Rattle.tptp_grammar.specs.GeneralTerms.{IsGeneralTerm, IsGeneralList}
 use Rattle.tptp_lexer.specs.declared.token.Mark.TheVariants as m
@@ -35,6 +37,7 @@ pub data IsBody : Lang → Role → Body → Tokens → Tokens → Type 0 where
   cnf_body : {r : Role} {f : Surface} {ts rest : Tokens} → IsClause 0 f ts rest → IsBody lang.Cnf r (body.Logic f) ts rest
   fof_body : {r : Role} {f : Surface} {ts rest : Tokens} → IsFormula false 0 f ts rest → IsBody lang.Fof r (body.Logic f) ts rest
   tff_body : {r : Role} {f : Surface} {ts rest : Tokens} → (r ≡ role.Typing → ⊥) → IsFormula true 0 f ts rest → IsBody lang.Tff r (body.Logic f) ts rest
+  tcf_body : {r : Role} {f : Surface} {ts rest : Tokens} → IsTypedClause 0 f ts rest → IsBody lang.Tcf r (body.Logic f) ts rest
   type_body : {t : Typing} {ts rest : Tokens} → IsTyping 0 t ts rest → IsBody lang.Tff role.Typing (body.Typing t) ts rest
 
 -- <annotations> ::= ,<source><optional_info> | <null>, and the tokens that end an annotated formula
@@ -50,13 +53,13 @@ pub data IsSelection : Option (List Name) → Tokens → Tokens → Type 0 where
   selected : {ns : List Name} {ts rest : Tokens} → Listed (Sign m.Comma) 0 IsName ns ts ((Sign m.CloseList, 0) ∷ (Sign m.Close, 0) ∷ (Sign m.Dot, 0) ∷ rest)
       → IsSelection (Some ns) ((Sign m.Comma, 0) ∷ (Sign m.OpenList, 0) ∷ ts) rest
 
--- an item whose first token stands at the place
-pub data IsItem (place : Place) : Item → Tokens → Tokens → Type 0 where
-  -- <annotated_formula> ::= <fof_annotated> | <tff_annotated> | <cnf_annotated>
+-- an item of a text of the style, whose first token stands at the place
+pub data IsItem (style : Style) (place : Place) : Item → Tokens → Tokens → Type 0 where
+  -- <annotated_formula> ::= <fof_annotated> | <tff_annotated> | <cnf_annotated> | <tcf_annotated>
   -- <fof_annotated> ::= fof(<name>,<formula_role>,<fof_formula><annotations>).
-  annotated : {l : Lang} {r : Role} {w v : Text} {n : Name} {b : Body} {s : Option GTerm} {i : Option (List GTerm)} {ts mid end rest : Tokens} → w ≡ lang_text l
+  annotated : {l : Lang} {r : Role} {w v : Text} {n : Name} {b : Body} {s : Option GTerm} {i : Option (List GTerm)} {ts mid end rest : Tokens} → w ≡ lang_text l → has_language style l ≡ true
       → IsName n ts ((Sign m.Comma, 0) ∷ (Lower v, 0) ∷ (Sign m.Comma, 0) ∷ mid) → v ≡ role_text r → IsBody l r b mid end → IsEnd s i end rest
-      → IsItem place (item.Formula (record { place = place; lang = l; name = n; role = r; body = b; source = s; info = i })) ((Lower w, 0) ∷ (Sign m.Open, 0) ∷ ts) rest
+      → IsItem style place (item.Formula (record { place = place; lang = l; name = n; role = r; body = b; source = s; info = i })) ((Lower w, 0) ∷ (Sign m.Open, 0) ∷ ts) rest
   -- <include> ::= include(<file_name><formula_selection>).
   include : {w f : Text} {ns : Option (List Name)} {ts rest : Tokens} → w ≡ codes "include" → IsSelection ns ts rest
-      → IsItem place (item.Include (record { place = place; file = f; names = ns })) ((Lower w, 0) ∷ (Sign m.Open, 0) ∷ (Quoted f, 0) ∷ ts) rest
+      → IsItem style place (item.Include (record { place = place; file = f; names = ns })) ((Lower w, 0) ∷ (Sign m.Open, 0) ∷ (Quoted f, 0) ∷ ts) rest

@@ -16,11 +16,11 @@ use Rattle.tptp_grammar.specs.Solid.{Placed}
 abbrev pub IsOne : Result (List Item) GrammarFault → Result (List Item) GrammarFault → Type 0
 IsOne answer other = (answer ≡ other) ⊎ ((answer ≡ Err Memory) ⊎ (other ≡ Err Memory))
 
--- The tokens have an answer other than want of memory.
-abbrev pub HasAnswer : List Placed → Place → Type 0
-HasAnswer tokens end = (answer : Result (List Item) GrammarFault) × (answer ≡ Err Memory → ⊥) × Answers tokens end answer
+-- The tokens of a text of the style have an answer other than want of memory.
+abbrev pub HasAnswer : Style → List Placed → Place → Type 0
+HasAnswer style tokens end = (answer : Result (List Item) GrammarFault) × (answer ≡ Err Memory → ⊥) × Answers style tokens end answer
 
 -- The part of a text is cut into tokens, and they spell these items. Their places are counted in the whole text.
 abbrev pub PartSpells : Style → ℕ → Text → Region → List Item → Type 0
 PartSpells style file text region items =
-    (tokens : List Placed) × (end : Place) × Reaches file text region style tokens end [] × Spells items tokens
+    (tokens : List Placed) × (end : Place) × Reaches file text region style tokens end [] × Spells style items tokens

@@ -3,6 +3,7 @@ pub mod Terms
 pub mod Types
 pub mod Formulas
 pub mod Clauses
+pub mod TypedClauses
 pub mod GeneralTerms
 pub mod Items
 pub mod Files

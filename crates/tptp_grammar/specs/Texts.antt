@@ -11,7 +11,7 @@ use Rattle.tptp_grammar.specs.Answers.{Answers}
 
 -- the tokens spell these items, or they have the parser's first fault
 abbrev pub IsParsed : Tokens → Result (List Item) GrammarFault → Type 0
-IsParsed tokens answer = Answers tokens.items tokens.end answer
+IsParsed tokens answer = Answers tokens.style tokens.items tokens.end answer
 
 -- The region of the text of the file of this number spells the items, nested no deeper than the limit. It is no longer
 -- than a file may be.

@@ -1,6 +1,8 @@
 -- The tokens that the productions speak of, each with its nesting, and the texts of words.
-use Rattle.std.specs.Prelude.{ℕ, List, Option, Some, None, codes}
+use Rattle.std.specs.Prelude.{ℕ, Bool, true, false, List, Option, Some, None, codes}
 use Rattle.first_fault.specs.Nesting.{Nested}
+use Rattle.tptp_lexer.specs.declared.style.Style.{Style}
+use Rattle.tptp_lexer.specs.declared.style.Style.TheVariants.{Problem}
 use Rattle.tptp_lexer.specs.declared.token.Token.{Token}
 use Rattle.tptp_lexer.specs.declared.token.Token.TheVariants.{Lower, Quoted}
 use Rattle.tptp_lexer.specs.declared.token.Mark.{Mark}
@@ -50,12 +52,19 @@ abbrev pub lang_text : Lang → Text
 lang_text lang.Cnf = codes "cnf"
 lang_text lang.Fof = codes "fof"
 lang_text lang.Tff = codes "tff"
+lang_text lang.Tcf = codes "tcf"
+
+-- whether texts of the style have formulas of the language: typed clauses stand in derivations alone
+abbrev pub has_language : Style → Lang → Bool
+has_language Problem lang.Tcf = false
+has_language _ _ = true
 
 -- the word before a formula in a general term
 abbrev pub embedded_text : Lang → Text
 embedded_text lang.Cnf = codes "$cnf"
 embedded_text lang.Fof = codes "$fof"
 embedded_text lang.Tff = codes "$tff"
+embedded_text lang.Tcf = codes "$tcf"
 
 -- <formula_role>
 abbrev pub role_text : Role → Text

@@ -7,5 +7,6 @@ pub mod ReadFormulas
 pub mod ReadGeneral
 pub mod ReadItems
 pub mod ReadTerms
+pub mod ReadTypedClauses
 pub mod ReadTypes
 pub mod Solid

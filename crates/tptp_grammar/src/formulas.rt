@@ -93,9 +93,9 @@ fn bound_variables(
     Ok(found)
 }
 
-// The bound variables.
+/// The bound variables.
 #[tactic(auto, unfolding(crate::specs::code::ReadFormulas::bracket))]
-fn bracket(
+pub fn bracket(
     alloc: Global,
     tokens: &mut Cursor<'_>,
     typed: bool,

@@ -12,6 +12,7 @@ use crate::formulas::formula;
 use crate::lists::short_list;
 use crate::stop::Stop;
 use crate::terms::term;
+use crate::typed_clauses::typed_clause;
 use std::alloc::Global;
 use tptp_base::{Boxed, GTerm, Lang, List, STerm, Surface, Text};
 use tptp_lexer::{Mark, Token};
@@ -29,6 +30,7 @@ fn formula_of(
         Lang::Cnf => clause(alloc, tokens, room),
         Lang::Fof => formula(alloc, tokens, false, room),
         Lang::Tff => formula(alloc, tokens, true, room),
+        Lang::Tcf => typed_clause(alloc, tokens, room),
     }
 }
 

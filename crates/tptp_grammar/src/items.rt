@@ -14,12 +14,13 @@ use crate::general::{bracketed, general};
 use crate::lists::short_list;
 use crate::sorts::typing;
 use crate::stop::Stop;
+use crate::typed_clauses::typed_clause;
 use crate::words::{is_integer, lang_of, role_of};
 use std::alloc::Global;
 use tptp_base::{
     Annotated, Body, Boxed, GTerm, Include, Item, Lang, List, Name, Place, Role, Text,
 };
-use tptp_lexer::{Mark, Token};
+use tptp_lexer::{Mark, Style, Token};
 
 // The name of a formula.
 #[tactic(auto, unfolding(crate::specs::code::ReadItems::name))]
@@ -89,6 +90,7 @@ fn body(
         Lang::Cnf => Ok(Body::Logic(clause(alloc, tokens, room)?)),
         Lang::Fof => Ok(Body::Logic(formula(alloc, tokens, false, room)?)),
         Lang::Tff => typed_body(alloc, tokens, role, room),
+        Lang::Tcf => Ok(Body::Logic(typed_clause(alloc, tokens, room)?)),
     }
 }
 
@@ -349,13 +351,14 @@ fn other_item(
 fn worded(
     alloc: Global,
     tokens: &mut Cursor<'_>,
+    style: Style,
     room: usize,
     place: Place,
     word: &[u8],
 ) -> Result<Item, Stop>
-    ensures { Reads (spec.worded room place word.now (spec.lang_of word.now) tokens.old) result tokens.new }
+    ensures { Reads (spec.worded room place word.now (spec.lang_of style word.now) tokens.old) result tokens.new }
 {
-    match lang_of(word) {
+    match lang_of(style, word) {
         Some(lang) => {
             tokens.skip();
             annotated(alloc, tokens, room, place, lang)
@@ -364,13 +367,19 @@ fn worded(
     }
 }
 
-/// An item whose first token stands at the place.
+/// An item of a text of this style, whose first token stands at the place.
 #[tactic(auto, unfolding(crate::specs::code::ReadItems::item))]
-pub fn item(alloc: Global, tokens: &mut Cursor<'_>, room: usize, place: Place) -> Result<Item, Stop>
-    ensures { Reads (spec.item room place tokens.old) result tokens.new }
+pub fn item(
+    alloc: Global,
+    tokens: &mut Cursor<'_>,
+    style: Style,
+    room: usize,
+    place: Place,
+) -> Result<Item, Stop>
+    ensures { Reads (spec.item style room place tokens.old) result tokens.new }
 {
     match tokens.peek() {
-        Some(Token::Lower(word)) => worded(alloc, tokens, room, place, word.as_slice()),
+        Some(Token::Lower(word)) => worded(alloc, tokens, style, room, place, word.as_slice()),
         _ => Err(Stop::Unexpected),
     }
 }

@@ -18,9 +18,9 @@ ghost use Rattle.tptp_grammar.specs.Solid.{Placed};
 
 /// Tokens spell items or have a first fault, and never two of them.
 pub fn one_answer()
-    ensures some { (tokens : List Placed) (end : Place) → HasAnswer tokens end }
-    ensures one { (tokens : List Placed) (end : Place) (answer other : Result (List Item) GrammarFault) →
-        Answers tokens end answer → Answers tokens end other → IsOne answer other }
+    ensures some { (style : Style) (tokens : List Placed) (end : Place) → HasAnswer style tokens end }
+    ensures one { (style : Style) (tokens : List Placed) (end : Place) (answer other : Result (List Item) GrammarFault) →
+        Answers style tokens end answer → Answers style tokens end other → IsOne answer other }
 {}
 
 /// The names that items have can be written between quotes, if the tokens of a part of a text spell the items: they are
@@ -28,14 +28,14 @@ pub fn one_answer()
 pub fn names_are_quotable()
     ensures { (style : Style) (file : ℕ) (whole : Text) (at : ℕ) (text : Text) (tokens : List Placed) (end : ℕ)
         (rest : Text) (items : List Item) →
-        Cut style (placed file whole) at text tokens end rest → Spells items tokens
+        Cut style (placed file whole) at text tokens end rest → Spells style items tokens
         → AreQuotable (names_of_items items) }
 {}
 
 /// A list of tokens spells at most one list of items. So does a text, or a part of one, in either style.
 pub fn one_list_of_items()
-    ensures of_tokens { (tokens : List Placed) (items others : List Item) →
-        Spells items tokens → Spells others tokens → items ≡ others }
+    ensures of_tokens { (style : Style) (tokens : List Placed) (items others : List Item) →
+        Spells style items tokens → Spells style others tokens → items ≡ others }
     ensures of_texts { (style : Style) (file : ℕ) (text : Text) (region : Region) (items others : List Item) →
         PartSpells style file text region items → PartSpells style file text region others → items ≡ others }
 {}
@@ -43,8 +43,8 @@ pub fn one_list_of_items()
 /// Items are no larger than what spells them. No list in them has more members than there are tokens, and they have no
 /// more variables; and a text has no more tokens than bytes.
 pub fn items_are_within_their_text()
-    ensures of_tokens { (tokens : List Placed) (items : List Item) →
-        Spells items tokens → IsWithin (length tokens) (size_of_items items) }
+    ensures of_tokens { (style : Style) (tokens : List Placed) (items : List Item) →
+        Spells style items tokens → IsWithin (length tokens) (size_of_items items) }
     ensures of_texts { (style : Style) (file : ℕ) (text : Text) (region : Region) (items : List Item) →
         PartSpells style file text region items → IsWithin (length (part text region)) (size_of_items items) }
 {}

@@ -14,6 +14,7 @@ mod reading;
 mod sorts;
 mod stop;
 mod terms;
+mod typed_clauses;
 mod words;
 
 pub use fault::GrammarFault;

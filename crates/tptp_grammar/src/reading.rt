@@ -18,7 +18,7 @@ use crate::items::item;
 use crate::stop::Stop;
 use std::alloc::{AllocError, Global};
 use tptp_base::{Item, List, Place, Text};
-use tptp_lexer::{Token, Tokens};
+use tptp_lexer::{Style, Token, Tokens};
 
 // How deep a text may nest.
 const MAX_NESTING: usize = 250;
@@ -65,14 +65,19 @@ fn comment(alloc: Global, text: &Text) -> Result<Turn, Refusal>
 
 // An annotated formula or an include.
 #[tactic(auto, using(crate::proofs::Whole::item_moves))]
-fn input(alloc: Global, tokens: &mut Cursor<'_>, place: Place) -> Result<Turn, Refusal>
-    ensures ok { IfOk result (λ s. (items.item faults.max_nesting place tokens.old ≡ Ok (s.item, tokens.new))
+fn input(
+    alloc: Global,
+    tokens: &mut Cursor<'_>,
+    style: Style,
+    place: Place,
+) -> Result<Turn, Refusal>
+    ensures ok { IfOk result (λ s. (items.item style faults.max_nesting place tokens.old ≡ Ok (s.item, tokens.new))
         × (suc (s.left + length tokens.new) ≡ length tokens.old)) }
-    ensures err { IfErr result (λ r. Fails (items.item faults.max_nesting place tokens.old) r.stop tokens.new
+    ensures err { IfErr result (λ r. Fails (items.item style faults.max_nesting place tokens.old) r.stop tokens.new
         × (r.left ≡ length tokens.new)) }
 {
     let before = tokens.left();
-    match item(alloc, tokens, MAX_NESTING, place) {
+    match item(alloc, tokens, style, MAX_NESTING, place) {
         Ok(item) => Ok(Turn {
             item,
             left: before - tokens.left() - 1,
@@ -88,31 +93,32 @@ fn input(alloc: Global, tokens: &mut Cursor<'_>, place: Place) -> Result<Turn, R
 fn take_turn(
     alloc: Global,
     tokens: &mut Cursor<'_>,
+    style: Style,
     first: &Token,
     place: Place,
 ) -> Result<Turn, Refusal>
     ensures ok { IfOk result (λ s.
-        answers_code.Starts faults.max_nesting first.now place tokens.old s.item s.left tokens.new) }
+        answers_code.Starts style faults.max_nesting first.now place tokens.old s.item s.left tokens.new) }
     ensures err { IfErr result (λ r.
-        answers_code.StartFails faults.max_nesting first.now place tokens.old r.stop r.left tokens.new) }
+        answers_code.StartFails style faults.max_nesting first.now place tokens.old r.stop r.left tokens.new) }
 {
     match first {
         Token::Comment(text) => comment(alloc, text),
-        _ => input(alloc, tokens, place),
+        _ => input(alloc, tokens, style, place),
     }
 }
 
 // The items, and the comments between them.
-fn read_items(alloc: Global, tokens: &[(Token, Place)]) -> Result<List<Item>, Refusal>
-    ensures ok { IfOk result (λ found. spec.file faults.max_nesting tokens.now ≡ Ok found) }
-    ensures err { IfErr result (λ r. answers_code.Stopped (spec.file faults.max_nesting tokens.now) r.stop r.left) }
+fn read_items(alloc: Global, tokens: &[(Token, Place)], style: Style) -> Result<List<Item>, Refusal>
+    ensures ok { IfOk result (λ found. spec.file style faults.max_nesting tokens.now ≡ Ok found) }
+    ensures err { IfErr result (λ r. answers_code.Stopped (spec.file style faults.max_nesting tokens.now) r.stop r.left) }
 {
     let mut found = List::new(alloc);
     let mut cursor = Cursor::new(tokens);
     let mut left = 0;
     'tokens: for (token, place) in tokens {
         if left == 0 {
-            let next = take_turn(alloc, &mut cursor, token, *place)?;
+            let next = take_turn(alloc, &mut cursor, style, token, *place)?;
             left = next.left;
             found.push(next.item)?;
         } else if !is_comment(token) {
@@ -209,19 +215,19 @@ fn fault_of(stop: Stop, entry: Option<&(Token, Place)>, end: Place) -> GrammarFa
 /// The first fault, as `GrammarFault` tells them.
 pub fn parse(alloc: Global, tokens: &Tokens) -> Result<List<Item>, GrammarFault>
     // What is read is spelled so, nested no deeper than the limit. Each fault is the first one.
-    ensures answers { answers.Answers tokens.now.items tokens.now.end result }
+    ensures answers { answers.Answers tokens.now.style tokens.now.items tokens.now.end result }
     // What is spelled within the limit is read, unless memory runs out.
-    ensures only { (items : List Item) → SpellsWithin faults.max_nesting items tokens.now.items
+    ensures only { (items : List Item) → SpellsWithin tokens.now.style faults.max_nesting items tokens.now.items
         → answers.IsRead items result }
     // What is spelled with tokens that are nested deeper is refused for that, unless memory runs out.
-    ensures deep { (items : List Item) (us over : NestedTokens) → IsFile items tokens.now.items us
+    ensures deep { (items : List Item) (us over : NestedTokens) → IsFile tokens.now.style items tokens.now.items us
         → FirstOver faults.max_nesting us over → answers.IsRefusedAsDeep result }
     // The tokens spell at most one list of items.
-    ensures one { (first second : List Item) → Spells first tokens.now.items → Spells second tokens.now.items
-        → first ≡ second }
+    ensures one { (first second : List Item) → Spells tokens.now.style first tokens.now.items
+        → Spells tokens.now.style second tokens.now.items → first ≡ second }
 {
     let all = tokens.items.as_slice();
-    match read_items(alloc, all) {
+    match read_items(alloc, all, tokens.style) {
         Ok(found) => Ok(found),
         Err(refusal) => Err(fault_of(refusal.stop, entry_at(all, refusal.left), tokens.end)),
     }

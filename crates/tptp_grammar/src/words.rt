@@ -3,9 +3,11 @@ ghost use Rattle.std.specs.Prelude.{◌≡◌};
 ghost use Rattle.std.specs.Char.{is_ascii_digit};
 ghost use Rattle.std.specs.List.{list_all};
 ghost use Rattle.tptp_base.specs.Numerals.{are_digits, is_integer};
+ghost use Rattle.tptp_grammar.specs.Tokens.{has_language};
 ghost use Rattle.tptp_grammar.specs.code.ReadItems as spec;
 
 use tptp_base::{Lang, Role};
+use tptp_lexer::Style;
 
 /// Whether a number is a sign and digits alone.
 pub fn is_integer(text: &[u8]) -> bool
@@ -35,10 +37,20 @@ fn all_digits(text: &[u8]) -> bool
     text.iter().all(|byte| byte.is_ascii_digit())
 }
 
-/// The language of this word.
+// Whether typed clauses stand in texts of this style.
+fn has_typed_clauses(style: Style) -> bool
+    ensures { result ≡ has_language style Lang.Tcf }
+{
+    match style {
+        Style::Problem => false,
+        Style::Derivation => true,
+    }
+}
+
+/// The language of this word in a text of this style.
 #[tactic(auto, unfolding(crate::specs::code::ReadItems::lang_of))]
-pub fn lang_of(word: &[u8]) -> Option<Lang>
-    ensures { result ≡ spec.lang_of word.now }
+pub fn lang_of(style: Style, word: &[u8]) -> Option<Lang>
+    ensures { result ≡ spec.lang_of style word.now }
 {
     if word == b"cnf".as_slice() {
         Some(Lang::Cnf)
@@ -46,6 +58,8 @@ pub fn lang_of(word: &[u8]) -> Option<Lang>
         Some(Lang::Fof)
     } else if word == b"tff".as_slice() {
         Some(Lang::Tff)
+    } else if has_typed_clauses(style) && word == b"tcf".as_slice() {
+        Some(Lang::Tcf)
     } else {
         None
     }

@@ -31,11 +31,12 @@ module _ (file : ℕ) (text : Text) (region : Region) (style : Style) where
       let (lists, ends, rests) = same_cut style (placed file text) cut other refl stuck also in
       (lists, is ∙ ap (place_of file text) ends ∙ sym same, rests)
 
-  same_tokens : (tokens others : Tokens) → tokens.items ≡ others.items → tokens.end ≡ others.end → tokens ≡ others
-  same_tokens tokens others e f =
-      let first : tokens ≡ record { items = others.items; end = tokens.end } = ap (λ (i : List (Token × Place)). let r : Tokens = record { items = i; end = tokens.end } in r) e in
-      let second : record { items = others.items; end = tokens.end } ≡ others = ap (λ (p : Place). let r : Tokens = record { items = others.items; end = p } in r) f in
-      first ∙ second
+  same_tokens : (tokens others : Tokens) → tokens.items ≡ others.items → tokens.end ≡ others.end → tokens.style ≡ others.style → tokens ≡ others
+  same_tokens tokens others e f g =
+      let first : tokens ≡ record { items = others.items; end = tokens.end; style = tokens.style } = ap (λ (i : List (Token × Place)). let r : Tokens = record { items = i; end = tokens.end; style = tokens.style } in r) e in
+      let second : record { items = others.items; end = tokens.end; style = tokens.style } ≡ record { items = others.items; end = others.end; style = tokens.style } = ap (λ (p : Place). let r : Tokens = record { items = others.items; end = p; style = tokens.style } in r) f in
+      let third : record { items = others.items; end = others.end; style = tokens.style } ≡ others = ap (λ (s : Style). let r : Tokens = record { items = others.items; end = others.end; style = s } in r) g in
+      first ∙ (second ∙ third)
 
   pub one : (answer other : Result Tokens LexFault) → Answers file text region style answer → Answers file text region style other → IsOne answer other
   one (Err Memory) other h k = inr (inl refl)
@@ -51,16 +52,16 @@ module _ (file : ℕ) (text : Text) (region : Region) (style : Style) where
   one (Err (Byte p)) (Err (Limit n)) h k = absurd (omega (arith, h.0, k.0))
   one (Err (Unfinished p)) (Err (Limit n)) h k = absurd (omega (arith, h.0, k.0))
   one (Ok tokens) (Ok others) h k =
-      let (lists, places, rests) = same_lead _ _ _ _ [] [] h.1 k.1 (stuck_end style) (stuck_end style) in
-      inl (ap Ok (same_tokens tokens others lists places))
+      let (lists, places, rests) = same_lead _ _ _ _ [] [] h.2 k.2 (stuck_end style) (stuck_end style) in
+      inl (ap Ok (same_tokens tokens others lists places (h.1 ∙ sym k.1)))
   one (Ok tokens) (Err (Byte p)) h (fits, items, rest, leads, begins) =
-      let (lists, places, rests) = same_lead _ _ _ _ [] rest h.1 leads (stuck_end style) (stuck_nothing style rest begins) in absurd (begins.goes_on (sym rests))
+      let (lists, places, rests) = same_lead _ _ _ _ [] rest h.2 leads (stuck_end style) (stuck_nothing style rest begins) in absurd (begins.goes_on (sym rests))
   one (Ok tokens) (Err (Unfinished p)) h (fits, items, rest, leads, open_here) =
-      let (lists, places, rests) = same_lead _ _ _ _ [] rest h.1 leads (stuck_end style) (stuck_open style rest open_here) in absurd (open_some (subst IsOpen (sym rests) open_here))
+      let (lists, places, rests) = same_lead _ _ _ _ [] rest h.2 leads (stuck_end style) (stuck_open style rest open_here) in absurd (open_some (subst IsOpen (sym rests) open_here))
   one (Err (Byte p)) (Ok tokens) (fits, items, rest, leads, begins) k =
-      let (lists, places, rests) = same_lead _ _ _ _ rest [] leads k.1 (stuck_nothing style rest begins) (stuck_end style) in absurd (begins.goes_on rests)
+      let (lists, places, rests) = same_lead _ _ _ _ rest [] leads k.2 (stuck_nothing style rest begins) (stuck_end style) in absurd (begins.goes_on rests)
   one (Err (Unfinished p)) (Ok tokens) (fits, items, rest, leads, open_here) k =
-      let (lists, places, rests) = same_lead _ _ _ _ rest [] leads k.1 (stuck_open style rest open_here) (stuck_end style) in absurd (open_some (subst IsOpen rests open_here))
+      let (lists, places, rests) = same_lead _ _ _ _ rest [] leads k.2 (stuck_open style rest open_here) (stuck_end style) in absurd (open_some (subst IsOpen rests open_here))
   one (Err (Byte p)) (Err (Byte q)) (fits, items, rest, leads, begins) (fit, others, after, also, nothing) =
       let (lists, places, rests) = same_lead _ _ _ _ rest after leads also (stuck_nothing style rest begins) (stuck_nothing style after nothing) in inl (ap (λ x. Err (Byte x)) places)
   one (Err (Unfinished p)) (Err (Unfinished q)) (fits, items, rest, leads, begins) (fit, others, after, also, nothing) =
@@ -72,7 +73,7 @@ module _ (file : ℕ) (text : Text) (region : Region) (style : Style) where
 
   some_by : region.end - region.start ≤ FILE_SIZE → (items : List (Token × Place)) (end : ℕ) (rest : Text) → Cut style (placed file text) region.start (part text region) items end rest → IsEnd style (placed file text) rest → HasAnswer file text region style
   some_by fits items end rest cut (inl e) =
-      (Ok (record { items = items; end = place_of file text end }), λ never. (cc), (fits, (end, subst (λ r. Cut style (placed file text) region.start (part text region) items end r) e cut, refl)))
+      (Ok (record { items = items; end = place_of file text end; style = style }), λ never. (cc), (fits, refl, (end, subst (λ r. Cut style (placed file text) region.start (part text region) items end r) e cut, refl)))
   some_by fits items end rest cut (inr (inl begins)) = (Err (Byte (place_of file text end)), λ never. (cc), (fits, items, rest, (end, cut, refl), begins))
   some_by fits items end rest cut (inr (inr open_here)) = (Err (Unfinished (place_of file text end)), λ never. (cc), (fits, items, rest, (end, cut, refl), open_here))
 
@@ -108,7 +109,7 @@ module _ (file : ℕ) (text : Text) (region : Region) (style : Style) (tokens : 
       let (lists, ends, rests) = same_cut style bare plain is.1 refl stuck (stuck_end style) in (lists, rests)
 
   pub given : (result : Result Tokens LexFault) → Answers file text region style result → region.end - region.start ≤ FILE_SIZE → Gives tokens result
-  given (Ok answer) h fits = (lead_end answer.items answer.end [] h.1 (stuck_end style)).0
+  given (Ok answer) h fits = (lead_end answer.items answer.end [] h.2 (stuck_end style)).0
   given (Err Memory) h fits = tt
   given (Err (Limit n)) h fits = omega (arith, h.0)
   given (Err (Byte p)) (fit, items, rest, leads, begins) fits = begins.goes_on (lead_end items p rest leads (stuck_nothing style rest begins)).1

@@ -155,13 +155,13 @@ module _ (file : ℕ) (text : Text) (region : Region) (style : Style) where
       }
 
   module _ (fits : region.end - region.start ≤ FILE_SIZE) (place : Place) (items : Items) (h : HasReached file text region style items place) where
-    pub ended : region.end ≤ place.offset → (tokens : Tokens) → tokens.items ≡ items → tokens.end ≡ place → Answers file text region style (Ok tokens)
-    ended last tokens e f =
+    pub ended : region.end ≤ place.offset → (tokens : Tokens) → tokens.items ≡ items → tokens.end ≡ place → tokens.style ≡ style → Answers file text region style (Ok tokens)
+    ended last tokens e f g =
         let same : place.offset ≡ region.end = (let w = h.within in omega arith) in
         let none : region.end - place.offset ≡ 0 = omega arith in
         let empty : rest_of text place region.end ≡ [] = ap (λ n. take n (drop place.offset text)) none in
         let cut = subst (λ r. Cut style (placed file text) region.start (part text region) items place.offset r) empty h.cut in
-        (fits, (place.offset, subst (λ (x : Items). Cut style (placed file text) region.start (part text region) x place.offset []) (sym e) cut, f ∙ h.is_place))
+        (fits, g, (place.offset, subst (λ (x : Items). Cut style (placed file text) region.start (part text region) x place.offset []) (sym e) cut, f ∙ h.is_place))
 
     pub fault : (old new : Items) (reason : LexFault) → Stepped style text region.end place old new (Err reason) → Answers file text region style (Err reason)
     fault old new Memory s = tt

@@ -50,7 +50,7 @@ Reaches file text region style items place rest = (offset : ℕ) × Cut style (p
 
 -- This is the answer for the region. Want of memory may stand for any answer.
 abbrev pub Answers : ℕ → Text → Region → Style → Result Tokens LexFault → Type 0
-Answers file text region style (Ok tokens) = (region.end - region.start ≤ FILE_SIZE) × Reaches file text region style tokens.items tokens.end []
+Answers file text region style (Ok tokens) = (region.end - region.start ≤ FILE_SIZE) × (tokens.style ≡ style) × Reaches file text region style tokens.items tokens.end []
 Answers file text region style (Err (Byte place)) =
     (region.end - region.start ≤ FILE_SIZE) × (items : List (Token × Place)) × (rest : Text) × Reaches file text region style items place rest × BeginsNothing style rest
 Answers file text region style (Err (Unfinished place)) =

@@ -56,7 +56,11 @@ pub fn tokens(
             &mut items,
         )?;
     }
-    Ok(Tokens { items, end: place })
+    Ok(Tokens {
+        items,
+        end: place,
+        style,
+    })
 }
 
 // An empty list. Where memory allows, it has room for a token in every second byte, so that the list of a usual text

@@ -1,3 +1,4 @@
+use crate::Style;
 use tptp_base::{List, Place, Text};
 
 /// The marks.
@@ -78,4 +79,6 @@ pub struct Tokens {
     pub items: List<(Token, Place)>,
     /// The place of the part's end.
     pub end: Place,
+    /// How the text was read.
+    pub style: Style,
 }

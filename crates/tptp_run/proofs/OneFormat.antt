@@ -99,18 +99,18 @@ module _ (name text : List ℕ) (a b : Ending) where
   both_refused (inl (f, h, says)) (inr (t, g, k, p, said)) = tokens_no_fault t f a says (one_of (Ok t) (Err f) k h)
   both_refused (inr (t, f, h, p, says)) (inl (g, k, said)) = tokens_no_fault t g b said (one_of (Ok t) (Err g) h k)
   both_refused (inr (t, f, h, p, says)) (inr (u, g, k, q, said)) =
-      let same = same_grammar f g says said (parsing.one t.items t.end (Err f) (Err g) p (here t u (Err g) h k q)) in
+      let same = same_grammar f g says said (parsing.one t.style t.items t.end (Err f) (Err g) p (here t u (Err g) h k q)) in
       one_grammar_said a b name f says (subst (λ (x : GrammarFault). SaysGrammarFault name x b) (sym same) said)
 
 -- what spells items has no fault of which something is said
 spelled_no_refusal : {R : Type 0} (name text : List ℕ) (items : List Item) (ending : Ending) → SpellsItems text items → IsTextRefusal name text ending → R
 spelled_no_refusal name text items ending s (inl (f, h, says)) = tokens_no_fault name text ending ending s.tokens f ending says (one_of name text ending ending (Ok s.tokens) (Err f) s.lexed h)
 spelled_no_refusal name text items ending s (inr (t, f, h, p, says)) =
-    items_no_fault name text ending ending items f ending says (parsing.one s.tokens.items s.tokens.end (Ok items) (Err f) s.parsed (here name text ending ending s.tokens t (Err f) s.lexed h p))
+    items_no_fault name text ending ending items f ending says (parsing.one s.tokens.style s.tokens.items s.tokens.end (Ok items) (Err f) s.parsed (here name text ending ending s.tokens t (Err f) s.lexed h p))
 
 one_spelled : (text : List ℕ) (items others : List Item) (name : List ℕ) (ending : Ending) → SpellsItems text items → SpellsItems text others → items ≡ others
 one_spelled text items others name ending s r =
-    same_items name text ending ending items others (parsing.one s.tokens.items s.tokens.end (Ok items) (Ok others) s.parsed (here name text ending ending s.tokens r.tokens (Ok others) s.lexed r.lexed r.parsed))
+    same_items name text ending ending items others (parsing.one s.tokens.style s.tokens.items s.tokens.end (Ok items) (Ok others) s.parsed (here name text ending ending s.tokens r.tokens (Ok others) s.lexed r.lexed r.parsed))
 
 one_said : (name text : List ℕ) (a b : Ending) → SaysText name text a → SaysText name text b → a ≡ b
 one_said name text a b (inl h) (inl k) = both_refused name text a b h k

@@ -9,7 +9,7 @@ use Rattle.sort_check.specs.Symbols.{Text}
 use Rattle.sort_check.specs.Denotation.{Setting, State, Meaning, bind, denoted_form}
 
 abbrev pub setting : List Text → Reach → Setting
-setting declared reach = record { declared = declared; outside = reach.outside }
+setting declared reach = record { declared = declared; outside = reach.outside; by_place = reach.by_place }
 
 abbrev pub state : Vocabulary → Reach → State
 state v reach = record { vocabulary = v; bound = reach.bound }

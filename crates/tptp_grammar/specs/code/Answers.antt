@@ -2,6 +2,7 @@
 use Rattle.std.specs.Prelude.{◌≡◌, ◌==◌, ◌&&◌, not, if◌then◌else◌, ℕ, suc, ◌+◌, List, [], ◌∷◌, length, Option, Some}
 use Rattle.std.specs.Prelude.{None, Ok, Err}
 use Rattle.first_fault.specs.code.Reading.{Unexpected, TooDeep}
+use Rattle.tptp_lexer.specs.declared.style.Style.{Style}
 use Rattle.tptp_lexer.specs.declared.token.Token.{Token}
 use Rattle.tptp_lexer.specs.declared.token.Token.TheVariants.{Comment}
 use Rattle.tptp_base.specs.declared.place.Place.{Place}
@@ -25,13 +26,13 @@ Stopped outcome stop.Unexpected left = (rest : List Token) × (length rest ≡ l
 Stopped outcome stop.TooDeep left = (rest : List Token) × (length rest ≡ left) × (outcome ≡ Err (TooDeep, rest))
 
 -- an item between items, and how many of its tokens are left, or the comment that stands there
-abbrev pub Starts : ℕ → Token → Place → List Token → Item → ℕ → List Token → Type 0
-Starts room (Comment text) place old i left new = (i ≡ it.Comment text) × (left ≡ 0) × (new ≡ old)
-Starts room t place old i left new = (item room place old ≡ Ok (i, new)) × (suc (left + length new) ≡ length old)
+abbrev pub Starts : Style → ℕ → Token → Place → List Token → Item → ℕ → List Token → Type 0
+Starts style room (Comment text) place old i left new = (i ≡ it.Comment text) × (left ≡ 0) × (new ≡ old)
+Starts style room t place old i left new = (item style room place old ≡ Ok (i, new)) × (suc (left + length new) ≡ length old)
 
-abbrev pub StartFails : ℕ → Token → Place → List Token → Stop → ℕ → List Token → Type 0
-StartFails room (Comment text) place old e left new = e ≡ stop.Memory
-StartFails room t place old e left new = Fails (item room place old) e new × (left ≡ length new)
+abbrev pub StartFails : Style → ℕ → Token → Place → List Token → Stop → ℕ → List Token → Type 0
+StartFails style room (Comment text) place old e left new = e ≡ stop.Memory
+StartFails style room t place old e left new = Fails (item style room place old) e new × (left ≡ length new)
 
 -- the first token with as many from it on, comments left out
 abbrev pub entry_at : ℕ → List Placed → Option Placed

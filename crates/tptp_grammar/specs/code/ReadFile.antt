@@ -1,6 +1,7 @@
--- What the parser computes of all tokens. The first number is the nesting that is left.
+-- What the parser computes of all tokens of a text of the style. The first number is the nesting that is left.
 use Rattle.std.specs.Prelude.{ℕ, zero, suc, ◌-◌, if◌then◌else◌, List, [], ◌∷◌, length, Result, Ok, Err}
 use Rattle.first_fault.specs.code.Reading.{Cause, Outcome}
+use Rattle.tptp_lexer.specs.declared.style.Style.{Style}
 use Rattle.tptp_lexer.specs.declared.token.Token.{Token}
 use Rattle.tptp_lexer.specs.declared.token.Token.TheVariants.{Comment}
 use Rattle.tptp_base.specs.declared.place.Place.{Place}
@@ -22,15 +23,15 @@ followed (Ok r) again n = with_item r.0 (again (n - length r.1))
 followed (Err f) again n = Err f
 
 -- from a token on that stands between items
-abbrev pub started : ℕ → Token → Place → List Placed → (ℕ → FileOutcome) → FileOutcome
-started room (Comment text) place rest again = with_item (it.Comment text) (again 0)
-started room t place rest again = followed (item room place (t ∷ solid rest)) again (length (solid rest))
+abbrev pub started : Style → ℕ → Token → Place → List Placed → (ℕ → FileOutcome) → FileOutcome
+started style room (Comment text) place rest again = with_item (it.Comment text) (again 0)
+started style room t place rest again = followed (item style room place (t ∷ solid rest)) again (length (solid rest))
 
 -- The second number counts the tokens, comments left out, that are left of the item that was read.
-abbrev pub file_from : ℕ → ℕ → List Placed → FileOutcome
-file_from room left [] = Ok []
-file_from room (suc left) (entry ∷ rest) = file_from room (if is_remark entry then suc left else left) rest
-file_from room zero (entry ∷ rest) = started room entry.0 entry.1 rest (λ left. file_from room left rest)
+abbrev pub file_from : Style → ℕ → ℕ → List Placed → FileOutcome
+file_from style room left [] = Ok []
+file_from style room (suc left) (entry ∷ rest) = file_from style room (if is_remark entry then suc left else left) rest
+file_from style room zero (entry ∷ rest) = started style room entry.0 entry.1 rest (λ left. file_from style room left rest)
 
-unfoldable pub file : ℕ → List Placed → FileOutcome
-file room ts = file_from room zero ts
+unfoldable pub file : Style → ℕ → List Placed → FileOutcome
+file style room ts = file_from style room zero ts

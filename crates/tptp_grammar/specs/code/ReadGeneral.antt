@@ -13,6 +13,7 @@ use Rattle.tptp_grammar.specs.Tokens.{Text, embedded_text}
 use Rattle.tptp_grammar.specs.code.ReadTerms.{is_mark, term}
 use Rattle.tptp_grammar.specs.code.ReadFormulas.{formula}
 use Rattle.tptp_grammar.specs.code.ReadClauses.{clause}
+use Rattle.tptp_grammar.specs.code.ReadTypedClauses.{typed_clause}
 use Rattle.tptp_lexer.specs.declared.token.Mark.TheVariants as m
 use Rattle.tptp_base.specs.declared.item.Lang.TheVariants as lang
 use Rattle.tptp_base.specs.declared.item.GTerm.TheVariants as gt
@@ -24,6 +25,7 @@ abbrev pub formula_of : Lang → ℕ → Reader Token Surface
 formula_of lang.Cnf = clause
 formula_of lang.Fof = formula false
 formula_of lang.Tff = formula true
+formula_of lang.Tcf = typed_clause
 
 -- from the opening parenthesis on
 unfoldable pub formula_open : Lang → ℕ → Reader Token Surface

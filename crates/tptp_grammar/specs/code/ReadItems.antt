@@ -1,8 +1,9 @@
 -- What the parser's functions for items compute. The number is the nesting that is left.
-use Rattle.std.specs.Prelude.{ℕ, Bool, true, false, if◌then◌else◌, List, [], ◌∷◌, Option, Some, None, Ok, codes}
+use Rattle.std.specs.Prelude.{ℕ, Bool, true, false, ◌&&◌, if◌then◌else◌, List, [], ◌∷◌, Option, Some, None, Ok, codes}
 use Rattle.std.specs.Str.{bytes_eq}
 use Rattle.first_fault.specs.code.Reading.{Reader, refuse, and_then, mapped, next, tail, expect, closed, opened}
 use Rattle.first_fault.specs.code.Reading.{separated}
+use Rattle.tptp_lexer.specs.declared.style.Style.{Style}
 use Rattle.tptp_lexer.specs.declared.token.Token.{Token}
 use Rattle.tptp_lexer.specs.declared.token.Token.TheVariants.{Lower, Quoted, Number, Mark as Sign}
 use Rattle.tptp_base.specs.declared.place.Place.{Place}
@@ -12,13 +13,14 @@ use Rattle.tptp_base.specs.declared.item.Role.{Role}
 use Rattle.tptp_base.specs.declared.item.Body.{Body}
 use Rattle.tptp_base.specs.declared.item.GTerm.{GTerm}
 use Rattle.tptp_base.specs.declared.item.Item.{Item}
-use Rattle.tptp_grammar.specs.Tokens.{Text, lang_text, role_text}
+use Rattle.tptp_grammar.specs.Tokens.{Text, lang_text, has_language, role_text}
 use Rattle.tptp_base.specs.Numerals.{is_integer}
 use Rattle.tptp_base.specs.Roles.{is_typing}
 use Rattle.tptp_grammar.specs.code.ReadTerms.{is_mark}
 use Rattle.tptp_grammar.specs.code.ReadTypes.{typing}
 use Rattle.tptp_grammar.specs.code.ReadFormulas.{formula}
 use Rattle.tptp_grammar.specs.code.ReadClauses.{clause}
+use Rattle.tptp_grammar.specs.code.ReadTypedClauses.{typed_clause}
 use Rattle.tptp_grammar.specs.code.ReadGeneral.{general, nesting}
 use Rattle.tptp_lexer.specs.declared.token.Mark.TheVariants as m
 use Rattle.tptp_base.specs.declared.name.Name.TheVariants as nm
@@ -66,15 +68,21 @@ role_at _ ts = refuse ts
 unfoldable pub role : Reader Token Role
 role ts = role_at (next ts) ts
 
--- the language of a word
-unfoldable pub lang_of : Text → Option Lang
-lang_of w = if bytes_eq w (lang_text lang.Cnf) then Some lang.Cnf else if bytes_eq w (lang_text lang.Fof) then Some lang.Fof else if bytes_eq w (lang_text lang.Tff) then Some lang.Tff else None
+-- the language of a word in a text of the style
+unfoldable pub lang_of : Style → Text → Option Lang
+lang_of style w =
+    if bytes_eq w (lang_text lang.Cnf) then Some lang.Cnf
+    else if bytes_eq w (lang_text lang.Fof) then Some lang.Fof
+    else if bytes_eq w (lang_text lang.Tff) then Some lang.Tff
+    else if has_language style lang.Tcf && bytes_eq w (lang_text lang.Tcf) then Some lang.Tcf
+    else None
 
 -- ---- what stands behind the role
 
 abbrev pub body_of : Lang → Bool → ℕ → Reader Token Body
 body_of lang.Cnf b room ts = mapped bd.Logic (clause room ts)
 body_of lang.Fof b room ts = mapped bd.Logic (formula false room ts)
+body_of lang.Tcf b room ts = mapped bd.Logic (typed_clause room ts)
 body_of lang.Tff true room ts = mapped bd.Typing (typing room ts)
 body_of lang.Tff false room ts = mapped bd.Logic (formula true room ts)
 
@@ -183,9 +191,9 @@ abbrev pub worded : ℕ → Place → Text → Option Lang → Reader Token Item
 worded room place w (Some l) ts = annotated room place l (tail ts)
 worded room place w None ts = other_item place w ts
 
-abbrev pub item_at : ℕ → Place → Option Token → Reader Token Item
-item_at room place (Some (Lower w)) ts = worded room place w (lang_of w) ts
-item_at room place _ ts = refuse ts
+abbrev pub item_at : Style → ℕ → Place → Option Token → Reader Token Item
+item_at style room place (Some (Lower w)) ts = worded room place w (lang_of style w) ts
+item_at style room place _ ts = refuse ts
 
-unfoldable pub item : ℕ → Place → Reader Token Item
-item room place ts = item_at room place (next ts) ts
+unfoldable pub item : Style → ℕ → Place → Reader Token Item
+item style room place ts = item_at style room place (next ts) ts

@@ -43,14 +43,14 @@ pub returns-in_err-place-clause-gives : goal.returns-in_err-place-clause-gives
 returns-in_err-place-clause-gives c = λ tokens is fits. given c.args.file c.args.text.now c.args.region c.args.style tokens is c.from_residual.result (fails c) fits
 
 -- the tokens are the answer
-ends : (c : goal.After-loop-place) → Answers c.args.file c.args.text.now c.args.region c.args.style (Ok (record { items = c.loop-place.items; end = c.loop-place.place }))
-ends c = ended c.args.file c.args.text.now c.args.region c.args.style c.if-region-gt-FILE_SIZE.false c.loop-place.place c.loop-place.items c.loop-place.invariant.reached c.loop-place-test.false (record { items = c.loop-place.items; end = c.loop-place.place }) refl refl
+ends : (c : goal.After-loop-place) → Answers c.args.file c.args.text.now c.args.region c.args.style (Ok (record { items = c.loop-place.items; end = c.loop-place.place; style = c.args.style }))
+ends c = ended c.args.file c.args.text.now c.args.region c.args.style c.if-region-gt-FILE_SIZE.false c.loop-place.place c.loop-place.items c.loop-place.invariant.reached c.loop-place-test.false (record { items = c.loop-place.items; end = c.loop-place.place; style = c.args.style }) refl refl refl
 
 pub returns-clause-only : goal.returns-clause-only
 returns-clause-only c = λ other h. one c.args.file c.args.text.now c.args.region c.args.style _ other (ends c) h
 
 pub returns-clause-tokenized : goal.returns-clause-tokenized
-returns-clause-tokenized c = tokenized c.args.file _ _ (part c.args.text.now c.args.region) c.args.text.now c.args.style c.loop-place.items (ends c).1.1
+returns-clause-tokenized c = tokenized c.args.file _ _ (part c.args.text.now c.args.region) c.args.text.now c.args.style c.loop-place.items (ends c).2.1
 
 pub returns-clause-gives : goal.returns-clause-gives
-returns-clause-gives c = λ tokens is fits. given c.args.file c.args.text.now c.args.region c.args.style tokens is (Ok (record { items = c.loop-place.items; end = c.loop-place.place })) (ends c) fits
+returns-clause-gives c = λ tokens is fits. given c.args.file c.args.text.now c.args.region c.args.style tokens is (Ok (record { items = c.loop-place.items; end = c.loop-place.place; style = c.args.style })) (ends c) fits
