@@ -168,7 +168,7 @@ module _ (k : ℕ) where
         record {
           pair = inl (
             ap (occurs_in_term k) p.one ∙ occurs_in_term-App k p.p p.ts ∙ lit_lacks c.lits i (record { positive = true; atom = Pred p.p p.ts }) first p.here,
-            ap (occurs_in_term k) p.other ∙ occurs_in_term-App k p.p p.us ∙ lit_lacks (apart_from c d.lits) j (record { positive = false; atom = Pred p.p p.us }) apart p.there
+            ap (occurs_in_term k) p.other ∙ occurs_in_term-App k p.p p.us ∙ lit_lacks (apart_from c d.lits) j (record { positive = false; atom = Pred p.p p.us }) apart p.there,
           );
           left = subst (AreWithout k) (sym p.left) (All-append LitLacks (remove c.lits i) (remove (apart_from c d.lits) j) (rest_lacks c.lits i first) (rest_lacks (apart_from c d.lits) j apart));
         }
