@@ -1,6 +1,6 @@
 -- How a check ends: its report, and its log as a whole.
 use Rattle.std.specs.Prelude.{IfOk, OnErr, codes}
-use Rattle.std.proofs.Common.{◌≡◌, ◌<◌, ◌≤◌, ◌⊎◌, inl, inr, arith, ℕ, Bool, true, false, List, [], ◌++◌, length, map, drop, Option, None, Some, Result, Ok, Err, refl, sym, ◌∙◌, ap, subst, append_assoc}
+use Rattle.std.proofs.Common.{◌≡◌, ◌<◌, ◌≤◌, inl, inr, arith, ℕ, Bool, true, false, List, [], ◌++◌, length, map, drop, Option, None, Some, Result, Ok, Err, refl, sym, ◌∙◌, ap, subst, append_assoc}
 use Rattle.fof_terms.specs.Vocabulary.{Vocabulary}
 use Rattle.fof_terms.specs.declared.form.Form.{Form}
 use Rattle.kernel.specs.Statements.{Statements}
@@ -19,9 +19,11 @@ use Rattle.verifier.specs.Claim.{IsJustified, JustifiesSome, cites_marked, is_ma
 use Rattle.verifier.specs.Citing.{DoNotCite}
 use Rattle.verifier.specs.Closing.{Closes, HasFalseLine, IsVerified}
 use Rattle.verifier.specs.Declarations.{declarations}
+use Rattle.verifier.specs.Good.{HaveRoom}
 use Rattle.verifier.specs.Lines.{LinesStand}
 use Rattle.verifier.specs.Logged.{LogsSome}
 use Rattle.verifier.specs.Report.{AreAccepted, HasFalse, IsVerdict}
+use Rattle.verifier.specs.Unsearched.{AreUnsearched}
 use Rattle.verifier.specs.declared.answer.LineAnswer.{LineAnswer}
 use Rattle.verifier.specs.declared.claim.Claim.{Claim}
 use Rattle.verifier.specs.declared.fault.RunFault.{RunFault}
@@ -31,9 +33,10 @@ use Rattle.verifier.proofs.Accepting.{accepted_good}
 use Rattle.verifier.proofs.Citing.{both_spare, declarations_spare, run_spares}
 use Rattle.verifier.proofs.Refuting.{closed_refutes, closes_admits, falsehood_numbered, run_stands}
 use Rattle.verifier.proofs.Goodness.{good_accepted}
+use Rattle.verifier.proofs.Rooms.{good_not_stopped as never_stopped}
 use Rattle.verifier.proofs.Marking.{good_unmarked}
 use Rattle.derivation_check.specs.Cases.{Asked, claim_by, claimed, lines_over, widened}
-use Rattle.derivation_check.specs.Checks.{Checks, is_verified}
+use Rattle.derivation_check.specs.Checks.{Checks, Stops, is_verified}
 use Rattle.derivation_check.specs.GoodCases.{IsGoodCase}
 use Rattle.derivation_check.specs.code.Logs.{Closed, LogsRuns}
 use Rattle.derivation_check.specs.Logs.{ChecksWithLog, TakesSomeOfLog}
@@ -55,18 +58,18 @@ verified_sure (Failed unverified skipped lines) e = absurd cc
 verified_sure NoFalse e = absurd cc
 verified_sure (BadClaim word) e = absurd cc
 
-module _ (t : Statements) (d : Derivation) (w : Vocabulary) (outcome : Outcome) (end : Statements) (old mid : Option (List ℕ)) (ran : LogsRuns t d w outcome.answers outcome.numbers end old mid) where
+module _ (asked : Asked) (t : Statements) (d : Derivation) (w : Vocabulary) (outcome : Outcome) (end : Statements) (old mid : Option (List ℕ)) (ran : LogsRuns asked.limit t d w outcome.answers outcome.numbers end old mid) where
   pub found : length d.forms ≡ length d.graph.nodes → first_left (is_taken d.graph.order) 0 d.graph.nodes ≡ None → AreAccepted outcome.answers → HasFalse d.forms → HasFalseLine d.forms outcome.numbers
   found same all accepted has =
-      subst (HasFalseLine d.forms) ran.numbered (falsehood_numbered (widened t w) (lines_over t d) d.graph.order outcome.answers ran.runs.own end same all ran.runs.run accepted has)
+      subst (HasFalseLine d.forms) ran.numbered (falsehood_numbered (widened t w) (lines_over t d asked.limit) d.graph.order outcome.answers ran.runs.own end same all ran.runs.run accepted has)
 
   stand : LinesStand end d.forms outcome.numbers
-  stand = subst (LinesStand end d.forms) ran.numbered (run_stands (widened t w) (lines_over t d) d.graph.order outcome.answers ran.runs.own end ran.runs.run)
+  stand = subst (LinesStand end d.forms) ran.numbered (run_stands (widened t w) (lines_over t d asked.limit) d.graph.order outcome.answers ran.runs.own end ran.runs.run)
 
   pub run_count : length d.names ≡ length d.graph.nodes → length d.names ≡ length outcome.answers
   run_count each = each ∙ sym ran.runs.run.count
 
-  module _ (asked : Asked) (new : Option (List ℕ)) where
+  module _ (new : Option (List ℕ)) where
     joined : (report : Report) → Closed asked d outcome.answers outcome.numbers report mid new → ChecksWithLog asked t d w report old new
     joined report closed = (
       log_text (ran.entries ++ closed.last),
@@ -95,16 +98,16 @@ module _ (t : Statements) (d : Derivation) (w : Vocabulary) (outcome : Outcome) 
     all_logged (Ok report) closed cut =
         let legal = closes_admits closed.verdict end d.forms outcome.numbers closed.last stand closed.closes in
         log_all t legal.0 (ran.entries ++ closed.last) old new
-        (admits_append t end legal.0 ran.entries closed.last (runs_admit t d w outcome.answers ran.entries end ran.runs) legal.1)
+        (admits_append t end legal.0 ran.entries closed.last (runs_admit asked.limit t d w outcome.answers ran.entries end ran.runs) legal.1)
         (log_more old mid new ran.entries closed.last ran.taken closed.taken)
-    all_logged (Err fault) closed cut = log_cut t end ran.entries old mid new (runs_admit t d w outcome.answers ran.entries end ran.runs) ran.taken (cut end stand)
+    all_logged (Err fault) closed cut = log_cut t end ran.entries old mid new (runs_admit asked.limit t d w outcome.answers ran.entries end ran.runs) ran.taken (cut end stand)
 
 -- ---- laws
 
 check_refutes : (asked : Asked) (t : Statements) (d : Derivation) (w : Vocabulary) (report log : List ℕ) (c : Checks asked t d w true report log) → Refutes t (c.entries ++ c.last)
 check_refutes asked t d w report log c =
-    closed_refutes t c.end c.entries c.last d.forms c.runs.run.numbers c.verdict (runs_admit t d w c.answers c.entries c.end c.runs)
-    (run_stands (widened t w) (lines_over t d) d.graph.order c.answers c.runs.own c.end c.runs.run) (verified_sure c.verdict c.verified_is) c.closes
+    closed_refutes t c.end c.entries c.last d.forms c.runs.run.numbers c.verdict (runs_admit asked.limit t d w c.answers c.entries c.end c.runs)
+    (run_stands (widened t w) (lines_over t d asked.limit) d.graph.order c.answers c.runs.own c.end c.runs.run) (verified_sure c.verdict c.verified_is) c.closes
 
 -- a verified derivation refutes
 pub refutes : (asked : Asked) (t : Statements) (d : Derivation) (w : Vocabulary) (report log : List ℕ) → Checks asked t d w true report log → (entries : List Entry) × (log ≡ log_text entries) × Refutes t entries
@@ -149,7 +152,7 @@ check_spares asked t d w report log c word number within marked =
     (subst (DoNotCite number) (sym (append_assoc (declarations t.vocabulary w) c.runs.own c.last))
     (both_spare number (declarations t.vocabulary w) (c.runs.own ++ c.last)
     (both_spare number sorts symbols (declarations_spare number (λ name. Sort name) (drop (length t.vocabulary.sorts) w.sorts)) (declarations_spare number (λ symbol. Symbol symbol) (drop (length t.vocabulary.symbols) w.symbols)))
-    (run_spares (widened t w) (lines_over t d) d.graph.order c.answers c.runs.own c.end c.verdict c.last asked.marks number c.runs.run c.closes (claim_unmarked (claim_by asked c.answers) word parts.2) within marked)))
+    (run_spares (widened t w) (lines_over t d asked.limit) d.graph.order c.answers c.runs.own c.end c.verdict c.last asked.marks number c.runs.run c.closes (claim_unmarked (claim_by asked c.answers) word parts.2) within marked)))
 
 pub spares : (asked : Asked) (t : Statements) (d : Derivation) (w : Vocabulary) (report log : List ℕ) → Checks asked t d w true report log → claimed asked.output ≡ Some (codes "ContradictoryAxioms")
     → (entries : List Entry) × (log ≡ log_text entries) × Refutes t entries × ((number : ℕ) → number < length t.formulas → is_marked asked.marks number ≡ true → DoNotCite number entries)
@@ -175,19 +178,25 @@ still_justified (Some word) has before after less (inr (inr (is, with_conjecture
 pub good_verified : (asked : Asked) (t : Statements) (d : Derivation) (w : Vocabulary) (verified : Bool) (report log : List ℕ) → length asked.marks ≤ length t.formulas → TakesInTurn d.graph.nodes [] d.graph.order → first_left (is_taken d.graph.order) 0 d.graph.nodes ≡ None
     → IsGoodCase asked t d w → Checks asked t d w verified report log → verified ≡ true
 good_verified asked t d w verified report log marked turns all good c =
-    let accepted = good_accepted (widened t w) (lines_over t d) d.graph.order good.cites c.answers c.runs.own c.end refl good.good turns all c.runs.run in
-    let less = good_unmarked (widened t w) (lines_over t d) d.graph.order good.cites c.answers c.runs.own c.end asked.marks refl good.good turns all c.runs.run marked in
+    let accepted = good_accepted (widened t w) (lines_over t d asked.limit) d.graph.order good.cites c.answers c.runs.own c.end refl good.good turns all c.runs.run in
+    let less = good_unmarked (widened t w) (lines_over t d asked.limit) d.graph.order good.cites c.answers c.runs.own c.end asked.marks refl good.good turns all c.runs.run marked in
     let justified = still_justified (claimed asked.output) asked.has_conjecture (some_marked_ref asked.marks good.cites) (cites_marked asked.marks c.answers) less good.justified in
     c.verified_is ∙ good_verdict (claim_by asked c.answers) asked.problem d.forms c.answers c.verdict accepted good.good.ends justified c.first_that_applies
 
--- a verified derivation is good, and its claim justified by what its lines cite
-pub verified_good : (asked : Asked) (t : Statements) (d : Derivation) (w : Vocabulary) (report log : List ℕ) → length asked.marks ≤ length t.formulas → Checks asked t d w true report log → IsGoodCase asked t d w
-verified_good asked t d w report log marked c =
+-- a check of a good derivation does not stop
+pub good_not_stopped : (asked : Asked) (t : Statements) (d : Derivation) (w : Vocabulary) (place : ℕ) (log : List ℕ) → TakesInTurn d.graph.nodes [] d.graph.order → IsGoodCase asked t d w → Stops asked t d w place log → ⊥
+good_not_stopped asked t d w place log turns good s = never_stopped (widened t w) (lines_over t d asked.limit) d.graph.order good.cites place s.own s.end refl good.good turns good.room s.stopped
+
+-- a derivation that is verified without a search is good, where there is room by its texts, and its claim is justified by
+-- what its lines cite
+pub verified_good : (asked : Asked) (t : Statements) (d : Derivation) (w : Vocabulary) (report log : List ℕ) → length asked.marks ≤ length t.formulas → HaveRoom w (lines_over t d asked.limit) → (c : Checks asked t d w true report log) → AreUnsearched c.answers → IsGoodCase asked t d w
+verified_good asked t d w report log marked room c direct =
     let sure = verified_sure c.verdict c.verified_is in
     let parts = verdict_parts (claim_by asked c.answers) asked.problem d.forms c.answers c.verdict c.first_that_applies sure in
-    let good = accepted_good (widened t w) (lines_over t d) d.graph.order c.answers c.runs.own c.end refl c.runs.run parts.0 parts.1 in
+    let good = accepted_good (widened t w) (lines_over t d asked.limit) d.graph.order c.answers c.runs.own c.end refl c.runs.run parts.0 direct parts.1 in
     record {
       cites = good.0;
       good = good.1;
       justified = still_justified (claimed asked.output) asked.has_conjecture (cites_marked asked.marks c.answers) (some_marked_ref asked.marks good.0) (good.2 asked.marks marked) parts.2;
+      room = room;
     }

@@ -53,5 +53,5 @@ logged_of (entry ∷ entries) writable in_range = (record { writable = writable.
 -- where the derivation names what it brings
 pub check_logged : (asked : Asked) (t : Statements) (d : Derivation) (w : Vocabulary) (verified : Bool) (report log : List ℕ) (c : Checks asked t d w verified report log) → Brings t.vocabulary w → AreLogged (c.entries ++ c.last)
 check_logged asked t d w verified report log c brings =
-    let run = subst AreWritable (sym c.runs.entries_are) (writable_both (declarations t.vocabulary w) c.runs.own (declarations_writable t.vocabulary w brings) (run_writable (widened t w) (lines_over t d) d.graph.order c.answers c.runs.own c.end c.runs.run)) in
+    let run = subst AreWritable (sym c.runs.entries_are) (writable_both (declarations t.vocabulary w) c.runs.own (declarations_writable t.vocabulary w brings) (run_writable (widened t w) (lines_over t d asked.limit) d.graph.order c.answers c.runs.own c.end c.runs.run)) in
     logged_of (c.entries ++ c.last) (writable_both c.entries c.last run (last_writable c.verdict d.forms c.runs.run.numbers c.last c.closes)) c.in_range

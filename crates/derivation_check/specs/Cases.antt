@@ -12,16 +12,17 @@ use Rattle.verifier.specs.Claim as verifier
 use Rattle.verifier.specs.Lines as lines
 
 -- The problem as it was named, the prover's whole output, for each given formula whether it is a conjecture or a
--- negated conjecture, and whether the problem has a conjecture.
+-- negated conjecture, whether the problem has a conjecture, and how many clauses a search keeps at most.
 pub record Asked : Type 0 where
   pub problem : List ℕ
   pub output : List ℕ
   pub marks : List Bool
   pub has_conjecture : Bool
+  pub limit : ℕ
 
 -- the same as the code holds it
 abbrev pub asked_of : Held → Asked
-asked_of held = record { problem = held.problem.now; output = held.output.now; marks = held.marks.now; has_conjecture = held.has_conjecture }
+asked_of held = record { problem = held.problem.now; output = held.output.now; marks = held.marks.now; has_conjecture = held.has_conjecture; limit = held.limit }
 
 -- the word that stands there
 abbrev pub word_at : List ℕ → Option Region → Option (List ℕ)
@@ -36,9 +37,9 @@ claimed output = word_at output (claim_of output)
 abbrev pub claim_by : Asked → List LineAnswer → Claim
 claim_by asked answers = record { word = claimed asked.output; has_conjecture = asked.has_conjecture; cites_conjecture = verifier.cites_marked asked.marks answers }
 
--- the lines of a derivation over given formulas
-abbrev pub lines_over : Statements → Derivation → lines.Derivation
-lines_over t d = record { given = t.formulas; nodes = d.graph.nodes; forms = d.forms }
+-- the lines of a derivation over given formulas, with the limit of a search
+abbrev pub lines_over : Statements → Derivation → ℕ → lines.Derivation
+lines_over t d limit = record { given = t.formulas; nodes = d.graph.nodes; forms = d.forms; limit = limit }
 
 -- the theory with all symbols of the derivation
 abbrev pub widened : Statements → Vocabulary → Statements

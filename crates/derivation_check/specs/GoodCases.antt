@@ -5,7 +5,7 @@ use Rattle.kernel.specs.Statements.{Statements}
 use Rattle.tstp_graph.specs.declared.shape.Ref.{Ref}
 use Rattle.derivation_text.specs.declared.derivation.Derivation.{Derivation}
 use Rattle.verifier.specs.Claim.{IsJustified, some_marked_ref}
-use Rattle.verifier.specs.Good.{IsGood}
+use Rattle.verifier.specs.Good.{HaveRoom, IsGood}
 use Rattle.verifier.specs.declared.claim.Claim.{Claim}
 use Rattle.derivation_check.specs.Cases.{Asked, claimed, lines_over}
 
@@ -13,9 +13,10 @@ use Rattle.derivation_check.specs.Cases.{Asked, claimed, lines_over}
 abbrev pub claim_citing : Asked → List Ref → Claim
 claim_citing asked cites = record { word = claimed asked.output; has_conjecture = asked.has_conjecture; cites_conjecture = some_marked_ref asked.marks cites }
 
--- In the order of the graph each line follows by a rule, some line is falsehood, and the claim is justified by what the
--- lines cite then.
+-- In the order of the graph each line follows by a rule, some line is falsehood, the claim is justified by what the
+-- lines cite then, and beside the symbols of the texts there is room for each line.
 pub record IsGoodCase (asked : Asked) (t : Statements) (d : Derivation) (w : Vocabulary) : Type 0 where
   pub cites : List Ref
-  pub good : IsGood w (lines_over t d) d.graph.order cites
+  pub good : IsGood w (lines_over t d asked.limit) d.graph.order cites
   pub justified : IsJustified (claim_citing asked cites)
+  pub room : HaveRoom w (lines_over t d asked.limit)

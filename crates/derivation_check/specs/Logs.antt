@@ -9,7 +9,7 @@ use Rattle.kernel.specs.declared.entry.Entry.{Entry}
 use Rattle.proof_log.specs.Entries.{log_text}
 use Rattle.derivation_text.specs.declared.derivation.Derivation.{Derivation}
 use Rattle.derivation_check.specs.Cases.{Asked}
-use Rattle.derivation_check.specs.Checks.{Checks}
+use Rattle.derivation_check.specs.Checks.{Checks, Stops}
 use Rattle.derivation_check.specs.declared.checking.Report.{Report}
 
 -- nothing was taken, or a prefix of a log whose entries are legal in turn from the theory
@@ -19,3 +19,7 @@ TakesSomeOfLog t old new = (new ≡ old) ⊎ ((entries : List Entry) × (u : Sta
 -- the report and what the log took are those of a check
 abbrev pub ChecksWithLog : Asked → Statements → Derivation → Vocabulary → Report → Option (List ℕ) → Option (List ℕ) → Type 0
 ChecksWithLog asked t d w report old new = (log : List ℕ) × Takes old new log × Checks asked t d w report.verified report.text log
+
+-- the check stops at this place, and the log took what it has then
+abbrev pub StopsWithLog : Asked → Statements → Derivation → Vocabulary → Option (List ℕ) → Option (List ℕ) → ℕ → Type 0
+StopsWithLog asked t d w old new place = (log : List ℕ) × Takes old new log × Stops asked t d w place log

@@ -6,12 +6,12 @@ ghost use Rattle.sort_check.specs.Sorting.{AreDeclared, Extends, IsSentence};
 ghost use Rattle.tstp_graph.specs.Graphs.{IsOrdered};
 ghost use Rattle.kernel.specs.Statements.{Statements};
 ghost use Rattle.verifier.specs.Closing.{HasFalseLine};
-ghost use Rattle.verifier.specs.Faults.{HasCause};
+ghost use Rattle.verifier.specs.Faults.{HasCause, HasRunCause};
 ghost use Rattle.verifier.specs.Lines.{LinesStand};
 ghost use Rattle.verifier.specs.Logged.{LeadTo, LogsSome};
 ghost use Rattle.verifier.specs.Report.{AreAccepted, HasFalse, IsVerdict};
 ghost use Rattle.derivation_check.specs.Cases.{asked_of, claim_by};
-ghost use Rattle.derivation_check.specs.Logs.{ChecksWithLog, TakesSomeOfLog};
+ghost use Rattle.derivation_check.specs.Logs.{ChecksWithLog, StopsWithLog, TakesSomeOfLog};
 ghost use Rattle.derivation_check.specs.code.Logs.{Closed};
 
 use crate::claiming::claim_on;
@@ -36,6 +36,8 @@ pub struct Asked<'a> {
     pub marks: &'a [bool],
     /// Whether the problem has a conjecture.
     pub has_conjecture: bool,
+    /// How many clauses a search keeps at most.
+    pub limit: u32,
 }
 
 /// What is printed of a derivation, and whether all is verified.
@@ -50,8 +52,10 @@ pub struct Report {
 ///
 /// # Errors
 ///
-/// `Sink` where the log failed, and `Memory`. The log has then taken a prefix of the text of legal entries, or nothing,
-/// and such entries lead to the theory (`leads`).
+/// `Room` at the first line in the order of checking that is not skipped and for which the symbols of the theory leave no
+/// room: the log has then taken its first line, the declarations, and the entries of the lines before it. `Sink` where
+/// the log failed, and `Memory`: the log has then taken a prefix of the text of legal entries, or nothing. Such entries
+/// lead to the theory (`leads`).
 pub fn check_derivation<K: Sink>(
     alloc: Global,
     asked: &Asked<'_>,
@@ -72,10 +76,12 @@ pub fn check_derivation<K: Sink>(
         (K.taken log.new)) }
     ensures log { TakesSomeOfLog theory.old (K.taken log.old) (K.taken log.new) }
     ensures leads { LeadTo theory.old theory.new }
-    ensures cause { IfErr result (λ fault. HasCause fault (Rose (K.faults log.old) (K.faults log.new))) }
+    ensures cause { IfErr result (λ fault. HasRunCause fault (Rose (K.faults log.old) (K.faults log.new))
+        (StopsWithLog (asked_of asked.now) theory.old derivation.now signature.now (K.taken log.old)
+        (K.taken log.new))) }
     ensures more_faults { K.faults log.old ≤ K.faults log.new }
 {
-    let outcome = run_derivation(alloc, derivation, signature, theory, log)?;
+    let outcome = run_derivation(alloc, derivation, signature, asked.limit, theory, log)?;
     close(alloc, asked, derivation, &outcome, log)
 }
 

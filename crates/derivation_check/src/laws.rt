@@ -9,9 +9,11 @@ ghost use Rattle.sort_check.specs.Bringing.{Brings};
 ghost use Rattle.tstp_graph.specs.Order.{TakesInTurn, is_taken, first_left};
 ghost use Rattle.verifier.specs.Citing.{DoNotCite};
 ghost use Rattle.verifier.specs.Claim.{is_marked};
+ghost use Rattle.verifier.specs.Good.{HaveRoom};
+ghost use Rattle.verifier.specs.Unsearched.{AreUnsearched};
 ghost use Rattle.derivation_text.specs.declared.derivation.Derivation.{Derivation};
 ghost use Rattle.derivation_check.specs.Cases as spec;
-ghost use Rattle.derivation_check.specs.Checks.{Checks};
+ghost use Rattle.derivation_check.specs.Checks.{Checks, Stops};
 ghost use Rattle.derivation_check.specs.GoodCases.{IsGoodCase};
 
 /// Where a check verifies a derivation, its log is the text of entries that refute the given formulas.
@@ -49,19 +51,27 @@ pub fn a_good_case_is_verified()
         → IsGoodCase asked t d w → Checks asked t d w verified report log → verified ≡ true }
 {}
 
-/// A derivation that a check verifies is good, and its claim justified by what its lines cite. So of all derivations a
-/// check verifies exactly these.
-pub fn a_verified_case_is_good()
-    ensures { (asked : spec.Asked) (t : Statements) (d : Derivation) (w : Vocabulary) (report log : List ℕ)
-        → length asked.marks ≤ length t.formulas → Checks asked t d w true report log → IsGoodCase asked t d w }
+/// A check of a good derivation does not stop for want of room.
+pub fn a_good_case_has_room()
+    ensures { (asked : spec.Asked) (t : Statements) (d : Derivation) (w : Vocabulary) (place : ℕ) (log : List ℕ)
+        → TakesInTurn d.graph.nodes List.[] d.graph.order
+        → IsGoodCase asked t d w → Stops asked t d w place log → ⊥ }
 {}
 
-/// A check has one verdict and one report, whatever the entries of its log are. The marks are those of given formulas,
-/// and the order takes all lines.
+/// A derivation that a check verifies without a search is good, where the texts leave room for each line, and its claim
+/// is justified by what its lines cite. So of the derivations that need no search a check verifies exactly these.
+pub fn a_verified_case_is_good()
+    ensures { (asked : spec.Asked) (t : Statements) (d : Derivation) (w : Vocabulary) (report log : List ℕ)
+        → length asked.marks ≤ length t.formulas → HaveRoom w (spec.lines_over t d asked.limit)
+        → (c : Checks asked t d w true report log) → AreUnsearched c.answers → IsGoodCase asked t d w }
+{}
+
+/// A check that makes no search has one verdict and one report, whatever the entries of its log are. The marks are those
+/// of given formulas, and the order takes all lines.
 pub fn a_check_has_one_report()
     ensures { (asked : spec.Asked) (t : Statements) (d : Derivation) (w : Vocabulary) (verified other : Bool)
         (report log again more : List ℕ)
         → length asked.marks ≤ length t.formulas → first_left (is_taken d.graph.order) 0 d.graph.nodes ≡ None
-        → Checks asked t d w verified report log → Checks asked t d w other again more
+        → (c : Checks asked t d w verified report log) → Checks asked t d w other again more → AreUnsearched c.answers
         → (verified ≡ other) × (report ≡ again) }
 {}

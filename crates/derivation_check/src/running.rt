@@ -8,10 +8,10 @@ ghost use Rattle.kernel.specs.Entries.{Admits};
 ghost use Rattle.tstp_graph.specs.Graphs.{IsOrdered};
 ghost use Rattle.proof_log.specs.Entries.{HaveNumbersInRange, log_text};
 ghost use Rattle.verifier.specs.Declarations.{declarations};
-ghost use Rattle.verifier.specs.Faults.{HasCause};
+ghost use Rattle.verifier.specs.Faults.{HasCause, HasRunCause};
 ghost use Rattle.verifier.specs.Logged.{LeadTo};
 ghost use Rattle.derivation_check.specs.Cases.{widened};
-ghost use Rattle.derivation_check.specs.code.Logs.{LogsRuns};
+ghost use Rattle.derivation_check.specs.code.Logs.{LogsRuns, StopsRun};
 ghost use Rattle.derivation_check.specs.Logs.{TakesSomeOfLog};
 
 use derivation_text::Derivation;
@@ -27,6 +27,7 @@ pub fn run_derivation<K: Sink>(
     alloc: Global,
     derivation: &Derivation,
     signature: &Signature,
+    limit: u32,
     theory: &mut Theory,
     log: &mut K,
 ) -> Result<Outcome, RunFault>
@@ -37,16 +38,17 @@ pub fn run_derivation<K: Sink>(
     requires given { All (IsSentence theory.old.vocabulary) theory.old.formulas }
     requires lines { All (IsSentence signature.now) derivation.now.forms }
     ensures ran { IfOk result (λ ran.
-        LogsRuns theory.old derivation.now signature.now ran.answers ran.numbers theory.new (K.taken log.old)
+        LogsRuns limit theory.old derivation.now signature.now ran.answers ran.numbers theory.new (K.taken log.old)
         (K.taken log.new)) }
     ensures leads { LeadTo theory.old theory.new }
     ensures cut { OnErr result (TakesSomeOfLog theory.old (K.taken log.old) (K.taken log.new)) }
-    ensures cause { IfErr result (λ fault. HasCause fault (Rose (K.faults log.old) (K.faults log.new))) }
+    ensures cause { IfErr result (λ fault. HasRunCause fault (Rose (K.faults log.old) (K.faults log.new))
+        (StopsRun limit theory.old derivation.now signature.now (K.taken log.old) (K.taken log.new))) }
     ensures more_faults { K.faults log.old ≤ K.faults log.new }
 {
     begin(alloc, signature, theory, log)?;
     let forms = derivation.forms.as_slice();
-    match run_lines(alloc, forms, &derivation.graph, theory, log) {
+    match run_lines(alloc, forms, &derivation.graph, limit, theory, log) {
         Ok(outcome) => Ok(outcome),
         Err(fault) => Err(fault),
     }

@@ -2,6 +2,7 @@
 use Rattle.std.proofs.Common.{◌≡◌, ◌⊎◌, inl, inr, ℕ, List, Result, Ok, Err, refl, sym, ◌∙◌, ap, subst}
 use Rattle.tptp_base.specs.declared.item.Item.{Item}
 use Rattle.tptp_base.specs.declared.name.Name.{Name}
+use Rattle.tptp_base.specs.declared.place.Place.{Place}
 use Rattle.tptp_lexer.specs.declared.fault.LexFault.{LexFault}
 use Rattle.tptp_lexer.specs.declared.fault.LexFault.TheVariants as lexed
 use Rattle.tptp_lexer.specs.declared.style.Style.TheVariants as style
@@ -28,7 +29,7 @@ use Rattle.tstp_graph.proofs.OneGraph.{one_graph, one_fault, graph_or_fault}
 use Rattle.derivation_text.specs.declared.derivation.Derivation.{Derivation}
 use Rattle.derivation_text.specs.declared.fault.DerivationFault.{DerivationFault}
 use Rattle.derivation_text.specs.declared.fault.DerivationFault.TheVariants as fault
-use Rattle.derivation_text.specs.Derivations.{AreDerivation, IsItemsFault, IsDerivation, IsDerivationFault, denied_forms, names_of}
+use Rattle.derivation_text.specs.Derivations.{AreDerivation, IsItemsFault, IsDerivation, IsDerivationFault, denied_forms, names_of, places_of}
 use Rattle.tptp_grammar.specs.Texts.{IsParsed}
 use Rattle.derivation_text.specs.Texts.{IsRegionLexed, RegionSpells, IsTextFault}
 use Rattle.derivation_text.specs.Wants.{IsWant}
@@ -146,8 +147,8 @@ sorts_same (sorted.Line rule place name) sorted.Memory outcome is also = inr (in
 sorts_same (sorted.Line rule place name) (sorted.Line broken where_ named) outcome is also =
     inr (inr (ap (λ (x : SortFault). fault.Sort x) (same_sort (sorted.Line rule place name) (sorted.Line broken where_ named) (sym is ∙ also))))
 
-abbrev derivation : Graph → List Name → List Form → Derivation
-derivation graph names forms = record { graph = graph; names = names; forms = forms }
+abbrev derivation : Graph → List Name → List Place → List Form → Derivation
+derivation graph names places forms = record { graph = graph; names = names; places = places; forms = forms }
 
 module _ (items : List Item) (given : List Name) (v : Vocabulary) where
   one_of_items : (d e : Derivation) (w x : Vocabulary) → AreDerivation items given v d w → AreDerivation items given v e x → (d ≡ e) × (w ≡ x)
@@ -156,8 +157,12 @@ module _ (items : List Item) (given : List Name) (v : Vocabulary) where
       let means : meaning are.lines w ≡ meaning also.lines x = sym are.denote ∙ also.denote in
       let lines : are.lines ≡ also.lines = ap (lines_or are.lines) means in
       let names : d.names ≡ e.names = are.names ∙ ap names_of lines ∙ sym also.names in
+      let places : d.places ≡ e.places = are.places ∙ ap places_of lines ∙ sym also.places in
       let forms : d.forms ≡ e.forms = are.forms ∙ ap denied_forms lines ∙ sym also.forms in (
-        ap (λ (g : Graph). derivation g d.names d.forms) graphs ∙ ap (λ (ns : List Name). derivation e.graph ns d.forms) names ∙ ap (λ (fs : List Form). derivation e.graph e.names fs) forms,
+        ap (λ (g : Graph). derivation g d.names d.places d.forms) graphs
+            ∙ ap (λ (ns : List Name). derivation e.graph ns d.places d.forms) names
+            ∙ ap (λ (ps : List Place). derivation e.graph e.names ps d.forms) places
+            ∙ ap (λ (fs : List Form). derivation e.graph e.names e.places fs) forms,
         ap (vocabulary_or w) means,
       )
 

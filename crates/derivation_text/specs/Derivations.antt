@@ -5,6 +5,7 @@ use Rattle.tptp_base.specs.declared.item.Item.{Item}
 use Rattle.tptp_base.specs.declared.item.Role.{Role}
 use Rattle.tptp_base.specs.declared.item.Role.TheVariants.{Conjecture}
 use Rattle.tptp_base.specs.declared.name.Name.{Name}
+use Rattle.tptp_base.specs.declared.place.Place.{Place}
 use Rattle.fof_terms.specs.Vocabulary.{Vocabulary}
 use Rattle.fof_terms.specs.declared.form.Form.{Form, Not}
 use Rattle.sort_check.specs.declared.line.Line.{Line}
@@ -31,6 +32,10 @@ denied_forms lines = map denied_form lines
 abbrev pub names_of : List Line → List Name
 names_of lines = map (λ (line : Line). line.name) lines
 
+-- where the lines begin in the text
+abbrev pub places_of : List Line → List Place
+places_of lines = map (λ (line : Line). line.place) lines
+
 -- The items are this derivation from given formulas of these names. They are over a vocabulary, and leave another
 -- behind.
 pub record AreDerivation (items : List Item) (given : List Name) (v : Vocabulary) (d : Derivation) (w : Vocabulary) : Type 0 where
@@ -38,6 +43,7 @@ pub record AreDerivation (items : List Item) (given : List Name) (v : Vocabulary
   pub lines : List Line
   pub denote : denoted items v kind.Derivation ≡ Ok (lines, w)
   pub names : d.names ≡ names_of lines
+  pub places : d.places ≡ places_of lines
   pub forms : d.forms ≡ denied_forms lines
 
 -- Why items are no derivation: the first fault of their graph, or else the first fault against the rules of sorts.

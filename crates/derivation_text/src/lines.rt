@@ -8,7 +8,7 @@ use fof_terms::Form;
 use sort_check::Line;
 use sqlite_items::Boxed;
 use std::alloc::Global;
-use tptp_base::{List, Memory, Name, Role};
+use tptp_base::{List, Memory, Name, Place, Role};
 
 /// The names of lines.
 pub fn names_of(alloc: Global, lines: &[Line]) -> Result<List<Name>, Memory>
@@ -19,6 +19,17 @@ pub fn names_of(alloc: Global, lines: &[Line]) -> Result<List<Name>, Memory>
         names.push(line.name.copy(alloc)?)?;
     }
     Ok(names)
+}
+
+/// The places of lines.
+pub fn places_of(alloc: Global, lines: &[Line]) -> Result<List<Place>, Memory>
+    ensures { IfOk result (λ places. places ≡ spec.places_of lines.now) }
+{
+    let mut places = List::new(alloc);
+    for line in lines {
+        places.push(line.place)?;
+    }
+    Ok(places)
 }
 
 /// What lines stand for.

@@ -3,14 +3,14 @@ ghost use Rattle.std.specs.Prelude.{◌≡◌, ◌<◌, ◌≤◌, ◌^◌, All,
 ghost use Rattle.tptp_base.specs.declared.read.TheConstants.{FILE_SIZE as file_size};
 ghost use Rattle.sort_check.specs.Sorting.{Extends, IsSentence};
 ghost use Rattle.derivation_text.specs.Derivations.{AreDerivation, IsDerivation, IsDerivationFault, IsItemsFault};
-ghost use Rattle.derivation_text.specs.Derivations.{denied_forms as forms_from, names_of as names_from};
+ghost use Rattle.derivation_text.specs.Derivations.{denied_forms as forms_from, names_of as names_from, places_of as places_from};
 ghost use Rattle.tstp_graph.specs.Graphs.{IsGraph};
 ghost use Rattle.sort_check.specs.declared.line.TextKind.TheVariants as kind;
 ghost use Rattle.sort_check.specs.Texts.{denoted};
 
 use crate::derivation::Derivation;
 use crate::fault::DerivationFault;
-use crate::lines::{forms_of, names_of};
+use crate::lines::{forms_of, names_of, places_of};
 use crate::text::items_of;
 use fof_terms::Signature;
 use sort_check::{Line, TextKind, denote};
@@ -22,7 +22,8 @@ use tstp_graph::{Graph, graph};
 /// places that are counted in the whole text. The signature is that of the problem; further sorts and symbols go to its
 /// end.
 ///
-/// The formulas are closed and well-sorted in the signature behind them, and there is one for each node, and one name.
+/// The formulas are closed and well-sorted in the signature behind them, and there is one for each node, one name and one
+/// place.
 ///
 /// # Errors
 ///
@@ -43,6 +44,7 @@ pub fn read_derivation(
     ensures sentences { IfOk result (λ d. All (IsSentence signature.new) d.forms) }
     ensures each_form { IfOk result (λ d. length d.forms ≡ length d.graph.nodes) }
     ensures each_name { IfOk result (λ d. length d.names ≡ length d.graph.nodes) }
+    ensures each_place { IfOk result (λ d. length d.places ≡ length d.graph.nodes) }
 {
     let items = items_of(alloc, text)?;
     match over_items(alloc, items.as_slice(), given, signature) {
@@ -67,6 +69,7 @@ fn over_items(
     ensures sentences { IfOk result (λ d. All (IsSentence signature.new) d.forms) }
     ensures each_form { IfOk result (λ d. length d.forms ≡ length d.graph.nodes) }
     ensures each_name { IfOk result (λ d. length d.names ≡ length d.graph.nodes) }
+    ensures each_place { IfOk result (λ d. length d.places ≡ length d.graph.nodes) }
 {
     match graph(alloc, items, given) {
         Ok(graph) => over_graph(alloc, items, given, graph, signature),
@@ -75,7 +78,7 @@ fn over_items(
 }
 
 // The derivation that items with this graph are.
-#[tactic(auto, using(crate::proofs::Readings::are_derivation, crate::proofs::Readings::each_form, crate::proofs::Readings::each_name, crate::proofs::Readings::are_sentences))]
+#[tactic(auto, using(crate::proofs::Readings::are_derivation, crate::proofs::Readings::each_form, crate::proofs::Readings::each_name, crate::proofs::Readings::each_place, crate::proofs::Readings::are_sentences))]
 fn over_graph(
     alloc: Global,
     items: &[Item],
@@ -91,6 +94,7 @@ fn over_graph(
     ensures sentences { IfOk result (λ d. All (IsSentence signature.new) d.forms) }
     ensures each_form { IfOk result (λ d. length d.forms ≡ length d.graph.nodes) }
     ensures each_name { IfOk result (λ d. length d.names ≡ length d.graph.nodes) }
+    ensures each_place { IfOk result (λ d. length d.places ≡ length d.graph.nodes) }
 {
     match denote(alloc, items, signature, TextKind::Derivation) {
         Ok(lines) => Ok(with_lines(alloc, graph, lines.as_slice())?),
@@ -102,13 +106,16 @@ fn over_graph(
 fn with_lines(alloc: Global, graph: Graph, lines: &[Line]) -> Result<Derivation, Memory>
     ensures graph { IfOk result (λ d. d.graph ≡ graph) }
     ensures names { IfOk result (λ d. d.names ≡ names_from lines.now) }
+    ensures places { IfOk result (λ d. d.places ≡ places_from lines.now) }
     ensures forms { IfOk result (λ d. d.forms ≡ forms_from lines.now) }
 {
     let names = names_of(alloc, lines)?;
+    let places = places_of(alloc, lines)?;
     let forms = forms_of(alloc, lines)?;
     Ok(Derivation {
         graph,
         names,
+        places,
         forms,
     })
 }

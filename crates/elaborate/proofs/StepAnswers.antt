@@ -1,5 +1,5 @@
 -- What answers say, from what is shown.
-use Rattle.std.specs.Prelude.{ℕ, ◌≡◌, ◌<◌, ◌≤◌, Bool, true, false, List, [], ◌∷◌, ◌++◌, length, take, drop, slice_get, get_or, Option, Some, None, MatchOption, if◌then◌else◌, refl}
+use Rattle.std.specs.Prelude.{ℕ, ◌≡◌, ◌<◌, ◌≤◌, Bool, true, false, List, [], ◌∷◌, ◌++◌, length, take, drop, slice_get, get_or, Option, Some, None, MatchOption, refl}
 use Rattle.std.specs.List.{All as Each, AllByRecursion}
 use Rattle.std.proofs.Common.{ap, sym, subst, ◌∙◌, arith, inl, inr, zero, suc}
 use Rattle.std.proofs.lemmas.List.Elements.{recursion_from_All, All-from_recursion}
@@ -26,20 +26,22 @@ use Rattle.split_defs.specs.SplitSearch.{ShowsSplit}
 use Rattle.split_defs.proofs.SplitSearchFacts.{split_holds}
 use Rattle.split_defs.specs.declared.just.SplitJust.{SplitJust}
 use Rattle.kernel.specs.declared.entry.Entry.{Entry}
-use Rattle.elaborate.specs.declared.answer.Rule.TheVariants.{Split, Skolem, Definition, Choice, Norm, Cover}
+use Rattle.elaborate.specs.declared.answer.Rule.TheVariants.{Norm, Cover}
 use Rattle.elaborate.specs.declared.answer.Reason.{Reason}
-use Rattle.elaborate.specs.declared.answer.Reason.TheVariants.{NotYet, Leaf}
+use Rattle.elaborate.specs.declared.answer.Reason.TheVariants.{Leaf}
+use Rattle.elaborate.specs.declared.answer.StepAnswer.{StepAnswer}
 use Rattle.elaborate.specs.declared.answer.StepAnswer.TheVariants.{Accepted, Unverified}
 use Rattle.clause_rules.specs.Steps.{AreReady, IsReady}
 use Rattle.elaborate.specs.declared.leaves.FromOne.{FromOne}
+use Rattle.elaborate.specs.declared.steps.Derived.{Derived}
 use Rattle.elaborate.specs.declared.steps.Found.{Found}
-use Rattle.elaborate.specs.ByRule.{Applies, IsFirst, IsNone, symbol_rules, GivesFirst, GivesNowhere, LeafRule, ByNoLeafRule, shape_rules}
+use Rattle.elaborate.specs.ByRule.{ByNone, IsFirst, IsNone, symbol_rules, GivesFirst, GivesNowhere, LeafRule, ByNoLeafRule, shape_rules}
 use Rattle.derive_kit.specs.Derived.{AreOfTheory, IsDerivedFrom, numbers_of}
 use Rattle.derive_kit.proofs.DerivedFacts.{derived_by_lemma}
-use Rattle.elaborate.specs.Answers.{IsStepAnswer, IsLeafAnswer}
+use Rattle.elaborate.specs.Answers.{IsSearchAnswer, IsStepAnswer, IsLeafAnswer}
 use Rattle.clause_proofs.specs.Shown.{ShowsLine}
 use Rattle.rule_proofs.specs.ByRule.{IsByRule}
-use Rattle.elaborate.specs.code.Proofs.{IsFound, CoversAlone, CoversNowhere, IsCoverAlone, IsFromFirst, IsFirstCover}
+use Rattle.elaborate.specs.code.Proofs.{IsByEntries, IsDerived, IsFound, CoversAlone, CoversNowhere, IsCoverAlone, IsFromFirst, IsFirstCover, IsLeftLeaf}
 use Rattle.clause_proofs.specs.Refuting.{theory_of}
 use Rattle.rule_proofs.proofs.NormLines.{norm_there}
 use Rattle.clause_proofs.proofs.ReadyParents.{of_theory, parent_at, parent_ready}
@@ -91,12 +93,6 @@ derived_weaker t cites entries line d = record {
   adds = λ u h. d.adds u (record { vocabulary = h.vocabulary; count = h.count; formulas = All-from_recursion (λ (n : ℕ). slice_get u.formulas n ≡ slice_get t.formulas n) [] tt; fresh = h.fresh });
 }
 
-pub step_accepted : (t : Statements) (parents : List Parent) (line : Form) (o : Option Found) (found : Found) → AreOfTheory t parents → o ≡ Some found → IsFound t parents line o
-    → IsStepAnswer t parents line (Accepted found.rule (numbers_of parents) (Lemma found.proof ∷ []))
-step_accepted t parents line o found all is f =
-    let here : IsFound t parents line (Some found) = subst (IsFound t parents line) is f in
-    (first_before t parents line shape_rules symbol_rules found.rule here.0, refl, derived t parents line found.proof all here.1)
-
 -- where no definition is found, the line is none
 pub no_definition : (t : Statements) (line : Form) (o : Option SplitJust) → o ≡ None → IsFoundDefinition (Defines t line) o → IsDefinitionStep t line → ⊥
 no_definition t line o is found d = subst (IsFoundDefinition (Defines t line)) is found d.0 d.1 d.2
@@ -113,31 +109,40 @@ pub skolem_found : (t : Statements) (parents : List Parent) (line : Form) (o : O
 skolem_found t parents line o just is m =
     skolem_shown t (forms_of parents) line just (subst (λ (x : Option SkolemJust). MatchOption x (IsSkolemStep t (forms_of parents) line → ⊥) (ShowsSkolem t (forms_of parents) line)) is m)
 
--- what no rule by shape gives
-module _ (t : Statements) (parents : List Parent) (line : Form) (none : IsNone shape_rules t parents line) where
-  abbrev NotBy : Rule → Type 0
-  NotBy rule = Applies t parents line rule → ⊥
+-- entries by one rule
+module _ (t : Statements) (cites : List ℕ) (line : Form) (holds : Type 0) (o : Option (List Entry)) where
+  pub by_some : (entries : List Entry) → o ≡ Some entries → IsByEntries t cites line holds o → holds × IsDerivedFrom t cites entries line
+  by_some entries is h = subst (IsByEntries t cites line holds) is h
 
-  abbrev Derives : List Entry → Type 0
-  Derives entries = IsDerivedFrom t (numbers_of parents) entries line
+  pub by_none : o ≡ None → IsByEntries t cites line holds o → holds → ⊥
+  by_none is h = subst (IsByEntries t cites line holds) is h
 
-  answered : (rule : Rule) (entries : List Entry) → IsFirst symbol_rules t parents line rule → Derives entries → IsStepAnswer t parents line (Accepted rule (numbers_of parents) entries)
-  answered rule entries first derives = (first_behind t parents line shape_rules symbol_rules rule none first, refl, derives)
+-- the answer to a step, by what is found
+module _ (t : Statements) (parents : List Parent) (line : Form) where
+  pub derived_is : (r : Option Derived) (rule : Rule) (entries : List Entry) → r ≡ Some (record { rule = rule; entries = entries }) → IsFirst symbol_rules t parents line rule → IsDerivedFrom t (numbers_of parents) entries line → IsDerived t parents line r
+  derived_is r rule entries is first derives = subst (IsDerived t parents line) (sym is) (first, derives)
 
-  pub step_split : (entries : List Entry) → Applies t parents line Split → Derives entries → IsStepAnswer t parents line (Accepted Split (numbers_of parents) entries)
-  step_split entries holds derives = answered Split entries (inl (refl, holds)) derives
+  module _ (limit : ℕ) (found : Option Found) (f : IsFound t parents line found) where
+    pub step_accepted : (x : Found) → AreOfTheory t parents → found ≡ Some x → IsStepAnswer t parents line limit (Accepted x.rule (numbers_of parents) (Lemma x.proof ∷ []))
+    step_accepted x all is =
+        let here : IsFound t parents line (Some x) = subst (IsFound t parents line) is f in
+        inl (first_before t parents line shape_rules symbol_rules x.rule here.0, refl, derived t parents line x.proof all here.1)
 
-  pub step_skolem : (entries : List Entry) → NotBy Split → Applies t parents line Skolem → Derives entries → IsStepAnswer t parents line (Accepted Skolem (numbers_of parents) entries)
-  step_skolem entries whole holds derives = answered Skolem entries (inr (whole, inl (refl, holds))) derives
+    none_shapes : found ≡ None → IsNone shape_rules t parents line
+    none_shapes none = subst (IsFound t parents line) none f
 
-  pub step_defined : (entries : List Entry) → NotBy Split → NotBy Skolem → Applies t parents line Definition → IsDerivedFrom t [] entries line → IsStepAnswer t parents line (Accepted Definition (numbers_of parents) entries)
-  step_defined entries whole unskolemized holds derives = answered Definition entries (inr (whole, inr (unskolemized, inl (refl, holds)))) (derived_weaker t (numbers_of parents) entries line derives)
+    module _ (none : found ≡ None) (o : Option Derived) (d : IsDerived t parents line o) where
+      pub step_derived : (x : Derived) → o ≡ Some x → IsStepAnswer t parents line limit (Accepted x.rule (numbers_of parents) x.entries)
+      step_derived x is =
+          let here : IsDerived t parents line (Some x) = subst (IsDerived t parents line) is d in
+          inl (first_behind t parents line shape_rules symbol_rules x.rule (none_shapes none) here.0, refl, here.1)
 
-  pub step_chosen : (entries : List Entry) → NotBy Split → NotBy Skolem → NotBy Definition → Applies t parents line Choice → IsDerivedFrom t [] entries line → IsStepAnswer t parents line (Accepted Choice (numbers_of parents) entries)
-  step_chosen entries whole unskolemized undefined holds derives = answered Choice entries (inr (whole, inr (unskolemized, inr (undefined, inl (refl, holds))))) (derived_weaker t (numbers_of parents) entries line derives)
+      no_rule : o ≡ None → ByNone t parents line
+      no_rule is = none_of_both t parents line shape_rules symbol_rules (none_shapes none) (subst (IsDerived t parents line) is d)
 
-  pub step_unverified : NotBy Split → NotBy Skolem → NotBy Definition → NotBy Choice → IsStepAnswer t parents line (Unverified NotYet)
-  step_unverified whole unskolemized undefined unchosen = none_of_both t parents line shape_rules symbol_rules none (whole, (unskolemized, (undefined, (unchosen, tt))))
+      pub step_searched : o ≡ None → (answer : StepAnswer) → IsSearchAnswer t parents line limit answer → IsStepAnswer t parents line limit answer
+      step_searched is (Accepted rule cites entries) h = inr (no_rule is, h)
+      step_searched is (Unverified reason) h = (no_rule is, h)
 
 -- of one candidate alone
 alone_is : (c p : Parent) → Some c ≡ Some p → c ≡ p
@@ -174,17 +179,18 @@ module _ (v : Statements) (candidates : List Parent) (line : Form) where
   pub cover_rule : (i : ℕ) → (IsNormStep candidates line → ⊥) → GivesFirst v candidates line Cover i → LeafRule v candidates line Cover i
   cover_rule i none first = inr (norm_nowhere none, inl (refl, first))
 
-pub leaf_accepted : (t : Statements) (candidates : List Parent) (cited : Bool) (line : Form) (i : ℕ) (c : Parent) (p : Proof) → AreOfTheory t candidates → c ≡ get_or candidates i c → IsFirstNorm candidates line i
+pub leaf_accepted : (t : Statements) (candidates : List Parent) (cited : Bool) (line : Form) (limit i : ℕ) (c : Parent) (p : Proof) → AreOfTheory t candidates → c ≡ get_or candidates i c → IsFirstNorm candidates line i
     → ((formulas : List Form) → slice_get formulas c.number ≡ Some c.form → Proves (theory_of t.vocabulary formulas) [] [] p line)
-    → (slice_get candidates i ≡ Some c) → slice_get t.formulas c.number ≡ Some c.form → IsLeafAnswer t candidates cited line (Accepted Norm (c.number ∷ []) (Lemma p ∷ []))
-leaf_accepted t candidates cited line i c p all is first shows at known = (
-  i,
-  c,
-  at,
-  leaf_rule t candidates line i c at first,
-  refl,
-  derived t (c ∷ []) line p (All-from_recursion (λ (q : Parent). slice_get t.formulas q.number ≡ Some q.form) (c ∷ []) (known, tt)) (λ formulas one. shows formulas (recursion_from_All (λ (q : Parent). slice_get formulas q.number ≡ Some q.form) (c ∷ []) one).0),
-)
+    → (slice_get candidates i ≡ Some c) → slice_get t.formulas c.number ≡ Some c.form → IsLeafAnswer t candidates cited line limit (Accepted Norm (c.number ∷ []) (Lemma p ∷ []))
+leaf_accepted t candidates cited line limit i c p all is first shows at known =
+    inl (
+      i,
+      c,
+      at,
+      leaf_rule t candidates line i c at first,
+      refl,
+      derived t (c ∷ []) line p (All-from_recursion (λ (q : Parent). slice_get t.formulas q.number ≡ Some q.form) (c ∷ []) (known, tt)) (λ formulas one. shows formulas (recursion_from_All (λ (q : Parent). slice_get formulas q.number ≡ Some q.form) (c ∷ []) one).0),
+    )
 
 module _ (t : Statements) (w : Vocabulary) (e : w ≡ t.vocabulary) (parents : List Parent) (line : Form) where
   pub none_of : (rule : Word) (o : Option Proof) → o ≡ None → IsByRule w parents line rule o → Gives t.vocabulary parents line rule → ⊥
@@ -196,30 +202,40 @@ module _ (t : Statements) (w : Vocabulary) (e : w ≡ t.vocabulary) (parents : L
   pub found_is : (r : Option Found) (rule : Rule) (p : Proof) → r ≡ Some (record { rule = rule; proof = p }) → IsFirst shape_rules t parents line rule → ShowsLine t.vocabulary parents line p → IsFound t parents line r
   found_is r rule p is by shows = subst (IsFound t parents line) (sym is) (by, shows)
 
-pub leaf_found : (t : Statements) (w : Vocabulary) (candidates : List Parent) (cited : Bool) (line : Form) (o : Option ℕ) (i : ℕ) (c : Parent) (p : Proof) → AreOfTheory t candidates → w ≡ t.vocabulary → c ≡ get_or candidates i c → o ≡ Some i
+pub leaf_found : (t : Statements) (w : Vocabulary) (candidates : List Parent) (cited : Bool) (line : Form) (limit : ℕ) (o : Option ℕ) (i : ℕ) (c : Parent) (p : Proof) → AreOfTheory t candidates → w ≡ t.vocabulary → c ≡ get_or candidates i c → o ≡ Some i
     → MatchOption o (IsNormStep candidates line → ⊥) (IsFirstNorm candidates line)
-    → ((formulas : List Form) → slice_get formulas c.number ≡ Some c.form → Proves (theory_of w formulas) [] [] p line) → IsLeafAnswer t candidates cited line (Accepted Norm (c.number ∷ []) (Lemma p ∷ []))
-leaf_found t w candidates cited line o i c p all e is so m shows =
+    → ((formulas : List Form) → slice_get formulas c.number ≡ Some c.form → Proves (theory_of w formulas) [] [] p line) → IsLeafAnswer t candidates cited line limit (Accepted Norm (c.number ∷ []) (Lemma p ∷ []))
+leaf_found t w candidates cited line limit o i c p all e is so m shows =
     let first : IsFirstNorm candidates line i = subst (λ (x : Option ℕ). MatchOption x (IsNormStep candidates line → ⊥) (IsFirstNorm candidates line)) so m in
     let at = norm_there candidates line i c first.0 is in
-    leaf_accepted t candidates cited line i c p all is first (λ formulas there. subst (λ (x : Vocabulary). Proves (theory_of x formulas) [] [] p line) e (shows formulas there)) at (of_theory t candidates i c all at)
+    leaf_accepted t candidates cited line limit i c p all is first (λ formulas there. subst (λ (x : Vocabulary). Proves (theory_of x formulas) [] [] p line) e (shows formulas there)) at (of_theory t candidates i c all at)
 
-leaf_reason : (t : Statements) (candidates : List Parent) (cited : Bool) (line : Form) → ByNoLeafRule t candidates line → IsLeafAnswer t candidates cited line (Unverified (if cited then NotYet else Leaf))
-leaf_reason t candidates true line none = (none, refl)
-leaf_reason t candidates false line none = (none, refl)
+-- a leaf that no rule gives
+accepted_is_not : {X : Type 0} {rule : Rule} {cites : List ℕ} {entries : List Entry} {reason : Reason} → Accepted rule cites entries ≡ Unverified reason → X
+accepted_is_not e = cc
 
-pub leaf_unverified : (t : Statements) (w : Vocabulary) (candidates : List Parent) (cited : Bool) (line : Form) (o : Option FromOne) (r : Reason) → w ≡ t.vocabulary → o ≡ None → r ≡ (if cited then NotYet else Leaf) → (IsNormStep candidates line → ⊥)
-    → IsFirstCover w candidates line o → IsLeafAnswer t candidates cited line (Unverified r)
-leaf_unverified t w candidates cited line o r e so is none m =
+same_reason : (r s : Reason) → Unverified r ≡ Unverified s → r ≡ s
+same_reason r s e = cc
+
+left_leaf : (t : Statements) (candidates : List Parent) (cited : Bool) (line : Form) (limit : ℕ) (answer : StepAnswer) → ByNoLeafRule t candidates line → IsLeftLeaf t candidates cited line limit answer → IsLeafAnswer t candidates cited line limit answer
+left_leaf t candidates cited line limit (Accepted rule cites entries) none (inl h) = inr (none, h.0, h.1)
+left_leaf t candidates cited line limit (Accepted rule cites entries) none (inr h) = accepted_is_not h.1
+left_leaf t candidates cited line limit (Unverified reason) none (inl h) = (none, inr h)
+left_leaf t candidates cited line limit (Unverified reason) none (inr h) = (none, inl (h.0, same_reason reason Leaf h.1))
+
+pub leaf_left : (t : Statements) (w : Vocabulary) (candidates : List Parent) (cited : Bool) (line : Form) (limit : ℕ) (o : Option FromOne) → w ≡ t.vocabulary → o ≡ None → (IsNormStep candidates line → ⊥) → IsFirstCover w candidates line o → (answer : StepAnswer)
+    → IsLeftLeaf t candidates cited line limit answer → IsLeafAnswer t candidates cited line limit answer
+leaf_left t w candidates cited line limit o e so none m answer h =
     let nowhere : CoversNowhere t.vocabulary candidates line = subst (λ (x : Vocabulary). CoversNowhere x candidates line) e (subst (IsFirstCover w candidates line) so m) in
-    subst (λ (x : Reason). IsLeafAnswer t candidates cited line (Unverified x)) (sym is) (leaf_reason t candidates cited line (no_leaf_rule t candidates line none nowhere))
+    left_leaf t candidates cited line limit answer (no_leaf_rule t candidates line none nowhere) h
 
-pub leaf_covered : (t : Statements) (w : Vocabulary) (candidates : List Parent) (cited : Bool) (line : Form) (o : Option FromOne) (from : FromOne) → w ≡ t.vocabulary → AreOfTheory t candidates → o ≡ Some from → (IsNormStep candidates line → ⊥)
-    → IsFirstCover w candidates line o → IsLeafAnswer t candidates cited line (Accepted Cover (from.number ∷ []) (Lemma from.proof ∷ []))
-leaf_covered t w candidates cited line o from e all so none m =
+pub leaf_covered : (t : Statements) (w : Vocabulary) (candidates : List Parent) (cited : Bool) (line : Form) (limit : ℕ) (o : Option FromOne) (from : FromOne) → w ≡ t.vocabulary → AreOfTheory t candidates → o ≡ Some from → (IsNormStep candidates line → ⊥)
+    → IsFirstCover w candidates line o → IsLeafAnswer t candidates cited line limit (Accepted Cover (from.number ∷ []) (Lemma from.proof ∷ []))
+leaf_covered t w candidates cited line limit o from e all so none m =
     let f : IsFromFirst t.vocabulary candidates line from = subst (λ (x : Vocabulary). IsFromFirst x candidates line from) e (subst (IsFirstCover w candidates line) so m) in
     let known = of_theory t candidates f.place f.candidate all f.there in
-    let own = derived t (f.candidate ∷ []) line from.proof (All-from_recursion (λ (q : Parent). slice_get t.formulas q.number ≡ Some q.form) (f.candidate ∷ []) (known, tt)) f.shows in (
+    let own = derived t (f.candidate ∷ []) line from.proof (All-from_recursion (λ (q : Parent). slice_get t.formulas q.number ≡ Some q.form) (f.candidate ∷ []) (known, tt)) f.shows in
+    inl (
       f.place,
       f.candidate,
       f.there,

@@ -12,10 +12,10 @@ use Rattle.split_defs.specs.SplitRule.{IsSplitStep}
 use Rattle.clause_form.specs.Paths.{forms_of}
 use Rattle.elaborate.specs.declared.answer.Rule.{Rule}
 use Rattle.elaborate.specs.declared.answer.Rule.TheVariants.{Norm, Cover, Tautology, Resolution, Paramodulation}
-use Rattle.elaborate.specs.declared.answer.Rule.TheVariants.{EqFactor, Rewrite, Split, Skolem, Definition, Choice}
+use Rattle.elaborate.specs.declared.answer.Rule.TheVariants.{EqFactor, Rewrite, Split, Skolem, Definition, Choice, Search}
 
--- with the symbols of the theory, and its formulas as those in which a new symbol occurs nowhere, the rule gives the
--- line from some of the parents
+-- With the symbols of the theory, and its formulas as those in which a new symbol occurs nowhere, the rule gives the
+-- line from some of the parents. A search is no rule of this kind.
 abbrev pub Applies : Statements → List Parent → Form → Rule → Type 0
 Applies t parents line Norm = Gives t.vocabulary parents line norm
 Applies t parents line Cover = Gives t.vocabulary parents line cover
@@ -28,6 +28,7 @@ Applies t parents line Split = IsSplitStep t.vocabulary (forms_of parents) line
 Applies t parents line Skolem = IsSkolemStep t (forms_of parents) line
 Applies t parents line Definition = IsDefinitionStep t line
 Applies t parents line Choice = IsChoiceStep t line
+Applies t parents line Search = ⊥
 
 -- the rules that are recognised by shape, in the order in which they are tried
 abbrev pub shape_rules : List Rule
@@ -37,7 +38,7 @@ shape_rules = Norm ∷ Cover ∷ Tautology ∷ Resolution ∷ Paramodulation ∷
 abbrev pub symbol_rules : List Rule
 symbol_rules = Split ∷ Skolem ∷ Definition ∷ Choice ∷ []
 
--- the rules of steps that are built, in the order in which they are tried
+-- the rules of steps, in the order in which they are tried
 abbrev pub rules : List Rule
 rules = shape_rules ++ symbol_rules
 

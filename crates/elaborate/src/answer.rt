@@ -29,13 +29,21 @@ pub enum Rule {
     Definition,
     /// `choice`: the line says that new functions choose values, where there are any.
     Choice,
+    /// `search`: no other rule gives the line, and a search refutes the clauses of its parents and of its negation.
+    Search,
 }
 
 /// Why a line isn't verified.
 #[derive(Clone, Copy, PartialEq, Eq)]
 pub enum Reason {
-    /// `not-yet`: no rule that is built gives it.
-    NotYet,
+    /// `dry`: the search made all clauses that are to be made, and none is empty.
+    Dry,
+    /// `full`: the search had as many clauses as its limit allows, and more to make.
+    Full,
+    /// `heavy`: what the search had left to make was too heavy.
+    Heavy,
+    /// `wide`: the step is too large for a search.
+    Wide,
     /// `leaf`: a leaf that names no formula of the problem, and that no rule for leaves gives.
     Leaf,
 }
@@ -43,13 +51,13 @@ pub enum Reason {
 /// The answer to one line of a derivation.
 #[derive(Drop)]
 pub enum StepAnswer {
-    /// The first rule that gives the line, the numbers of the formulas of the theory that the line cites, and the
-    /// entries that derive it, the last of which adds it.
+    /// The first rule that gives the line or, where none does, the search; the numbers of the formulas of the theory
+    /// that the line cites; and the entries that derive it, the last of which adds it.
     Accepted {
         rule: Rule,
         cites: List<u64>,
         entries: List<Entry>,
     },
-    /// No rule gives the line.
+    /// No rule gives the line, and no search refutes its clauses.
     Unverified(Reason),
 }

@@ -1,14 +1,17 @@
-ghost use Rattle.std.specs.Prelude.{◌≡◌, ◌<◌, [], ◌∷◌, length, if◌then◌else◌, IfOk};
+ghost use Rattle.std.specs.Prelude.{◌≡◌, ◌<◌, [], ◌∷◌, length, IfOk};
 ghost use Rattle.kernel.specs.declared.entry.Entry.TheVariants.{Lemma};
-ghost use Rattle.elaborate.specs.declared.answer.Reason.TheVariants.{NotYet, Leaf as Unnamed};
 ghost use Rattle.elaborate.specs.declared.answer.StepAnswer.TheVariants.{Accepted};
+ghost use Rattle.clause_form.specs.Paths.{forms_of};
 ghost use Rattle.clause_rules.specs.NormRule.{IsNormStep};
 ghost use Rattle.clause_rules.specs.Steps.{AreReady, IsReady};
 ghost use Rattle.derive_kit.specs.Derived.{AreOfTheory};
 ghost use Rattle.elaborate.specs.Answers.{IsLeafAnswer};
-ghost use Rattle.elaborate.specs.code.Proofs.{IsCoverAlone, IsFirstCover};
+ghost use Rattle.kernel.specs.Statements.{AreClosed};
+ghost use Rattle.elaborate.specs.code.Proofs.{IsCoverAlone, IsFirstCover, IsLeftLeaf};
+ghost use Rattle.step_clauses.specs.Room.{HasRoom};
 
 use crate::answer::{Reason, Rule, StepAnswer};
+use crate::searching::by_search;
 use crate::steps::lemma;
 use clause_form::Parent;
 use derive_kit::Part;
@@ -20,22 +23,25 @@ use std::alloc::Global;
 use tptp_base::{List, Memory};
 
 /// The first rule for leaves by which the line follows from one of the candidates, with entries that derive it from the
-/// first such candidate, which the line cites. Where there is none, `NotYet` if the line names a given formula, and
-/// `Leaf` if it doesn't.
+/// first such candidate, which the line cites. Where there is none, a line that names given formulas is searched for as
+/// a step from all candidates, among at most `limit` clauses, and any other is left with the reason `Leaf`.
 ///
 /// A leaf is a line that is taken from the problem. Its candidates are the given formulas of the name that it cites,
-/// or all of them where it cites none.
+/// or all of them where it cites none. There must be room for the functions of a search.
 pub fn leaf(
     alloc: Global,
     theory: &Theory,
     candidates: &[Parent],
     cited: bool,
     line: &Form,
+    limit: u32,
 ) -> Result<StepAnswer, Memory>
     requires candidates { AreOfTheory theory.now candidates.now }
     requires ready { AreReady theory.now.vocabulary candidates.now }
     requires line { IsReady theory.now.vocabulary line.now }
-    ensures { IfOk result (IsLeafAnswer theory.now candidates.now cited line.now) }
+    requires closed { AreClosed theory.now }
+    requires room { HasRoom (length theory.now.vocabulary.symbols) (forms_of candidates.now) line.now }
+    ensures { IfOk result (IsLeafAnswer theory.now candidates.now cited line.now limit) }
 {
     match first_norm(alloc, candidates, line)? {
         Some(at) => {
@@ -43,7 +49,7 @@ pub fn leaf(
             let proof = normed(alloc, theory.signature(), candidate, line)?;
             accepted(alloc, Rule::Norm, candidate.number, proof)
         }
-        None => covered_leaf(alloc, theory, candidates, cited, line),
+        None => covered_leaf(alloc, theory, candidates, cited, line, limit),
     }
 }
 
@@ -54,19 +60,22 @@ fn covered_leaf(
     candidates: &[Parent],
     cited: bool,
     line: &Form,
+    limit: u32,
 ) -> Result<StepAnswer, Memory>
     requires candidates { AreOfTheory theory.now candidates.now }
     requires ready { AreReady theory.now.vocabulary candidates.now }
     requires line { IsReady theory.now.vocabulary line.now }
+    requires closed { AreClosed theory.now }
+    requires room { HasRoom (length theory.now.vocabulary.symbols) (forms_of candidates.now) line.now }
     requires no_norm { IsNormStep candidates.now line.now → ⊥ }
-    ensures { IfOk result (IsLeafAnswer theory.now candidates.now cited line.now) }
+    ensures { IfOk result (IsLeafAnswer theory.now candidates.now cited line.now limit) }
 {
     match first_cover(alloc, theory.signature(), candidates, line)? {
         Some(found) => {
             let FromOne { number, proof } = found;
             accepted(alloc, Rule::Cover, number, proof)
         }
-        None => Ok(StepAnswer::Unverified(reason(cited))),
+        None => by_no_rule(alloc, theory, candidates, cited, line, limit),
     }
 }
 
@@ -113,11 +122,26 @@ fn cover_alone(
     by_cover(alloc, signature, &candidates[at..at + 1], line)
 }
 
-// Why a leaf that no rule gives isn't verified.
-fn reason(cited: bool) -> Reason
-    ensures { result ≡ (if cited then NotYet else Unnamed) }
+// The answer to a leaf that no rule gives: by a search, where it names given formulas.
+fn by_no_rule(
+    alloc: Global,
+    theory: &Theory,
+    candidates: &[Parent],
+    cited: bool,
+    line: &Form,
+    limit: u32,
+) -> Result<StepAnswer, Memory>
+    requires candidates { AreOfTheory theory.now candidates.now }
+    requires ready { AreReady theory.now.vocabulary candidates.now }
+    requires line { IsReady theory.now.vocabulary line.now }
+    requires closed { AreClosed theory.now }
+    requires room { HasRoom (length theory.now.vocabulary.symbols) (forms_of candidates.now) line.now }
+    ensures { IfOk result (IsLeftLeaf theory.now candidates.now cited line.now limit) }
 {
-    if cited { Reason::NotYet } else { Reason::Leaf }
+    if cited {
+        return by_search(alloc, theory, candidates, line, limit);
+    }
+    Ok(StepAnswer::Unverified(Reason::Leaf))
 }
 
 // The answer that the leaf is accepted by the rule, with the lemma of the proof as its only entry.

@@ -1,10 +1,11 @@
-//! From a step of a derivation to entries of the kernel: the first rule by which the line follows from its parents, and
-//! entries that derive the line from them.
+//! From a step of a derivation to entries of the kernel: the first rule by which the line follows from its parents, or
+//! else a search, and entries that derive the line from them.
 #![tactic(auto)]
 
 mod answer;
 mod leaves;
 mod naming;
+mod searching;
 mod steps;
 
 pub use answer::{Reason, Rule, StepAnswer};

@@ -1,15 +1,17 @@
-ghost use Rattle.std.specs.Prelude.{◌≡◌, [], ◌∷◌, Some, IfOk};
+ghost use Rattle.std.specs.Prelude.{◌≡◌, ◌∷◌, [], Some, length, IfOk};
 ghost use Rattle.kernel.specs.declared.entry.Entry.TheVariants.{Lemma};
 ghost use Rattle.elaborate.specs.declared.answer.StepAnswer.TheVariants.{Accepted};
+ghost use Rattle.clause_form.specs.Paths.{forms_of};
 ghost use Rattle.clause_rules.specs.Steps.{AreReady, IsReady};
 ghost use Rattle.derive_kit.specs.Derived.{AreOfTheory, numbers_of};
 ghost use Rattle.elaborate.specs.Answers.{IsStepAnswer};
-ghost use Rattle.elaborate.specs.ByRule.{Applies, IsNone, shape_rules};
-ghost use Rattle.elaborate.specs.declared.answer.Rule.TheVariants.{Definition, Skolem, Split};
-ghost use Rattle.elaborate.specs.code.Proofs.{IsFound};
+ghost use Rattle.kernel.specs.Statements.{AreClosed};
+ghost use Rattle.elaborate.specs.code.Proofs.{IsDerived, IsFound};
+ghost use Rattle.step_clauses.specs.Room.{HasRoom};
 
-use crate::answer::{Reason, Rule, StepAnswer};
+use crate::answer::{Rule, StepAnswer};
 use crate::naming::{chosen, defined, skolemized, split};
+use crate::searching::{by_search, numbers};
 use clause_form::Parent;
 use derive_kit::Part;
 use fof_terms::Form;
@@ -20,137 +22,33 @@ use rule_proofs::{
 use std::alloc::Global;
 use tptp_base::{List, Memory};
 
-/// The first rule by which the line follows from some of the parents, with entries that derive it: they are legal in
-/// turn after the theory, and the last adds the line. They need no formula of the theory but the parents, which the
-/// line cites. `NotYet` exactly where no rule gives the line.
+/// The first rule by which the line follows from some of the parents or, where there is none, a search for a refutation
+/// of the clauses of all the parents and of its negation, with entries that derive the line: they are legal in turn after
+/// the theory, and the last adds the line. They need no formula of the theory but the parents, which the line cites.
+/// Where no rule gives the line and the search finds none, the reason says how it ended.
+///
+/// The search makes at most `limit` clauses. There must be room for its functions.
 pub fn step(
     alloc: Global,
     theory: &Theory,
     parents: &[Parent],
     line: &Form,
+    limit: u32,
 ) -> Result<StepAnswer, Memory>
     requires parents { AreOfTheory theory.now parents.now }
     requires ready { AreReady theory.now.vocabulary parents.now }
     requires line { IsReady theory.now.vocabulary line.now }
-    ensures { IfOk result (IsStepAnswer theory.now parents.now line.now) }
+    requires closed { AreClosed theory.now }
+    requires room { HasRoom (length theory.now.vocabulary.symbols) (forms_of parents.now) line.now }
+    ensures { IfOk result (IsStepAnswer theory.now parents.now line.now limit) }
 {
-    match first_proof(alloc, theory, parents, line)? {
-        Some(found) => accepted(alloc, parents, found),
-        None => by_symbols(alloc, theory, parents, line),
+    if let Some(found) = first_proof(alloc, theory, parents, line)? {
+        return accepted(alloc, parents, found);
     }
-}
-
-// The answer to a line that no rule by shape gives: whether it has names for parts of a parent, or brings in symbols.
-fn by_symbols(
-    alloc: Global,
-    theory: &Theory,
-    parents: &[Parent],
-    line: &Form,
-) -> Result<StepAnswer, Memory>
-    requires parents { AreOfTheory theory.now parents.now }
-    requires ready { AreReady theory.now.vocabulary parents.now }
-    requires line { IsReady theory.now.vocabulary line.now }
-    requires no_shape { IsNone shape_rules theory.now parents.now line.now }
-    ensures { IfOk result (IsStepAnswer theory.now parents.now line.now) }
-{
-    match split(alloc, theory, parents, line)? {
-        Some(entries) => {
-            let cites = numbers(alloc, parents)?;
-            Ok(by_entries(Rule::Split, cites, entries))
-        }
-        None => by_functions(alloc, theory, parents, line),
+    if let Some(derived) = first_entries(alloc, theory, parents, line)? {
+        return by_entries(alloc, parents, derived);
     }
-}
-
-// The answer to a line that has no names for parts: whether it puts functions in place of a parent's existential
-// variables.
-fn by_functions(
-    alloc: Global,
-    theory: &Theory,
-    parents: &[Parent],
-    line: &Form,
-) -> Result<StepAnswer, Memory>
-    requires parents { AreOfTheory theory.now parents.now }
-    requires ready { AreReady theory.now.vocabulary parents.now }
-    requires line { IsReady theory.now.vocabulary line.now }
-    requires no_shape { IsNone shape_rules theory.now parents.now line.now }
-    requires whole { Applies theory.now parents.now line.now Split → ⊥ }
-    ensures { IfOk result (IsStepAnswer theory.now parents.now line.now) }
-{
-    match skolemized(alloc, theory, parents, line)? {
-        Some(entries) => {
-            let cites = numbers(alloc, parents)?;
-            Ok(by_entries(Rule::Skolem, cites, entries))
-        }
-        None => by_meaning(alloc, theory, parents, line),
-    }
-}
-
-// The answer to a line that is no parent's with functions: whether it says what new symbols mean.
-fn by_meaning(
-    alloc: Global,
-    theory: &Theory,
-    parents: &[Parent],
-    line: &Form,
-) -> Result<StepAnswer, Memory>
-    requires line { IsReady theory.now.vocabulary line.now }
-    requires no_shape { IsNone shape_rules theory.now parents.now line.now }
-    requires whole { Applies theory.now parents.now line.now Split → ⊥ }
-    requires unskolemized { Applies theory.now parents.now line.now Skolem → ⊥ }
-    ensures { IfOk result (IsStepAnswer theory.now parents.now line.now) }
-{
-    match defined(alloc, theory, line)? {
-        Some(entries) => {
-            let cites = numbers(alloc, parents)?;
-            Ok(by_entries(Rule::Definition, cites, entries))
-        }
-        None => by_choice(alloc, theory, parents, line),
-    }
-}
-
-// The answer to a line that defines no symbol: whether it says of functions that they choose.
-fn by_choice(
-    alloc: Global,
-    theory: &Theory,
-    parents: &[Parent],
-    line: &Form,
-) -> Result<StepAnswer, Memory>
-    requires line { IsReady theory.now.vocabulary line.now }
-    requires no_shape { IsNone shape_rules theory.now parents.now line.now }
-    requires whole { Applies theory.now parents.now line.now Split → ⊥ }
-    requires unskolemized { Applies theory.now parents.now line.now Skolem → ⊥ }
-    requires undefined { Applies theory.now parents.now line.now Definition → ⊥ }
-    ensures { IfOk result (IsStepAnswer theory.now parents.now line.now) }
-{
-    match chosen(alloc, theory, line)? {
-        Some(entries) => {
-            let cites = numbers(alloc, parents)?;
-            Ok(by_entries(Rule::Choice, cites, entries))
-        }
-        None => Ok(StepAnswer::Unverified(Reason::NotYet)),
-    }
-}
-
-// The answer that the line is accepted by the rule.
-fn by_entries(rule: Rule, cites: List<u64>, entries: List<Entry>) -> StepAnswer
-    ensures { result ≡ Accepted rule cites entries }
-{
-    StepAnswer::Accepted {
-        rule,
-        cites,
-        entries,
-    }
-}
-
-// The numbers of the parents.
-fn numbers(alloc: Global, parents: &[Parent]) -> Result<List<u64>, Memory>
-    ensures { IfOk result (λ cites. cites ≡ numbers_of parents.now) }
-{
-    let mut cites = List::new(alloc);
-    for parent in parents {
-        cites.push(parent.number)?;
-    }
-    Ok(cites)
+    by_search(alloc, theory, parents, line, limit)
 }
 
 /// A rule that gives a line, and a proof of the line by it.
@@ -203,14 +101,67 @@ fn by_rule(rule: Rule, proof: Part) -> Option<Found>
     Some(Found { rule, proof })
 }
 
+/// A rule that gives a line, and entries that derive the line by it.
+#[derive(Drop)]
+pub struct Derived {
+    pub rule: Rule,
+    pub entries: List<Entry>,
+}
+
+// The first of the rules by names and new symbols that gives the line, with entries; None exactly where there is none.
+fn first_entries(
+    alloc: Global,
+    theory: &Theory,
+    parents: &[Parent],
+    line: &Form,
+) -> Result<Option<Derived>, Memory>
+    requires parents { AreOfTheory theory.now parents.now }
+    requires ready { AreReady theory.now.vocabulary parents.now }
+    requires line { IsReady theory.now.vocabulary line.now }
+    ensures { IfOk result (IsDerived theory.now parents.now line.now) }
+{
+    if let Some(entries) = split(alloc, theory, parents, line)? {
+        return Ok(derived_by(Rule::Split, entries));
+    }
+    if let Some(entries) = skolemized(alloc, theory, parents, line)? {
+        return Ok(derived_by(Rule::Skolem, entries));
+    }
+    if let Some(entries) = defined(alloc, theory, line)? {
+        return Ok(derived_by(Rule::Definition, entries));
+    }
+    if let Some(entries) = chosen(alloc, theory, line)? {
+        return Ok(derived_by(Rule::Choice, entries));
+    }
+    Ok(None)
+}
+
+// The rule with its entries.
+fn derived_by(rule: Rule, entries: List<Entry>) -> Option<Derived>
+    ensures { result ≡ Some (record { rule = rule; entries = entries }) }
+{
+    Some(Derived { rule, entries })
+}
+
 // The answer that the line is accepted, with the lemma of the proof as its only entry, citing all parents.
 fn accepted(alloc: Global, parents: &[Parent], found: Found) -> Result<StepAnswer, Memory>
     ensures { IfOk result (λ answer. answer ≡ Accepted found.rule (numbers_of parents.now) (Lemma found.proof ∷ [])) }
 {
-    let cites = numbers(alloc, parents)?;
     let Found { rule, proof } = found;
     let entries = lemma(alloc, proof)?;
-    Ok(by_entries(rule, cites, entries))
+    by_entries(alloc, parents, Derived { rule, entries })
+}
+
+// The answer that the line is accepted, with these entries, citing all parents.
+fn by_entries(alloc: Global, parents: &[Parent], derived: Derived) -> Result<StepAnswer, Memory>
+    ensures { IfOk result (λ answer. answer ≡ Accepted derived.rule (numbers_of parents.now) derived.entries) }
+{
+    let cites = numbers(alloc, parents)?;
+    let Derived { rule, entries } = derived;
+    Ok(StepAnswer::Accepted {
+        rule,
+        cites,
+        entries,
+    })
 }
 
 /// The lemma of the proof, as the only entry.

@@ -4,10 +4,10 @@ ghost use Rattle.std.specs.List.{All};
 ghost use Rattle.tptp_base.specs.Count.{Rose};
 ghost use Rattle.sort_check.specs.Sorting.{AreDeclared, Extends, IsSentence};
 ghost use Rattle.tstp_graph.specs.Graphs.{IsOrdered};
-ghost use Rattle.verifier.specs.Faults.{HasCause};
+ghost use Rattle.verifier.specs.Faults.{HasRunCause};
 ghost use Rattle.verifier.specs.Logged.{LeadTo};
 ghost use Rattle.derivation_check.specs.Cases.{asked_of};
-ghost use Rattle.derivation_check.specs.Logs.{ChecksWithLog, TakesSomeOfLog};
+ghost use Rattle.derivation_check.specs.Logs.{ChecksWithLog, StopsWithLog, TakesSomeOfLog};
 
 use crate::{Control, Probe};
 use derivation_check::{Asked, Report, check_derivation};
@@ -42,7 +42,9 @@ pub trait Checking {
             (K.taken log.new)) }
         ensures log { TakesSomeOfLog theory.old (K.taken log.old) (K.taken log.new) }
         ensures leads { LeadTo theory.old theory.new }
-        ensures cause { IfErr result (λ fault. HasCause fault (Rose (K.faults log.old) (K.faults log.new))) }
+        ensures cause { IfErr result (λ fault. HasRunCause fault (Rose (K.faults log.old) (K.faults log.new))
+            (StopsWithLog (asked_of asked.now) theory.old derivation.now signature.now (K.taken log.old)
+            (K.taken log.new))) }
         ensures more_faults { K.faults log.old ≤ K.faults log.new };
 }
 
@@ -77,6 +79,7 @@ impl Checking for Control {
             Ok(Report { verified, text }) => Ok(Report { verified, text }),
             Err(RunFault::Sink) => Err(RunFault::Sink),
             Err(RunFault::Memory) => Err(RunFault::Memory),
+            Err(RunFault::Room(place)) => Err(RunFault::Room(place)),
         }
     }
 }

@@ -10,9 +10,9 @@ ghost use Rattle.proof_log.specs.Entries.{HaveNumbersInRange};
 ghost use Rattle.clause_rules.specs.Steps.{IsReady};
 ghost use Rattle.verifier.specs.Closing.{ClosesLog, HasFalseLine, IsVerified};
 ghost use Rattle.verifier.specs.Declarations;
-ghost use Rattle.verifier.specs.Faults.{HasCause};
+ghost use Rattle.verifier.specs.Faults.{HasCause, HasRunCause};
 ghost use Rattle.verifier.specs.Lines.{LinesStand};
-ghost use Rattle.verifier.specs.Logged.{CanAdmit, LeadTo, LogsSome, LogsRun, entries_text};
+ghost use Rattle.verifier.specs.Logged.{CanAdmit, LeadTo, LogsSome, LogsRun, LogsStopped, entries_text};
 
 use crate::{Control, Probe};
 use fof_terms::{Form, Signature};
@@ -31,6 +31,7 @@ pub trait Running {
         alloc: Global,
         forms: &[Form],
         graph: &Graph,
+        limit: u32,
         theory: &mut Theory,
         log: &mut K,
     ) -> Result<Outcome, RunFault>
@@ -45,10 +46,19 @@ pub trait Running {
               nodes = graph.now.nodes;
               forms =
                   forms.now;
+              limit = limit;
             }) graph.now.order ran.answers ran.numbers theory.new (K.taken log.old) (K.taken log.new)) }
         ensures leads { LeadTo theory.old theory.new }
         ensures cut { OnErr result (LogsSome theory.old (K.taken log.old) (K.taken log.new)) }
-        ensures cause { IfErr result (λ fault. HasCause fault (Rose (K.faults log.old) (K.faults log.new))) }
+        ensures cause { IfErr result (λ fault. HasRunCause fault (Rose (K.faults log.old) (K.faults log.new)) (λ place.
+            LogsStopped theory.old
+            (record {
+              given = theory.old.formulas;
+              nodes = graph.now.nodes;
+              forms =
+                  forms.now;
+              limit = limit;
+            }) graph.now.order place theory.new (K.taken log.old) (K.taken log.new))) }
         ensures more_faults { K.faults log.old ≤ K.faults log.new };
 
     /// Declares what the signature has and the theory lacks, and logs the declarations.
@@ -93,10 +103,11 @@ impl Running for Probe {
         alloc: Global,
         forms: &[Form],
         graph: &Graph,
+        limit: u32,
         theory: &mut Theory,
         log: &mut K,
     ) -> Result<Outcome, RunFault> {
-        run_lines(alloc, forms, graph, theory, log)
+        run_lines(alloc, forms, graph, limit, theory, log)
     }
 
     fn declare<K: Sink>(
@@ -124,13 +135,15 @@ impl Running for Control {
         alloc: Global,
         forms: &[Form],
         graph: &Graph,
+        limit: u32,
         theory: &mut Theory,
         log: &mut K,
     ) -> Result<Outcome, RunFault> {
-        match run_lines(alloc, forms, graph, theory, log) {
+        match run_lines(alloc, forms, graph, limit, theory, log) {
             Ok(Outcome { answers, numbers }) => Ok(Outcome { answers, numbers }),
             Err(RunFault::Sink) => Err(RunFault::Sink),
             Err(RunFault::Memory) => Err(RunFault::Memory),
+            Err(RunFault::Room(place)) => Err(RunFault::Room(place)),
         }
     }
 
@@ -144,6 +157,7 @@ impl Running for Control {
             Ok(()) => Ok(()),
             Err(RunFault::Sink) => Err(RunFault::Sink),
             Err(RunFault::Memory) => Err(RunFault::Memory),
+            Err(RunFault::Room(_)) => unreachable!(),
         }
     }
 

@@ -37,12 +37,12 @@ pub trait Commanding {
         ensures good { IsAnswer result
             → IfSome (S.files store.old) (λ files. (request : Request) → IsForm (texts words.now) request
             → (problem derivation : List ℕ) (named : Option (List ℕ)) → request.task ≡ Verify problem derivation named
-            → AreGood files request.root problem derivation → result ≡ 0) }
+            → AreGood files request.root request.limit problem derivation → result ≡ 0) }
 
         // An answer to a task that meets no fault in the files is that it succeeded.
         ensures complete { IsAnswer result
             → IfSome (S.files store.old) (λ files. (request : Request) → IsForm (texts words.now) request
-            → MeetsNoFault files request.root request.task → result ≡ 0) }
+            → MeetsNoFault files request.root request.limit request.task → result ≡ 0) }
 
         // A file is said to be missing only where the store answered that it is.
         ensures missing { result ≡ 3

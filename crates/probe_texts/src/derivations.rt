@@ -35,7 +35,8 @@ pub trait Deriving {
         ensures extends { Extends signature.old signature.new }
         ensures sentences { IfOk result (λ d. All (IsSentence signature.new) d.forms) }
         ensures each_form { IfOk result (λ d. length d.forms ≡ length d.graph.nodes) }
-        ensures each_name { IfOk result (λ d. length d.names ≡ length d.graph.nodes) };
+        ensures each_name { IfOk result (λ d. length d.names ≡ length d.graph.nodes) }
+        ensures each_place { IfOk result (λ d. length d.places ≡ length d.graph.nodes) };
 }
 
 impl Deriving for Probe {

@@ -42,7 +42,7 @@ instance_kept v old new e kept h = (h.0, kept h.0 h.1, h.2)
 -- what follows is found
 found_one : (v : Vocabulary) (whole : Bool) (inputs list : List Clause) (c : Clause) (a : ℕ) (m : Member) → slice_get list a ≡ Some c → FollowsOne v c a m → IsFound v whole inputs list m
 found_one v whole inputs list c a m at h = record {
-  made = subst (λ (o : Origin). Makes v inputs list m.clause o) (sym h.origin) (inr (record { premise = c; premise_at = at; twice = refl; each = h.each; infers = h.infers }));
+  made = subst (λ (o : Origin). Makes v inputs list m.clause o) (sym h.origin) (inr (record { premise = c; premise_at = at; twice = refl; each = h.each; infers = h.infers; no_new = h.no_new }));
   clause = h.clause;
   alone = λ blind. subst NamesOne (sym h.origin) refl;
 }
@@ -50,7 +50,7 @@ found_one v whole inputs list c a m at h = record {
 found_two : (v : Vocabulary) (whole : Bool) (inputs list : List Clause) (c d : Clause) (a b : ℕ) (m : Member) → slice_get list a ≡ Some c → slice_get list b ≡ Some d → (whole ≡ false → a ≡ b) → FollowsTwo v c d a b m
     → IsFound v whole inputs list m
 found_two v whole inputs list c d a b m at also same h = record {
-  made = subst (λ (o : Origin). Makes v inputs list m.clause o) (sym h.origin) (inl (record { first = c; second = d; first_at = at; second_at = also; each = h.each; infers = h.infers }));
+  made = subst (λ (o : Origin). Makes v inputs list m.clause o) (sym h.origin) (inl (record { first = c; second = d; first_at = at; second_at = also; each = h.each; infers = h.infers; no_new = h.no_new }));
   clause = h.clause;
   alone = λ blind. subst NamesOne (sym h.origin) (same blind);
 }

@@ -8,6 +8,7 @@ use Rattle.clause_form.specs.declared.clause.Clause.{Clause}
 use Rattle.clause_form.specs.Covers.{scope_of}
 use Rattle.clause_rules.specs.Steps.{scope_of_both}
 use Rattle.superpose.specs.declared.made.Made.{Made}
+use Rattle.superpose.proofs.Speaking.{draft_of_one_lacks, draft_of_two_lacks}
 use Rattle.superpose.specs.Made.{IsMadeFrom, AddsFromOne, AddsFromTwo}
 use Rattle.superpose.specs.Inferences.{IsDraftOfOne, IsDraftOfTwo}
 use Rattle.saturation.specs.declared.member.Member.{Member}
@@ -54,6 +55,7 @@ follows_one v c a x h = record {
   origin = refl;
   each = h.size;
   infers = (h.draft, h.is_draft, h.made);
+  no_new = λ k none. h.no_new k (draft_of_one_lacks k c c h.draft none h.is_draft);
   clause = h.clause;
 }
 
@@ -63,6 +65,7 @@ follows_two v c d a b x h = record {
   origin = refl;
   each = h.size;
   infers = (h.draft, h.is_draft, h.made);
+  no_new = λ k none also. h.no_new k (draft_of_two_lacks k c d h.draft none also h.is_draft);
   clause = h.clause;
 }
 

@@ -2,7 +2,7 @@
 use Rattle.std.specs.Prelude.{ℕ, ◌+◌, ◌<◌, ◌≤◌, List, [], ◌∷◌, ◌++◌, ◌≡◌, map, Some, None, length, Bool, false, Option, MatchOption, refl}
 use Rattle.std.specs.List.{All as Each, AllByRecursion}
 use Rattle.std.proofs.Common.{ap, sym, subst, ◌∙◌, arith, inl, inr}
-use Rattle.std.proofs.lemmas.List.Elements.{All-push, All-weaker, All-nil, recursion_from_All}
+use Rattle.std.proofs.lemmas.List.Elements.{All-push, All-weaker, All-nil, All-contains, recursion_from_All}
 use Rattle.std.proofs.lemmas.List.{length-map, length-append, map-append, take-append-le, take_at}
 use Rattle.fof_terms.specs.Vocabulary.{Vocabulary}
 use Rattle.fof_terms.specs.Lift.{greatest}
@@ -20,7 +20,7 @@ use Rattle.saturation.specs.code.Entered.{AreEntered}
 use Rattle.saturation.specs.code.Known.{AreKnown, IsKnown}
 use Rattle.saturation.specs.code.Search.{IsUnderWay, IsMadeWith, IsFound, IsQueued, IsTooHeavy, AreKept}
 use Rattle.saturation.specs.code.Steps.{Sifts, IsNext, AreCoveredIn, AnswersAs}
-use Rattle.saturation.proofs.Lists.{got_pushed}
+use Rattle.saturation.proofs.Lists.{got_pushed, each_of, to_mapped}
 use Rattle.saturation.specs.code.Given.{AreGiven}
 use Rattle.saturation.proofs.Passing.{IsTurning}
 use Rattle.saturation.proofs.Givens.{given_under_way}
@@ -110,12 +110,17 @@ pub sift_some : (v : Vocabulary) (whole : Bool) (inputs list : List Clause) (tod
 sift_some v whole inputs list todo queue heavy new_queue new_heavy bound r e sifts some b h =
     subst (λ r. MatchOption r (IsUnderWay v whole inputs list [] new_queue new_heavy) (λ e. IsFound v whole inputs list e × (e.clause.lits ≡ []))) some (sifts v whole inputs list b h)
 
+-- the members are clauses
+members_fit : (v : Vocabulary) (list : List Member) → Each (IsClause v) (clauses_of list) → Each (λ m. IsClause v m.clause) list
+members_fit v list all = each_of (λ m. IsClause v m.clause) list (λ m there. All-contains (IsClause v) (clauses_of list) m.clause all (to_mapped (λ (x : Member). x.clause) list m there))
+
 -- the answers
 pub answers_refuted : (v : Vocabulary) (whole : Bool) (inputs : List Clause) (limit : ℕ) (list todo queue heavy : List Member) (e : Member) → length list ≤ limit → AreKept v whole inputs list
     → IsUnderWay v whole inputs (clauses_of list) todo queue heavy → IsFound v whole inputs (clauses_of list) e × (e.clause.lits ≡ []) → AnswersAs v whole inputs limit (Refuted list e)
 answers_refuted v whole inputs limit list todo queue heavy e within kept h found = record {
   keeps = within;
   origins = (kept.made, found.0.made);
+  fit = (members_fit v list h.members, found.0.clause);
   ends = λ is. record {
     within = let n = count list in omega arith;
     lightest = h.lightest is;
@@ -130,6 +135,7 @@ pub answers_dry : (v : Vocabulary) (whole : Bool) (inputs : List Clause) (limit 
 answers_dry v whole inputs limit list heavy within kept h covered = record {
   keeps = within;
   origins = kept.made;
+  fit = members_fit v list h.members;
   ends = λ is. dry_at v whole inputs (clauses_of list) heavy h is limit (let n = count list in omega arith) covered;
   alone = kept.alone;
 }
@@ -139,6 +145,7 @@ pub answers_heavy : (v : Vocabulary) (whole : Bool) (inputs : List Clause) (limi
 answers_heavy v whole inputs limit list heavy within kept h w = record {
   keeps = omega arith;
   origins = kept.made;
+  fit = members_fit v list h.members;
   ends = λ is. heavy_at v whole inputs (clauses_of list) heavy h is w.0 w.1 w.2 limit (let n = count list in omega arith);
   alone = kept.alone;
 }
@@ -148,6 +155,7 @@ pub answers_full : (v : Vocabulary) (whole : Bool) (inputs : List Clause) (limit
 answers_full v whole inputs limit list heavy full kept h w = record {
   keeps = full;
   origins = kept.made;
+  fit = members_fit v list h.members;
   ends = λ is. full_by_heavy v whole inputs (clauses_of list) heavy h is w.0 w.1 w.2 limit (count list ∙ full);
   alone = kept.alone;
 }
@@ -157,6 +165,7 @@ pub answers_full_next : (v : Vocabulary) (whole : Bool) (inputs : List Clause) (
 answers_full_next v whole inputs limit list rest heavy x full kept next = record {
   keeps = full;
   origins = kept.made;
+  fit = members_fit v list next.1.members;
   ends = λ is. full_at v whole inputs (clauses_of list) next.0 rest heavy x next.1 next.2 is next.3 limit (count list ∙ full);
   alone = kept.alone;
 }

@@ -39,6 +39,7 @@ made_more v inputs list more e (Inferred a b images) (inl h) = inl (record {
   second_at = got_append list more b h.second h.second_at;
   each = h.each;
   infers = h.infers;
+  no_new = h.no_new;
 })
 made_more v inputs list more e (Inferred a b images) (inr h) = inr (record {
   premise = h.premise;
@@ -46,6 +47,7 @@ made_more v inputs list more e (Inferred a b images) (inr h) = inr (record {
   twice = h.twice;
   each = h.each;
   infers = h.infers;
+  no_new = h.no_new;
 })
 
 pub found_offered : (v : Vocabulary) (whole : Bool) (inputs list : List Clause) (m : Member) → IsFound v whole inputs list m → IsOffered v inputs list m.clause

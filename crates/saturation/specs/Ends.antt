@@ -6,6 +6,7 @@ use Rattle.clause_form.specs.declared.clause.Clause.{Clause}
 use Rattle.saturation.specs.declared.outcome.Outcome.{Outcome}
 use Rattle.saturation.specs.declared.outcome.Outcome.TheVariants.{Refuted, Dry, Full, Heavy}
 use Rattle.clause_order.specs.Weights.{clause_weight}
+use Rattle.superpose.specs.Drafts.{IsClause}
 use Rattle.superpose.specs.Inferences.{IsInference}
 use Rattle.saturation.specs.Lists.{bound_of, IsOffered, IsDone, IsLightestFirst, IsClosed, IsQuiet}
 use Rattle.saturation.specs.Members.{clauses_of}
@@ -67,3 +68,10 @@ KeepsLimit limit (Refuted list empty) = length list ≤ limit
 KeepsLimit limit (Dry list) = length list ≤ limit
 KeepsLimit limit (Full list) = length list ≡ limit
 KeepsLimit limit (Heavy list) = length list ≤ limit
+
+-- each member's clause is well-sorted over few sorts, which exist
+abbrev pub HasFitMembers : Vocabulary → Outcome → Type 0
+HasFitMembers v (Refuted list empty) = Each (λ m. IsClause v m.clause) list × IsClause v empty.clause
+HasFitMembers v (Dry list) = Each (λ m. IsClause v m.clause) list
+HasFitMembers v (Full list) = Each (λ m. IsClause v m.clause) list
+HasFitMembers v (Heavy list) = Each (λ m. IsClause v m.clause) list

@@ -9,10 +9,12 @@ use Rattle.saturation.specs.declared.member.Origin.{Origin}
 use Rattle.saturation.specs.declared.member.Origin.TheVariants.{Input, Inferred}
 use Rattle.unify_terms.specs.Substitution.{image_at}
 use Rattle.clause_rules.specs.Steps.{scope_of_both}
+use Rattle.superpose.specs.Absent.{AreWithout}
 use Rattle.superpose.specs.Inferences.{InfersFromTwo, InfersFromOne}
 use Rattle.saturation.specs.Members.{clauses_of}
 
--- from two clauses of the list: the images are those of the variables of the first, and then those of the second
+-- From two clauses of the list. No symbol is new. The images are those of the variables of the first, and then those
+-- of the second.
 pub record FollowsFromTwo (v : Vocabulary) (list : List Clause) (e : Clause) (a b : ℕ) (images : List Term) : Type 0 where
   pub first : Clause
   pub second : Clause
@@ -20,6 +22,7 @@ pub record FollowsFromTwo (v : Vocabulary) (list : List Clause) (e : Clause) (a 
   pub second_at : slice_get list b ≡ Some second
   pub each : length images ≡ length (scope_of_both first second)
   pub infers : InfersFromTwo v first second e (image_at images)
+  pub no_new : (k : ℕ) → AreWithout k first.lits → AreWithout k second.lits → AreWithout k e.lits
 
 -- from one clause of the list, which is named twice
 pub record FollowsFromOne (v : Vocabulary) (list : List Clause) (e : Clause) (a b : ℕ) (images : List Term) : Type 0 where
@@ -28,6 +31,7 @@ pub record FollowsFromOne (v : Vocabulary) (list : List Clause) (e : Clause) (a 
   pub twice : a ≡ b
   pub each : length images ≡ length (scope_of premise)
   pub infers : InfersFromOne v premise e (image_at images)
+  pub no_new : (k : ℕ) → AreWithout k premise.lits → AreWithout k e.lits
 
 -- the origin makes the clause, from the inputs or from clauses of the list
 abbrev pub Makes : Vocabulary → List Clause → List Clause → Clause → Origin → Type 0

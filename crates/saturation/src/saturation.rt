@@ -6,7 +6,7 @@ ghost use Rattle.fof_terms.specs.Vocabulary.{Vocabulary};
 ghost use Rattle.clause_order.specs.Weights.{clause_weight};
 ghost use Rattle.superpose.specs.Drafts.{IsClause};
 ghost use Rattle.saturation.specs.Members.{clauses_of};
-ghost use Rattle.saturation.specs.Ends.{EndsWith, HasOrigins, KeepsLimit, NamesOnes};
+ghost use Rattle.saturation.specs.Ends.{EndsWith, HasFitMembers, HasOrigins, KeepsLimit, NamesOnes};
 ghost use Rattle.saturation.specs.code.Search.{IsUnderWay, AreKept};
 ghost use Rattle.saturation.specs.code.Steps.{AreCoveredIn, AnswersAs};
 
@@ -39,6 +39,7 @@ pub fn search(
     requires light { Each (λ c. clause_weight c ≤ 100000000) inputs.now }
     ensures limit { IfOk result (KeepsLimit limit) }
     ensures origins { IfOk result (HasOrigins signature.now inputs.now) }
+    ensures fit { IfOk result (HasFitMembers signature.now) }
     ensures ends { IfOk result (EndsWith signature.now inputs.now limit) }
 {
     let mut literals = Index::new(alloc);
@@ -71,6 +72,7 @@ pub fn search_by<R: Inferences, I: Partners>(
     requires empty { I.is_whole literals.old ≡ true → (I.entries literals.old ≡ []) × (I.entries terms.old ≡ []) }
     ensures limit { IfOk result (KeepsLimit limit) }
     ensures origins { IfOk result (HasOrigins signature.now inputs.now) }
+    ensures fit { IfOk result (HasFitMembers signature.now) }
     ensures whole { I.is_whole literals.old ≡ true → IfOk result (EndsWith signature.now inputs.now limit) }
     ensures blind { I.is_whole literals.old ≡ false → IfOk result NamesOnes }
 {

@@ -1,1 +1,12 @@
+pub mod DeclaredFacts
 pub mod Empty
+pub mod Forms
+pub mod InTurn
+pub mod Inputs
+pub mod LastFacts
+pub mod Passing
+pub mod PlacedFacts
+pub mod Sweeping
+pub mod Symbols
+pub mod WantedFacts
+pub mod Whole

@@ -1,2 +1,4 @@
 pub mod Falsehood
+pub mod Needed
+pub mod Searched
 pub mod code

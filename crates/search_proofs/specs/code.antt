@@ -1,2 +1,7 @@
 -- What private contracts alone say of the code. Nothing public rests on this.
+pub mod Facts
+pub mod Marks
+pub mod Members
+pub mod Placed
 pub mod Variables
+pub mod Wanting

@@ -1,6 +1,16 @@
-//! From a refutation that a search hands out towards entries.
+//! From a refutation that a search hands out to entries.
 #![tactic(auto)]
 
+mod declaring;
+mod entries;
 mod falsehood;
+mod formula;
+mod members;
+mod needing;
+mod placing;
+mod refuting;
+mod wanting;
 
+pub use entries::refutation_entries;
 pub use falsehood::falsehood_by;
+pub use needing::needed_members;

@@ -11,7 +11,7 @@ use Rattle.superpose.specs.Made.{IsMadeFrom, IsBestAt, IsSettledBy, Adds}
 
 module _ (v : Vocabulary) (scope : List ℕ) where
   made_as : (P Q : Draft → Type 0) → ((f : Draft) → P f → Q f) → (m : Made) → IsMadeFrom v scope P m → IsMadeFrom v scope Q m
-  made_as P Q h m p = record { draft = p.draft; is_draft = h p.draft p.is_draft; made = p.made; clause = p.clause; size = p.size }
+  made_as P Q h m p = record { draft = p.draft; is_draft = h p.draft p.is_draft; made = p.made; clause = p.clause; size = p.size; no_new = p.no_new }
 
   -- there is no such draft
   pub adds_none : (P : Draft → Type 0) (list : List Made) → ((f : Draft) → P f → ⊥) → Adds v scope P list list

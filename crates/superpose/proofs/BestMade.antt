@@ -1,10 +1,12 @@
 -- The clause that is concluded by a most general unifier is the most general one.
-use Rattle.std.specs.Prelude.{ℕ, ◌≡◌, List, [], ◌∷◌, length, map, reverse, Some, None, refl}
+use Rattle.std.specs.Prelude.{ℕ, ◌<◌, ◌≡◌, false, List, [], ◌∷◌, length, map, reverse, get_or, Some, None, refl}
 use Rattle.std.specs.List.{AllByRecursion}
 use Rattle.std.proofs.Common.{ap, sym, subst, ◌∙◌}
 use Rattle.std.proofs.lemmas.List.{reverse-reverse}
-use Rattle.std.proofs.lemmas.Option.{slice_get_within}
+use Rattle.std.proofs.lemmas.Option.{slice_get_within, slice_get-get_or}
 use Rattle.fof_terms.specs.declared.term.Term.{Term}
+use Rattle.fof_terms.specs.Occurs.{occurs_in_term}
+use Rattle.fof_terms.proofs.OccursFacts.{occurs_in_term-Var}
 use Rattle.fof_terms.specs.Vocabulary.{Vocabulary}
 use Rattle.fof_terms.specs.Sorts.{sort_of_term}
 use Rattle.clause_form.specs.declared.clause.Lit.{Lit}
@@ -20,12 +22,15 @@ use Rattle.substitution_search.proofs.NeedSorts.{Found}
 use Rattle.unify_terms.specs.Substitution.{image_at}
 use Rattle.unify_terms.specs.Unifiers.{Unified}
 use Rattle.superpose.specs.declared.made.Made.{Made}
+use Rattle.superpose.specs.Absent.{AreWithout, IsNotInDraft}
 use Rattle.superpose.specs.Drafts.{Draft, IsMadeBy, IsClause, SortsExist}
 use Rattle.superpose.specs.Made.{IsBestAt}
 use Rattle.superpose.specs.MostGeneral.{IsMostGeneral}
 use Rattle.superpose.specs.code.Conclusions.{IsConclusion}
 use Rattle.superpose.proofs.Unifying.{Asks, AreSame, most_general, never_unified, same_for, unifier_unifies}
 use Rattle.superpose.proofs.InferLaws.{made_sorted}
+use Rattle.superpose.proofs.Speaking.{instances_lack, images_lack}
+use Rattle.superpose.proofs.Wiped.{image_lacks, unifier_lacks}
 
 -- equal terms stay equal under a further substitution
 twice_same : (t s : ℕ → Term) (ls rs : List Term) → AreSame s ls rs → AreSame (λ k. image t (s k)) ls rs
@@ -58,6 +63,16 @@ module _ (v : Vocabulary) (scope : List ℕ) (f : Draft) (ls rs : List Term) (hl
     fit = record { sorted = made_sorted v scope f m.clause (image_at m.subst) sorted draft_makes; few = con.few };
     exist = con.exist v exist;
   }
+
+  -- the images, and so the clause, have no symbol that the draft lacks
+  image_lacks_at : (k : ℕ) → IsNotInDraft k f → (x : ℕ) → x < length scope → occurs_in_term k (image_at m.subst x) ≡ false
+  image_lacks_at k h x within =
+      ap (occurs_in_term k) (con.subst x within)
+      ∙ image_lacks k con.names (λ y. ap (occurs_in_term k) (con.variables y).1 ∙ occurs_in_term-Var k (con.variables y).0) (image_at images x)
+      (unifier_lacks v scope f scope (image_at images) most k h.pair x (get_or scope x 0) (slice_get-get_or scope x 0 within))
+
+  no_new : (k : ℕ) → IsNotInDraft k f → AreWithout k m.clause.lits
+  no_new k h = subst (AreWithout k) (sym draft_makes.same) (instances_lack k (image_at m.subst) (images_lack k scope m.subst con.size (image_lacks_at k h)) f.left h.left)
 
   -- the clause over the scope itself
   abbrev whole : Clause
@@ -97,7 +112,7 @@ module _ (v : Vocabulary) (scope : List ℕ) (f : Draft) (ls rs : List Term) (hl
 
   pub best_made : (P : Draft → Type 0) → P f → ((g : Draft) → P g → g ≡ f) → IsBestAt v scope P (Some m)
   best_made P is only = (
-    record { draft = f; is_draft = is; made = draft_makes; clause = is_clause; size = con.size },
+    record { draft = f; is_draft = is; made = draft_makes; clause = is_clause; size = con.size; no_new = no_new },
     λ g e r p other. instance_then v m.clause whole e renames (whole_made e r (subst (λ x. IsMadeBy v scope x e r) (only g p) other)),
   )
 

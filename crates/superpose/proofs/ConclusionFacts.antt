@@ -1,14 +1,15 @@
 -- What is left under a substitution, with new numbers for its variables.
 use Rattle.std.specs.Prelude.{ℕ, ◌<◌, ◌≤◌, ◌≡◌, nat_lt, if◌then◌else◌, List, [], length, map, reverse, get_or, Some, slice_get, refl, ◌∷◌}
 use Rattle.std.specs.List.{All as Each, AllByRecursion, Contains}
-use Rattle.std.proofs.Common.{ap, sym, subst, ◌∙◌, arith, zero, suc}
+use Rattle.std.proofs.Common.{ap, sym, subst, ◌∙◌, arith, inl, inr, zero, suc}
 use Rattle.std.proofs.lemmas.Bool.{lt-ltb, le-ltb}
-use Rattle.std.proofs.lemmas.List.{reverse-reverse, length-reverse, length-map}
+use Rattle.std.proofs.lemmas.List.{reverse-reverse, length-reverse, length-map, get_or_past}
 use Rattle.std.proofs.lemmas.List.Elements.{All-map, All-weaker, All-append, All-cons, All-nil, recursion_from_All, Contains-get_or}
 use Rattle.std.proofs.lemmas.Option.{slice_get_within, slice_get-get_or, get_or_from_slice_get}
 use Rattle.fof_terms.specs.declared.term.Term.{Term, Var}
 use Rattle.fof_terms.specs.Vocabulary.{Vocabulary}
 use Rattle.fof_terms.specs.Sorts.{sort_of_term}
+use Rattle.fof_terms.proofs.LiftingLaws.{below_or_above}
 use Rattle.fof_terms.proofs.SortsFacts.{sort_of_term-Var}
 use Rattle.clause_form.specs.declared.clause.Lit.{Lit}
 use Rattle.clause_form.specs.Images.{image, IsImages}
@@ -70,6 +71,12 @@ module _ (scope : List ℕ) (images : List Term) (left : List Lit) (noted kept :
   sort_kept : (i k : ℕ) → slice_get kept i ≡ Some k → slice_get (scope_of m.clause) i ≡ Some (get_or scope k 0)
   sort_kept i k e = ap (λ xs. slice_get xs i) scope_is ∙ get_map (λ j. get_or scope j 0) kept i k e
 
+  named_variable : (k : ℕ) → (name : ℕ) × (image_at names k ≡ Var name)
+  named_variable k = elim (below_or_above k (length scope)) [
+    | inl h ↦ let p = are_named.named k h in (p.name, p.is)
+    | inr h ↦ (k, get_or_past names k (Var k) (let e = are_named.size in omega (arith, h)))
+  ]
+
   named_images : (v : Vocabulary) → IsImages v scope (scope_of m.clause) (image_at names)
   named_images v = record {
     sorted = λ k r e.
@@ -110,6 +117,7 @@ module _ (scope : List ℕ) (images : List Term) (left : List Lit) (noted kept :
     size = ap length subst_is ∙ length-map images (image (image_at names)) ∙ size;
     few = let total : length m.clause.sorts ≡ length kept = ap length sorts_are ∙ length-reverse (sorts_at scope kept) ∙ length-map kept (λ j. get_or scope j 0) in omega (arith, few);
     exist = λ v h. subst (SortsExist v) (sym sorts_are) (all_reversed (λ s. s < length v.sorts) (sorts_at scope kept) (All-map (λ s. s < length v.sorts) (λ j. get_or scope j 0) kept (All-weaker (λ k. k < length scope) (λ k. get_or scope k 0 < length v.sorts) (λ k lt. h k 0 lt) kept are_named.grown.within)));
+    variables = named_variable;
     named = named_images;
     returns = back_images;
     subst = λ k h. ap (λ xs. image_at xs k) subst_is ∙ mapped_at (image (image_at names)) images k (Var k) (Var k) (let e = size in omega (arith, h));

@@ -16,3 +16,5 @@ pub mod Resolved
 pub mod Superposed
 pub mod Unifying
 pub mod UseFacts
+pub mod Wiped
+pub mod Speaking

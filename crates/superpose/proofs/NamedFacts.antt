@@ -8,12 +8,12 @@ use Rattle.fof_terms.specs.declared.term.Term.{Term, Var}
 use Rattle.unify_terms.specs.Substitution.{image_at}
 use Rattle.superpose.specs.code.Named.{HasSortAt, HasName, IsGrown, IsNameOf, IsNamedBy, AreNamed, IsMissing}
 
-get_in_front : (xs more : List ℕ) (i x : ℕ) → slice_get xs i ≡ Some x → slice_get (xs ++ more) i ≡ Some x
+pub get_in_front : (xs more : List ℕ) (i x : ℕ) → slice_get xs i ≡ Some x → slice_get (xs ++ more) i ≡ Some x
 get_in_front [] more i x e = cc
 get_in_front (y ∷ xs) more zero x e = e
 get_in_front (y ∷ xs) more (suc i) x e = get_in_front xs more i x e
 
-get_pushed : (xs : List ℕ) (i x : ℕ) → i ≡ length xs → slice_get (xs ++ x ∷ []) i ≡ Some x
+pub get_pushed : (xs : List ℕ) (i x : ℕ) → i ≡ length xs → slice_get (xs ++ x ∷ []) i ≡ Some x
 get_pushed [] zero x e = refl
 get_pushed [] (suc i) x e = absurd (omega arith)
 get_pushed (y ∷ xs) zero x e = absurd (omega arith)

@@ -1,3 +1,4 @@
+pub mod Absent
 pub mod Drafts
 pub mod Inferences
 pub mod Made

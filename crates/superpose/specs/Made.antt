@@ -8,16 +8,18 @@ use Rattle.clause_form.specs.Covers.{IsInstance, scope_of}
 use Rattle.clause_rules.specs.Steps.{scope_of_both}
 use Rattle.unify_terms.specs.Substitution.{image_at}
 use Rattle.superpose.specs.declared.made.Made.{Made}
+use Rattle.superpose.specs.Absent.{AreWithout, IsNotInDraft}
 use Rattle.superpose.specs.Drafts.{Draft, IsClause, IsMadeBy}
 use Rattle.superpose.specs.Inferences.{IsDraftOfOne, IsDraftOfTwo}
 
--- one of the drafts made the clause by the substitution beside it
+-- one of the drafts made the clause by the substitution beside it, which brings no new symbol into it
 pub record IsMadeFrom (v : Vocabulary) (scope : List ℕ) (P : Draft → Type 0) (m : Made) : Type 0 where
   pub draft : Draft
   pub is_draft : P draft
   pub made : IsMadeBy v scope draft m.clause (image_at m.subst)
   pub clause : IsClause v m.clause
   pub size : length m.subst ≡ length scope
+  pub no_new : (k : ℕ) → IsNotInDraft k draft → AreWithout k m.clause.lits
 
 -- each clause that one of the drafts makes by any substitution is an instance of this one
 abbrev pub HasAllAsInstances : Vocabulary → List ℕ → (Draft → Type 0) → Clause → Type 0

@@ -5,6 +5,7 @@ ghost use Rattle.fof_terms.specs.Vocabulary.{Vocabulary};
 ghost use Rattle.clause_form.specs.declared.clause.Clause.{Clause as Disjunction};
 ghost use Rattle.clause_form.specs.Covers.{AreSorted, IsInstance, scope_of};
 ghost use Rattle.clause_rules.specs.Steps.{scope_of_both};
+ghost use Rattle.superpose.specs.Absent.{AreWithout, IsNotInDraft};
 ghost use Rattle.superpose.specs.Drafts.{Draft, IsMadeBy};
 ghost use Rattle.superpose.specs.Inferences.{InfersFromOne, InfersFromTwo, IsDraftOfOne, IsDraftOfTwo};
 ghost use Rattle.superpose.specs.MostGeneral.{IsBestOf, IsMostGeneral};
@@ -29,6 +30,14 @@ pub fn best_inference_from_one()
 pub fn best_of_renamed()
     ensures { (v : Vocabulary) (scope : List ℕ) (f : Draft) (e small : Disjunction) (s : ℕ → Inner)
         → IsBestOf v scope f e → IsInstance v small e → IsMadeBy v scope f small s → IsBestOf v scope f small }
+{}
+
+/// A draft has no symbol that its premises lack.
+pub fn drafts_bring_no_symbol()
+    ensures of_two { (k : ℕ) (c d : Disjunction) (f : Draft) → AreWithout k c.lits → AreWithout k d.lits
+        → IsDraftOfTwo c d f → IsNotInDraft k f }
+    ensures of_one { (k : ℕ) (c : Disjunction) (f : Draft) → AreWithout k c.lits → IsDraftOfOne c f
+        → IsNotInDraft k f }
 {}
 
 /// What follows from well-sorted clauses is well-sorted.

@@ -11,12 +11,10 @@ use Rattle.include_resolve.specs.declared.fault.IncludeFault.TheVariants as incl
 use Rattle.include_resolve.specs.declared.problem.Problem.{Problem}
 use Rattle.include_resolve.specs.Resolved.{Answers, Resolves}
 use Rattle.sort_check.specs.declared.fault.SortFault.{SortFault}
-use Rattle.sort_check.specs.declared.line.Line.{Line}
 use Rattle.sort_check.specs.declared.line.TextKind.TheVariants as kind
 use Rattle.sort_check.specs.Texts.{denoted}
 use Rattle.tptp_run.specs.code.Answer.{ending_of}
 use Rattle.tptp_run.specs.CheckedLog.{IsGiven}
-use Rattle.tptp_run.specs.Complete.{IsWellSorted}
 use Rattle.tptp_run.specs.Denoted.{first_vocabulary, SaysIncludeFault, SaysSortFault}
 use Rattle.tptp_run.specs.Derived.{IsDerivationRefusal}
 use Rattle.tptp_run.specs.Ending.{Ending, says}
@@ -86,8 +84,9 @@ pub read_said : (before after status : ℕ) → (status ≡ 0) ⊎ (status ≡ 1
 read_said before after status (inl is) three = absurd (omega (arith, three, is))
 read_said before after status (inr is) three = absurd (omega (arith, three, is))
 
-pub report_said : (file text : List ℕ) (given : List Name) (v : Vocabulary) (answer : Answer) → answer.status ≤ 1 → answer.status ≡ 3 → IsDerivationRefusal file text given v (ending_of answer)
-report_said file text given v answer few three = absurd (omega (arith, three, few))
+pub report_said : (file text : List ℕ) (given : List Name) (v : Vocabulary) (answer : Answer) → (answer.status ≤ 1) ⊎ (answer.status ≡ 7) → answer.status ≡ 3 → IsDerivationRefusal file text given v (ending_of answer)
+report_said file text given v answer (inl few) three = absurd (omega (arith, three, few))
+report_said file text given v answer (inr seven) three = absurd (omega (arith, three, seven))
 
 pub usage_said : (R : Type 0) (told : Option Files) (words : List (List ℕ)) (answer : Answer) (text : List ℕ) → ending_of answer ≡ says 2 text → answer.status ≡ 3 → R ⊎ SaysOtherFault told words (ending_of answer)
 usage_said R told words answer text is three = absurd (omega (arith, three, ap (λ (e : Ending). e.status) is))

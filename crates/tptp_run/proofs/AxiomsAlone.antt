@@ -28,7 +28,7 @@ use Rattle.tptp_run.specs.Verifying.{EndsChecked, EndsVerify, SaysDerivation, as
 use Rattle.tptp_run.specs.Words.{Task, Verify, Request, IsForm}
 use Rattle.tptp_run.specs.declared.run.TheConstants.{TOTAL_SIZE}
 use Rattle.tptp_run.proofs.Headline.{no_include, no_sort, no_derivation, file_read, verified_is}
-use Rattle.tptp_run.proofs.Requests.{one_root, one_task}
+use Rattle.tptp_run.proofs.Requests.{one_request}
 
 one_text : (found : Option (List ℕ)) (text other : List ℕ) → found ≡ Some text → found ≡ Some other → text ≡ other
 one_text found text other first second = cc
@@ -39,11 +39,11 @@ role_marked entries number entry at role =
     let mark : GivenEntry → Bool = λ (e : GivenEntry). is_of_conjecture e.role in
     ap (λ (o : Option Bool). unwrap_or o false) (slice_get-map mark entries number ∙ ap (option_map mark) at) ∙ role
 
-module _ (files : Files) (root : Option (List ℕ)) (problem file text : List ℕ) (ending : Ending) (zero : ending.status ≡ 0) (there : file_at files file ≡ Some text) (word : claimed text ≡ Some (codes "ContradictoryAxioms")) where
+module _ (files : Files) (root : Option (List ℕ)) (limit : ℕ) (problem file text : List ℕ) (ending : Ending) (zero : ending.status ≡ 0) (there : file_at files file ≡ Some text) (word : claimed text ≡ Some (codes "ContradictoryAxioms")) where
   checked_spares : (whole : Problem) (lines : List Line) (v : Vocabulary) (d : Derivation) (w : Vocabulary) → Resolves (Some files) root problem (Ok whole) → denoted whole.items first_vocabulary kind.Problem ≡ Ok (lines, v)
-      → EndsChecked (asked_by problem text (conjecture_marks lines) (has_conjecture lines)) (given_theory lines v) d w ending → RefutesAxioms files root problem ending.log
+      → EndsChecked (asked_by problem text (conjecture_marks lines) (has_conjecture lines) limit) (given_theory lines v) d w ending → RefutesAxioms files root problem ending.log
   checked_spares whole lines v d w resolves denotes ends =
-      let asked : Asked = asked_by problem text (conjecture_marks lines) (has_conjecture lines) in
+      let asked : Asked = asked_by problem text (conjecture_marks lines) (has_conjecture lines) limit in
       let all : Checks asked (given_theory lines v) d w true ending.out ending.log = subst (λ (b : Bool). Checks asked (given_theory lines v) d w b ending.out ending.log) (verified_is ends.verified (sym ends.status ∙ zero)) ends.checks in
       let shown = spares asked (given_theory lines v) d w ending.out ending.log all word in
       record {
@@ -59,23 +59,23 @@ module _ (files : Files) (root : Option (List ℕ)) (problem file text : List �
             shown.3 number (omega (arith, slice_get_within (given_entries lines) number entry at, length-map (given_entries lines) (λ (e : GivenEntry). e.form))) (role_marked (given_entries lines) number entry at role);
       }
 
-  verify_spares : EndsVerify files root problem file ending → RefutesAxioms files root problem ending.log
+  verify_spares : EndsVerify files root limit problem file ending → RefutesAxioms files root problem ending.log
   verify_spares (inl (fault, resolves, says)) = no_include fault ending zero says
   verify_spares (inr (whole, resolves, inl (fault, denotes, says))) = no_sort whole.files fault ending zero says
   verify_spares (inr (whole, resolves, inr (lines, v, denotes, after))) =
-      let rest : List ℕ → Ending → Type 0 = SaysDerivation problem file (given_theory lines v) (given_names lines) (conjecture_marks lines) (has_conjecture lines) in
+      let rest : List ℕ → Ending → Type 0 = SaysDerivation problem file limit (given_theory lines v) (given_names lines) (conjecture_marks lines) (has_conjecture lines) in
       let read : (text : List ℕ) × (file_at files file ≡ Some text) × rest text ending = file_read files file (TOTAL_SIZE - whole.read) rest ending zero after in
       said (subst (λ (bytes : List ℕ). rest bytes ending) (one_text (file_at files file) read.0 text read.1 there) read.2)
     where
-      said : SaysDerivation problem file (given_theory lines v) (given_names lines) (conjecture_marks lines) (has_conjecture lines) text ending → RefutesAxioms files root problem ending.log
+      said : SaysDerivation problem file limit (given_theory lines v) (given_names lines) (conjecture_marks lines) (has_conjecture lines) text ending → RefutesAxioms files root problem ending.log
       said (inl (fault, first, says)) = no_derivation file fault ending zero says
-      said (inr (d, w, is, ends)) = checked_spares whole lines v d w resolves denotes ends
+      said (inr (d, w, is, inl ends)) = checked_spares whole lines v d w resolves denotes ends
+      said (inr (d, w, is, inr lacks)) = absurd (omega (arith, zero, lacks.status))
 
 pub ends_spares : (files : Files) (words : List (List ℕ)) (request : Request) (problem derivation text : List ℕ) (named : Option (List ℕ)) (ending : Ending) → Ends files words ending → IsForm words request → request.task ≡ Verify problem derivation named → ending.status ≡ 0
     → file_at files derivation ≡ Some text → claimed text ≡ Some (codes "ContradictoryAxioms") → RefutesAxioms files request.root problem ending.log
 ends_spares files words request problem derivation text named ending (inl none) form is zero there word = absurd (none.0 request form)
 ends_spares files words request problem derivation text named ending (inr (other, found, ends)) form is zero there word =
-    let of_root : Option (List ℕ) → Type 0 = λ root. EndsTask files root (Verify problem derivation named) ending in
-    let of_task : Task → Type 0 = λ task. EndsTask files other.root task ending in
-    verify_spares files request.root problem derivation text ending zero there word
-    (subst of_root (one_root words other request found form) (subst of_task (one_task words other request found form ∙ is) ends))
+    let asks : Request → Type 0 = λ r. EndsTask files r.root r.limit r.task ending in
+    let own : Task → Type 0 = λ task. EndsTask files request.root request.limit task ending in
+    verify_spares files request.root request.limit problem derivation text ending zero there word (subst own is (subst asks (one_request words other request found form) ends))

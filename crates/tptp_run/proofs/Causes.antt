@@ -1,6 +1,6 @@
 -- Causes of a stop, later on.
 use Rattle.std.specs.Prelude.{IfErr}
-use Rattle.std.specs.Result.{IsErr, IsErrAnd}
+use Rattle.std.specs.Result.{IsErrAnd}
 use Rattle.std.proofs.Common.{◌≡◌, ℕ, ◌≤◌, Result, Ok, Err, sym, subst, arith}
 use Rattle.tptp_base.specs.Count.{Rose}
 use Rattle.tptp_run.specs.code.Stop.{HasCause}

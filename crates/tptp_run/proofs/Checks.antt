@@ -1,6 +1,6 @@
 -- How the command `check` ends, by what it meets in turn.
 use Rattle.std.specs.List.{All}
-use Rattle.std.proofs.Common.{◌≡◌, ◌⊎◌, inl, inr, ℕ, ◌+◌, ◌-◌, ◌≤◌, ◌<◌, List, [], ◌∷◌, ◌++◌, length, map, Option, None, Some, IfSome, IfOk, Result, Ok, Err, refl, sym, ◌∙◌, ap, subst, arith}
+use Rattle.std.proofs.Common.{◌≡◌, inl, inr, ℕ, ◌+◌, ◌-◌, ◌≤◌, List, [], ◌∷◌, length, map, Option, None, Some, IfSome, IfOk, Result, Ok, Err, sym, ◌∙◌, ap, subst, arith}
 use Rattle.std.proofs.lemmas.Option.{slice_get_within}
 use Rattle.std.proofs.lemmas.List.Elements.{All-nil, All-cons, All-head, All-tail}
 use Rattle.tptp_base.specs.declared.read.TheConstants.{FILE_SIZE}
@@ -13,7 +13,6 @@ use Rattle.fof_terms.specs.Sorts.{Sorted}
 use Rattle.fof_terms.specs.declared.form.Form.{Form}
 use Rattle.kernel.specs.Statements.{Statements}
 use Rattle.kernel.specs.Entries.{Refutes}
-use Rattle.kernel.specs.declared.entry.Entry.{Entry}
 use Rattle.include_resolve.specs.declared.fault.IncludeFault.{IncludeFault}
 use Rattle.include_resolve.specs.declared.problem.Problem.{Problem}
 use Rattle.include_resolve.specs.Resolved.{Resolves}
@@ -158,7 +157,7 @@ check_asked told words request problem log taken r form is ends = if_answer r en
   where
     answered : (told : Option Files) (answer : Answer) → IfSome told (λ files. EndsCheck files request.root problem log (ending_of answer)) → IfSome told (λ files. IsAnswerWithLog (Said.Ends files words) answer taken taken)
     answered None answer ends = tt
-    answered (Some files) answer ends = ([], takes_nothing taken, inr (request, form, subst (λ (task : Task). Said.EndsTask files request.root task (ending_of answer)) (sym is) ends))
+    answered (Some files) answer ends = ([], takes_nothing taken, inr (request, form, subst (λ (task : Task). Said.EndsTask files request.root request.limit task (ending_of answer)) (sym is) ends))
 
     if_answer : (r : Result Answer Halt) → IfAnswer r (λ answer. IfSome told (λ files. EndsCheck files request.root problem log (ending_of answer))) → IfAnswer r (λ answer. IfSome told (λ files. IsAnswerWithLog (Said.Ends files words) answer taken taken))
     if_answer (Ok answer) ends = answered told answer ends

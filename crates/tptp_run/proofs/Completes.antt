@@ -26,7 +26,7 @@ use Rattle.tptp_run.proofs.GoodEnds.{verify_good}
 use Rattle.tptp_run.proofs.OneEnding.{parse_counts}
 use Rattle.tptp_run.proofs.OneFormat.{format_writes}
 use Rattle.tptp_run.proofs.OneProblem.{one_given, no_include_fault, one_problem, no_sort_fault}
-use Rattle.tptp_run.proofs.Requests.{one_root, one_task}
+use Rattle.tptp_run.proofs.Requests.{one_request}
 use Rattle.tptp_run.proofs.Stages.{if_map}
 
 abbrev status : Ending → ℕ
@@ -62,22 +62,21 @@ module _ (files : Files) (root : Option (List ℕ)) (problem log : List ℕ) (en
   check_complete (inr (whole, resolves, inl (fault, denotes, says))) = no_sort h.theory h.read h.is whole resolves fault denotes
   check_complete (inr (whole, resolves, inr (lines, v, denotes, after))) = log_complete (given_theory lines v) whole.read (whole, resolves, (lines, v, denotes, refl), refl) after
 
-task_complete : (files : Files) (root : Option (List ℕ)) (task : Task) (ending : Ending) → MeetsNoFault files root task → EndsTask files root task ending → ending.status ≡ 0
-task_complete files root (Verify problem derivation named) ending h ends = verify_good files root problem derivation ending h ends
-task_complete files root (Format file) ending h ends = format_complete files file ending h ends
-task_complete files root (Parse file) ending h ends = parse_complete files root file ending h ends
-task_complete files root (Check problem log) ending h ends = check_complete files root problem log ending h ends
+task_complete : (files : Files) (root : Option (List ℕ)) (limit : ℕ) (task : Task) (ending : Ending) → MeetsNoFault files root limit task → EndsTask files root limit task ending → ending.status ≡ 0
+task_complete files root limit (Verify problem derivation named) ending h ends = verify_good files root limit problem derivation ending h ends
+task_complete files root limit (Format file) ending h ends = format_complete files file ending h ends
+task_complete files root limit (Parse file) ending h ends = parse_complete files root file ending h ends
+task_complete files root limit (Check problem log) ending h ends = check_complete files root problem log ending h ends
 
-ends_complete : (files : Files) (words : List (List ℕ)) (request : Request) (ending : Ending) → Ends files words ending → IsForm words request → MeetsNoFault files request.root request.task → ending.status ≡ 0
+ends_complete : (files : Files) (words : List (List ℕ)) (request : Request) (ending : Ending) → Ends files words ending → IsForm words request → MeetsNoFault files request.root request.limit request.task → ending.status ≡ 0
 ends_complete files words request ending (inl none) form h = absurd (none.0 request form)
 ends_complete files words request ending (inr (other, found, ends)) form h =
-    let of_root : Option (List ℕ) → Type 0 = λ root. EndsTask files root request.task ending in
-    let of_task : Task → Type 0 = λ task. EndsTask files other.root task ending in
-    task_complete files request.root request.task ending h (subst of_root (one_root words other request found form) (subst of_task (one_task words other request found form) ends))
+    let asks : Request → Type 0 = λ r. EndsTask files r.root r.limit r.task ending in
+    task_complete files request.root request.limit request.task ending h (subst asks (one_request words other request found form) ends)
 
 -- what the clause says
 abbrev pub Complete : Files → List (List ℕ) → ℕ → Type 0
-Complete files words status = (request : Request) → IsForm words request → MeetsNoFault files request.root request.task → status ≡ 0
+Complete files words status = (request : Request) → IsForm words request → MeetsNoFault files request.root request.limit request.task → status ≡ 0
 
 pub answered_complete : (told : Option Files) (words : List (List ℕ)) (answer : Answer) (old new : Option (List ℕ)) → IfSome told (λ files. IsAnswerWithLog (Ends files words) answer old new) → IsAnswer answer.status → IfSome told (λ files. Complete files words answer.status)
 answered_complete told words answer old new ends is_answer =

@@ -1,5 +1,5 @@
 -- The first fault of a derivation is said.
-use Rattle.std.proofs.Common.{◌≡◌, ℕ, List}
+use Rattle.std.proofs.Common.{ℕ, List}
 use Rattle.tptp_base.specs.declared.name.Name.{Name}
 use Rattle.fof_terms.specs.Vocabulary.{Vocabulary}
 use Rattle.derivation_text.specs.Derivations.{IsDerivationFault}

@@ -154,8 +154,8 @@ first_file name text files = by (pointwise nat_eq name name) refl
 check_of : (files : Files) (words : List (List ℕ)) (request : Request) (problem log : List ℕ) (ending : Ending) → Ends files words ending → IsForm words request → request.task ≡ Check problem log → EndsCheck files request.root problem log ending
 check_of files words request problem log ending (inl none) form is = absurd (none.0 request form)
 check_of files words request problem log ending (inr (other, found, ends)) form is =
-    let of_root : Option (List ℕ) → Type 0 = λ root. EndsTask files root (Check problem log) ending in
-    let of_task : Task → Type 0 = λ task. EndsTask files other.root task ending in
+    let of_root : Option (List ℕ) → Type 0 = λ root. EndsTask files root other.limit (Check problem log) ending in
+    let of_task : Task → Type 0 = λ task. EndsTask files other.root other.limit task ending in
     subst of_root (one_root words other request found form) (subst of_task (one_task words other request found form ∙ is) ends)
 
 pub run_exact : (files : Files) (words : List (List ℕ)) (request : Request) (problem log : List ℕ) (ending : Ending) → Ends files words ending → IsForm words request → request.task ≡ Check problem log → IsRefused files request.root problem ending ⊎ IsExact files request.root problem log ending

@@ -1,5 +1,5 @@
 -- How the text of a file that is formatted ends the command.
-use Rattle.std.proofs.Common.{◌≡◌, inl, inr, ℕ, ◌≤◌, List, length, Option, None, Some, IfSome, Result, Ok, Err}
+use Rattle.std.proofs.Common.{◌≡◌, inl, ℕ, ◌≤◌, List, length, Option, IfSome, Result, Ok, Err}
 use Rattle.tptp_base.specs.Store.{Files, HasFile}
 use Rattle.tptp_base.specs.declared.read.TheConstants.{FILE_SIZE}
 use Rattle.tptp_run.specs.code.Answer.{ending_of}

@@ -19,6 +19,6 @@ pub run_counts : (files : Files) (words : List (List ℕ)) (request : Request) (
     → Resolves (Some files) request.root file (Ok problem) → denoted problem.items first_vocabulary kind.Problem ≡ Ok (lines, v) → ending ≡ counted (formula_count problem.items)
 run_counts files words request file problem lines v ending (inl none) form is resolves denotes = absurd (none.0 request form)
 run_counts files words request file problem lines v ending (inr (other, found, ends)) form is resolves denotes =
-    let of_root : Option (List ℕ) → Type 0 = λ root. EndsTask files root (Parse file) ending in
-    let of_task : Task → Type 0 = λ task. EndsTask files other.root task ending in
+    let of_root : Option (List ℕ) → Type 0 = λ root. EndsTask files root other.limit (Parse file) ending in
+    let of_task : Task → Type 0 = λ task. EndsTask files other.root other.limit task ending in
     parse_counts files request.root file problem lines v ending resolves denotes (subst of_root (one_root words other request found form) (subst of_task (one_task words other request found form ∙ is) ends))

@@ -3,7 +3,6 @@ use Rattle.std.proofs.Common.{◌≡◌, inl, inr, ℕ, suc, ◌-◌, Bool, true
 use Rattle.std.specs.Io.KnownBytes.{append_known}
 use Rattle.tptp_base.specs.Sink.{Takes}
 use Rattle.tptp_base.specs.Store.{Files, file_at}
-use Rattle.tptp_base.specs.declared.place.Place.{Place}
 use Rattle.kernel.specs.Statements.{Statements}
 use Rattle.fof_terms.specs.Vocabulary.{Vocabulary}
 use Rattle.include_resolve.specs.declared.fault.IncludeFault.{IncludeFault}
@@ -41,7 +40,7 @@ use Rattle.tptp_run.specs.Verifying.{EndsChecked, EndsVerify, SaysDerivation, st
 use Rattle.tptp_run.specs.Words.{Task, Verify, Format, Parse, Check, Request, IsForm}
 use Rattle.tptp_run.specs.declared.run.TheConstants.{TOTAL_SIZE}
 use Rattle.tptp_run.specs.declared.stop.Answer.{Answer}
-use Rattle.tptp_run.proofs.Requests.{one_root, one_task}
+use Rattle.tptp_run.proofs.Requests.{one_request}
 use Rattle.tptp_run.proofs.Stages.{if_map}
 
 -- ---- an ending of status 0 is no refusal
@@ -124,24 +123,25 @@ pub verified_is : (verified : Bool) → status_of verified ≡ 0 → verified �
 verified_is true e = refl
 verified_is false e = absurd (omega (arith, e))
 
-module _ (files : Files) (root : Option (List ℕ)) (problem file : List ℕ) (ending : Ending) (old new : Option (List ℕ)) (zero : ending.status ≡ 0) (taken : Takes old new ending.log) where
+module _ (files : Files) (root : Option (List ℕ)) (limit : ℕ) (problem file : List ℕ) (ending : Ending) (old new : Option (List ℕ)) (zero : ending.status ≡ 0) (taken : Takes old new ending.log) where
   checked_refutes : (asked : Asked) (t : Statements) (read : ℕ) (d : Derivation) (w : Vocabulary) → IsGiven (Some files) root problem t read → Brings t.vocabulary w → EndsChecked asked t d w ending → IsRefutation files root problem old new
   checked_refutes asked t read d w given brings ends =
       let all : Checks asked t d w true ending.out ending.log = subst (λ (b : Bool). Checks asked t d w b ending.out ending.log) (verified_is ends.verified (sym ends.status ∙ zero)) ends.checks in
       let shown = refutes_logged asked t d w ending.out ending.log all brings in
       record { theory = t; read = read; is = given; entries = shown.0; taken = taken ∙ ap (append_known old) shown.1; refutes = shown.2; logged = shown.3 }
 
-  verify_refutes : EndsVerify files root problem file ending → IsRefutation files root problem old new
+  verify_refutes : EndsVerify files root limit problem file ending → IsRefutation files root problem old new
   verify_refutes (inl (fault, resolves, says)) = no_include fault ending zero says
   verify_refutes (inr (whole, resolves, inl (fault, denotes, says))) = no_sort whole.files fault ending zero says
   verify_refutes (inr (whole, resolves, inr (lines, v, denotes, after))) =
-      let rest : List ℕ → Ending → Type 0 = SaysDerivation problem file (given_theory lines v) (given_names lines) (conjecture_marks lines) (has_conjecture lines) in
+      let rest : List ℕ → Ending → Type 0 = SaysDerivation problem file limit (given_theory lines v) (given_names lines) (conjecture_marks lines) (has_conjecture lines) in
       let text : (text : List ℕ) × (file_at files file ≡ Some text) × rest text ending = file_read files file (TOTAL_SIZE - whole.read) rest ending zero after in
       derived (whole, resolves, (lines, v, denotes, refl), refl) text.2
     where
-      derived : IsGiven (Some files) root problem (given_theory lines v) whole.read → {text : List ℕ} → SaysDerivation problem file (given_theory lines v) (given_names lines) (conjecture_marks lines) (has_conjecture lines) text ending → IsRefutation files root problem old new
+      derived : IsGiven (Some files) root problem (given_theory lines v) whole.read → {text : List ℕ} → SaysDerivation problem file limit (given_theory lines v) (given_names lines) (conjecture_marks lines) (has_conjecture lines) text ending → IsRefutation files root problem old new
       derived given (inl (fault, first, says)) = no_derivation file fault ending zero says
-      derived given {text = text} (inr (d, w, is, ends)) = checked_refutes _ (given_theory lines v) whole.read d w given (derivation_brings text (given_names lines) v d w is) ends
+      derived given {text = text} (inr (d, w, is, inl ends)) = checked_refutes _ (given_theory lines v) whole.read d w given (derivation_brings text (given_names lines) v d w is) ends
+      derived given (inr (d, w, is, inr lacks)) = absurd (omega (arith, zero, lacks.status))
 
 format_no_verify : (file problem derivation : List ℕ) (log : Option (List ℕ)) → Format file ≡ Verify problem derivation log → ⊥
 format_no_verify file problem derivation log e = cc
@@ -158,22 +158,20 @@ problem_of (Format file) = file
 problem_of (Parse file) = file
 problem_of (Check problem log) = problem
 
-task_refutes : (files : Files) (root : Option (List ℕ)) (task : Task) (problem derivation : List ℕ) (named : Option (List ℕ)) (ending : Ending) (old new : Option (List ℕ)) → ending.status ≡ 0 → Takes old new ending.log → EndsTask files root task ending
+task_refutes : (files : Files) (root : Option (List ℕ)) (limit : ℕ) (task : Task) (problem derivation : List ℕ) (named : Option (List ℕ)) (ending : Ending) (old new : Option (List ℕ)) → ending.status ≡ 0 → Takes old new ending.log → EndsTask files root limit task ending
     → task ≡ Verify problem derivation named → IsRefutation files root problem old new
-task_refutes files root (Verify own other log) problem derivation named ending old new zero taken ends is =
-    subst (λ (name : List ℕ). IsRefutation files root name old new) (ap problem_of is) (verify_refutes files root own other ending old new zero taken ends)
-task_refutes files root (Format file) problem derivation named ending old new zero taken ends is = absurd (format_no_verify file problem derivation named is)
-task_refutes files root (Parse file) problem derivation named ending old new zero taken ends is = absurd (parse_no_verify file problem derivation named is)
-task_refutes files root (Check own other) problem derivation named ending old new zero taken ends is = absurd (check_no_verify own other problem derivation named is)
+task_refutes files root limit (Verify own other log) problem derivation named ending old new zero taken ends is =
+    subst (λ (name : List ℕ). IsRefutation files root name old new) (ap problem_of is) (verify_refutes files root limit own other ending old new zero taken ends)
+task_refutes files root limit (Format file) problem derivation named ending old new zero taken ends is = absurd (format_no_verify file problem derivation named is)
+task_refutes files root limit (Parse file) problem derivation named ending old new zero taken ends is = absurd (parse_no_verify file problem derivation named is)
+task_refutes files root limit (Check own other) problem derivation named ending old new zero taken ends is = absurd (check_no_verify own other problem derivation named is)
 
 ends_refutes : (files : Files) (words : List (List ℕ)) (request : Request) (problem derivation : List ℕ) (named : Option (List ℕ)) (ending : Ending) (old new : Option (List ℕ)) → ending.status ≡ 0 → Takes old new ending.log → Ends files words ending
     → IsForm words request → request.task ≡ Verify problem derivation named → IsRefutation files request.root problem old new
 ends_refutes files words request problem derivation named ending old new zero taken (inl none) form is = absurd (none.0 request form)
 ends_refutes files words request problem derivation named ending old new zero taken (inr (other, found, ends)) form is =
-    let of_root : Option (List ℕ) → Type 0 = λ root. EndsTask files root request.task ending in
-    let of_task : Task → Type 0 = λ task. EndsTask files other.root task ending in
-    task_refutes files request.root request.task problem derivation named ending old new zero taken
-    (subst of_root (one_root words other request found form) (subst of_task (one_task words other request found form) ends)) is
+    let asks : Request → Type 0 = λ r. EndsTask files r.root r.limit r.task ending in
+    task_refutes files request.root request.limit request.task problem derivation named ending old new zero taken (subst asks (one_request words other request found form) ends) is
 
 -- the headline
 pub success_refutes : (told : Option Files) (words : List (List ℕ)) (answer : Answer) (old new : Option (List ℕ)) → IfSome told (λ files. IsAnswerWithLog (Ends files words) answer old new) → answer.status ≡ 0

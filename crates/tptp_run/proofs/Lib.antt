@@ -19,5 +19,4 @@ pub mod Requests
 pub mod Sourced
 pub mod Stages
 pub mod Texts
-pub mod VerifiedGood
 pub mod Verifies

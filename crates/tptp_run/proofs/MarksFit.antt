@@ -1,5 +1,5 @@
 -- The marks of given formulas are as many as these.
-use Rattle.std.proofs.Common.{ℕ, ◌≤◌, List, length, arith}
+use Rattle.std.proofs.Common.{◌≤◌, List, length, arith}
 use Rattle.std.proofs.lemmas.List.{length-map}
 use Rattle.fof_terms.specs.Vocabulary.{Vocabulary}
 use Rattle.sort_check.specs.declared.line.GivenEntry.{GivenEntry}

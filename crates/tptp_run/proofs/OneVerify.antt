@@ -1,9 +1,7 @@
--- The command `verify` has one status and one text on out.
-use Rattle.std.proofs.Common.{◌≡◌, inl, inr, ℕ, ◌-◌, List, length, Option, None, Some, Ok, Err, refl, sym, ◌∙◌, ap, subst}
+-- The command `verify` has one status and one text on out, unless the lines are run.
+use Rattle.std.proofs.Common.{◌≡◌, ◌⊎◌, inl, inr, ℕ, ◌-◌, List, length, Option, None, Some, refl, sym, ◌∙◌, ap, subst}
 use Rattle.tptp_base.specs.declared.name.Name.{Name}
 use Rattle.tptp_base.specs.Store.{Files, file_at}
-use Rattle.tptp_lexer.specs.declared.fault.LexFault.TheVariants as lexed
-use Rattle.tptp_grammar.specs.declared.fault.GrammarFault.TheVariants as parsed
 use Rattle.fof_terms.specs.Vocabulary.{Vocabulary}
 use Rattle.include_resolve.specs.declared.fault.IncludeFault.{IncludeFault}
 use Rattle.include_resolve.specs.declared.problem.Problem.{Problem}
@@ -15,11 +13,10 @@ use Rattle.tstp_graph.specs.declared.fault.GraphFault.TheVariants as graph
 use Rattle.derivation_text.specs.declared.derivation.Derivation.{Derivation}
 use Rattle.derivation_text.specs.declared.fault.DerivationFault.{DerivationFault}
 use Rattle.derivation_text.specs.declared.fault.DerivationFault.TheVariants as derived
-use Rattle.derivation_text.specs.Derivations.{IsDerivation, IsDerivationFault}
+use Rattle.derivation_text.specs.Derivations.{IsDerivationFault}
 use Rattle.derivation_text.specs.Wants.{IsWant}
 use Rattle.derivation_text.proofs.OneDerivation.{one_derivation, one_first_fault, derivation_wants}
 use Rattle.derivation_check.specs.Cases.{Asked}
-use Rattle.derivation_check.proofs.OneCheck.{one_check}
 use Rattle.kernel.specs.Statements.{Statements}
 use Rattle.tptp_run.specs.CheckedLog.{given_theory}
 use Rattle.tptp_run.specs.Denoted.{SaysSortFault, SaysIncludeFault, AfterDenoted}
@@ -27,9 +24,8 @@ use Rattle.tptp_run.specs.Derived.{SaysGraphFault, SaysLineFault, SaysDerivation
 use Rattle.tptp_run.specs.Ending.{Ending, AfterFile}
 use Rattle.tptp_run.specs.Sources.{given_names, conjecture_marks, has_conjecture}
 use Rattle.tptp_run.specs.Spelled.{SaysLexFault, SaysGrammarFault}
-use Rattle.tptp_run.specs.Verifying.{EndsChecked, EndsVerify, SaysDerivation, asked_by, status_of}
+use Rattle.tptp_run.specs.Verifying.{AreOfRuns, EndsRun, EndsVerify, SaysDerivation, asked_by}
 use Rattle.tptp_run.specs.declared.run.TheConstants.{TOTAL_SIZE}
-use Rattle.tptp_run.proofs.MarksFit.{marks_fit}
 use Rattle.tptp_run.proofs.OneEnding.{one_lex_said, one_grammar_said, one_include_said, one_sort_said}
 use Rattle.tptp_run.proofs.OneFormat.{over_or_not}
 use Rattle.tptp_run.proofs.OneProblem.{one_meaning, one_sort_fault, no_sort_fault, one_problem, one_include_fault, no_include_fault}
@@ -38,8 +34,12 @@ use Rattle.tptp_run.proofs.OneProblem.{one_meaning, one_sort_fault, no_sort_faul
 abbrev pub SaySame : Ending → Ending → Type 0
 SaySame a b = (a.status ≡ b.status) × (a.out ≡ b.out)
 
-pub as_same : (a b : Ending) → a ≡ b → SaySame a b
-as_same a b is = (ap (λ (e : Ending). e.status) is, ap (λ (e : Ending). e.out) is)
+-- or both are endings of runs
+abbrev pub SameOrRun : List ℕ → Ending → Ending → Type 0
+SameOrRun file a b = SaySame a b ⊎ AreOfRuns file a b
+
+pub as_same : (file : List ℕ) (a b : Ending) → a ≡ b → SameOrRun file a b
+as_same file a b is = inl (ap (λ (e : Ending). e.status) is, ap (λ (e : Ending). e.out) is)
 
 -- ---- the first fault of a derivation
 
@@ -77,9 +77,9 @@ module _ (a b : Ending) where
 
 -- ---- what is said of a derivation
 
-module _ (problem file : List ℕ) (lines : List Line) (v : Vocabulary) (text : List ℕ) (a b : Ending) where
+module _ (problem file : List ℕ) (limit : ℕ) (lines : List Line) (v : Vocabulary) (text : List ℕ) (a b : Ending) where
   abbrev asked : Asked
-  asked = asked_by problem text (conjecture_marks lines) (has_conjecture lines)
+  asked = asked_by problem text (conjecture_marks lines) (has_conjecture lines) limit
 
   abbrev start : Statements
   start = given_theory lines v
@@ -87,55 +87,50 @@ module _ (problem file : List ℕ) (lines : List Line) (v : Vocabulary) (text : 
   abbrev names : List Name
   names = given_names lines
 
-  one_refusal : (fault other : DerivationFault) → IsDerivationFault text names v fault → IsDerivationFault text names v other → SaysDerivationFault file fault a → SaysDerivationFault file other b → SaySame a b
+  one_refusal : (fault other : DerivationFault) → IsDerivationFault text names v fault → IsDerivationFault text names v other → SaysDerivationFault file fault a → SaysDerivationFault file other b → SameOrRun file a b
   one_refusal fault other first also says said = elim (one_first_fault text names v fault other first also) [
     | inl wants ↦ want_unsaid file fault a wants says
     | inr (inl wants) ↦ want_unsaid file other b wants said
-    | inr (inr same) ↦ as_same a b (one_fault_said a b file fault says (subst (λ (f : DerivationFault). SaysDerivationFault file f b) (sym same) said))
+    | inr (inr same) ↦ as_same file a b (one_fault_said a b file fault says (subst (λ (f : DerivationFault). SaysDerivationFault file f b) (sym same) said))
   ]
 
-  one_checked : (d : Derivation) (w : Vocabulary) → IsDerivation text names v d w → EndsChecked asked start d w a → EndsChecked asked start d w b → SaySame a b
-  one_checked d w (items, spells, are) ends also =
-      let same = one_check asked start d w (marks_fit lines v) are.graph.is_graph.all ends.verified also.verified a.out a.log b.out b.log ends.checks also.checks in
-      (ends.status ∙ ap status_of same.0 ∙ sym also.status, same.1)
-
-  pub one_said : SaysDerivation problem file start names (conjecture_marks lines) (has_conjecture lines) text a → SaysDerivation problem file start names (conjecture_marks lines) (has_conjecture lines) text b → SaySame a b
+  pub one_said : SaysDerivation problem file limit start names (conjecture_marks lines) (has_conjecture lines) text a → SaysDerivation problem file limit start names (conjecture_marks lines) (has_conjecture lines) text b → SameOrRun file a b
   one_said (inl (fault, first, says)) (inl (other, also, said)) = one_refusal fault other first also says said
   one_said (inl (fault, first, says)) (inr (d, w, is, ends)) = want_unsaid file fault a (derivation_wants text names v d w fault is first) says
   one_said (inr (d, w, is, ends)) (inl (fault, first, says)) = want_unsaid file fault b (derivation_wants text names v d w fault is first) says
   one_said (inr (d, w, is, ends)) (inr (e, x, also, rest)) =
       let same = one_derivation text names v e d x w also is in
-      one_checked d w is ends (subst (λ (o : Derivation). EndsChecked asked start o w b) same.0 (subst (λ (o : Vocabulary). EndsChecked asked start e o b) same.1 rest))
+      inr (record { asked = asked; theory = start; derivation = d; vocabulary = w; first = ends; second = subst (λ (o : Derivation). EndsRun asked file start o w b) same.0 (subst (λ (o : Vocabulary). EndsRun asked file start e o b) same.1 rest) })
 
 -- ---- how `verify` ends
 
-module _ (files : Files) (root : Option (List ℕ)) (problem file : List ℕ) (a b : Ending) where
+module _ (files : Files) (root : Option (List ℕ)) (limit : ℕ) (problem file : List ℕ) (a b : Ending) where
   abbrev Rest : Problem → List Line → Vocabulary → Ending → Type 0
-  Rest whole lines v = AfterFile files file (TOTAL_SIZE - whole.read) (SaysDerivation problem file (given_theory lines v) (given_names lines) (conjecture_marks lines) (has_conjecture lines))
+  Rest whole lines v = AfterFile files file (TOTAL_SIZE - whole.read) (SaysDerivation problem file limit (given_theory lines v) (given_names lines) (conjecture_marks lines) (has_conjecture lines))
 
-  one_rest : (whole : Problem) (lines : List Line) (v : Vocabulary) → Rest whole lines v a → Rest whole lines v b → SaySame a b
+  one_rest : (whole : Problem) (lines : List Line) (v : Vocabulary) → Rest whole lines v a → Rest whole lines v b → SameOrRun file a b
   one_rest whole lines v h k = go (file_at files file) refl
     where
-      go : (found : Option (List ℕ)) → file_at files file ≡ found → SaySame a b
-      go None is = as_same a b (h.missing is ∙ sym (k.missing is))
+      go : (found : Option (List ℕ)) → file_at files file ≡ found → SameOrRun file a b
+      go None is = as_same file a b (h.missing is ∙ sym (k.missing is))
       go (Some text) is = elim (over_or_not (TOTAL_SIZE - whole.read) (length text)) [
-        | inl over ↦ as_same a b (h.limit over.0 text is over.1 ∙ sym (k.limit over.0 text is over.1))
-        | inr fits ↦ one_said problem file lines v text a b (h.read text is fits) (k.read text is fits)
+        | inl over ↦ as_same file a b (h.limit over.0 text is over.1 ∙ sym (k.limit over.0 text is over.1))
+        | inr fits ↦ one_said problem file limit lines v text a b (h.read text is fits) (k.read text is fits)
       ]
 
   abbrev After : Problem → Ending → Type 0
   After whole = AfterDenoted whole (Rest whole)
 
-  one_after : (whole : Problem) → After whole a → After whole b → SaySame a b
-  one_after whole (inl (fault, h, says)) (inl (other, k, said)) = as_same a b (one_sort_said a b whole.files fault says (subst (λ (f : SortFault). SaysSortFault whole.files f b) (one_sort_fault whole.items other fault k h) said))
+  one_after : (whole : Problem) → After whole a → After whole b → SameOrRun file a b
+  one_after whole (inl (fault, h, says)) (inl (other, k, said)) = as_same file a b (one_sort_said a b whole.files fault says (subst (λ (f : SortFault). SaysSortFault whole.files f b) (one_sort_fault whole.items other fault k h) said))
   one_after whole (inl (fault, h, says)) (inr (lines, v, k, rest)) = absurd (no_sort_fault whole.items fault lines v h k)
   one_after whole (inr (lines, v, h, rest)) (inl (fault, k, says)) = absurd (no_sort_fault whole.items fault lines v k h)
   one_after whole (inr (lines, v, h, rest)) (inr (others, w, k, also)) =
       let same = one_meaning whole.items others lines w v k h in
       one_rest whole lines v rest (subst (λ (ls : List Line). Rest whole ls v b) same.0 (subst (λ (x : Vocabulary). Rest whole others x b) same.1 also))
 
-  pub one_verify : EndsVerify files root problem file a → EndsVerify files root problem file b → SaySame a b
-  one_verify (inl (fault, h, says)) (inl (other, k, said)) = as_same a b (one_include_said a b fault says (subst (λ (f : IncludeFault). SaysIncludeFault f b) (one_include_fault files root problem other fault k h) said))
+  pub one_verify : EndsVerify files root limit problem file a → EndsVerify files root limit problem file b → SameOrRun file a b
+  one_verify (inl (fault, h, says)) (inl (other, k, said)) = as_same file a b (one_include_said a b fault says (subst (λ (f : IncludeFault). SaysIncludeFault f b) (one_include_fault files root problem other fault k h) said))
   one_verify (inl (fault, h, says)) (inr (whole, k, rest)) = absurd (no_include_fault files root problem fault whole h k)
   one_verify (inr (whole, h, rest)) (inl (fault, k, says)) = absurd (no_include_fault files root problem fault whole k h)
   one_verify (inr (whole, h, rest)) (inr (other, k, also)) = one_after whole rest (subst (λ (p : Problem). After p b) (one_problem files root problem other whole k h) also)

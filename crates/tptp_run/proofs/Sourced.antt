@@ -1,11 +1,10 @@
 -- What a problem gives to a derivation from it.
 use Rattle.std.specs.List.{All}
-use Rattle.std.proofs.Common.{◌≡◌, ℕ, ◌+◌, ◌<◌, ◌≤◌, ◌^◌, Bool, false, List, [], ◌∷◌, length, map, Option, Some, None, Result, Ok, Err, refl, sym, ◌∙◌, ap, subst, arith}
+use Rattle.std.proofs.Common.{◌≡◌, ℕ, ◌+◌, ◌<◌, ◌≤◌, ◌^◌, false, List, [], ◌∷◌, length, map, Option, Some, None, Result, Ok, Err, refl, sym, ◌∙◌, ap, subst, arith}
 use Rattle.std.proofs.lemmas.List.{length-map}
 use Rattle.std.proofs.lemmas.List.Elements.{All-nil, All-cons, All-head, All-tail}
 use Rattle.tptp_base.specs.declared.item.Item.{Item}
 use Rattle.tptp_base.specs.declared.memory.Memory.{Memory}
-use Rattle.tptp_base.specs.declared.name.Name.{Name}
 use Rattle.tptp_base.specs.Store.{Files}
 use Rattle.fof_terms.specs.Vocabulary.{Vocabulary}
 use Rattle.fof_terms.specs.declared.form.Form.{Form}
@@ -18,7 +17,7 @@ use Rattle.sort_check.specs.declared.line.GivenEntry.{GivenEntry}
 use Rattle.sort_check.specs.declared.line.TextKind.{TextKind}
 use Rattle.sort_check.specs.declared.line.TextKind.TheVariants as kind
 use Rattle.sort_check.specs.Given.{given_entries, given_form, with_entry}
-use Rattle.sort_check.specs.Outcomes.{Outcome, and_then, mapped}
+use Rattle.sort_check.specs.Outcomes.{Outcome, mapped}
 use Rattle.sort_check.specs.Sorting.{AreSorted, AreGivenSorted, IsSentence}
 use Rattle.sort_check.specs.Symbols.{Text}
 use Rattle.sort_check.specs.Texts.{Declared, Reading, line_item, with_line, lines_from, type_lines, only_vocabulary, denoted}

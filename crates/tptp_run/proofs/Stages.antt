@@ -1,5 +1,5 @@
 -- What is said of a file that is not read, and what follows one that is.
-use Rattle.std.proofs.Common.{◌≡◌, inl, inr, ℕ, ◌-◌, ◌≤◌, List, [], length, Option, None, Some, IfSome, IsSomeAnd, Err, refl, sym, ◌∙◌, ap, subst, arith}
+use Rattle.std.proofs.Common.{◌≡◌, inl, inr, ℕ, ◌≤◌, List, [], length, Option, None, Some, IfSome, IsSomeAnd, Err, refl, sym, ◌∙◌, ap, subst, arith}
 use Rattle.tptp_base.specs.Read.{IsOver}
 use Rattle.tptp_base.specs.Store.{Files, HasFile, file_at}
 use Rattle.tptp_base.specs.declared.limit.LimitName.{LimitName}

@@ -1,8 +1,8 @@
 -- How the command `verify` ends, by what it meets in turn.
-use Rattle.std.specs.Prelude.{IfOk, IfErr}
-use Rattle.std.proofs.Common.{◌≡◌, ◌⊎◌, inl, inr, ℕ, ◌-◌, ◌≤◌, Bool, List, [], length, Option, None, Some, IfSome, Result, Ok, Err, refl, sym, ◌∙◌, ap, subst, arith}
+use Rattle.std.specs.Prelude.{IfOk}
+use Rattle.std.proofs.Common.{◌≡◌, inl, inr, ℕ, ◌-◌, ◌<◌, ◌≤◌, Bool, List, [], length, Option, None, Some, IfSome, Result, Ok, Err, refl, sym, ◌∙◌, ap, subst, arith}
+use Rattle.std.proofs.lemmas.Option.{slice_get_within}
 use Rattle.tptp_base.specs.Count.{Rose}
-use Rattle.tptp_base.specs.Sink.{Takes}
 use Rattle.tptp_base.specs.Store.{Files, HasFile}
 use Rattle.tptp_base.specs.declared.name.Name.{Name}
 use Rattle.tptp_base.specs.declared.read.TheConstants.{FILE_SIZE}
@@ -11,22 +11,23 @@ use Rattle.fof_terms.specs.Vocabulary.{Vocabulary}
 use Rattle.kernel.specs.Statements.{Statements}
 use Rattle.derivation_check.specs.Cases.{Asked}
 use Rattle.derivation_check.specs.Checks.{Checks}
-use Rattle.derivation_check.specs.Logs.{ChecksWithLog, TakesSomeOfLog}
+use Rattle.derivation_check.specs.Logs.{ChecksWithLog, StopsWithLog, TakesSomeOfLog}
 use Rattle.derivation_check.specs.declared.checking.Report.{Report}
 use Rattle.derivation_text.specs.Derivations.{IsDerivation}
 use Rattle.derivation_text.specs.declared.derivation.Derivation.{Derivation}
 use Rattle.tptp_run.specs.code.Answer.{ending_of, with_log, IsAnswerWithLog}
-use Rattle.tptp_run.specs.CheckedLog.{given_theory, IsGiven}
+use Rattle.tptp_run.specs.CheckedLog.{given_theory}
 use Rattle.tptp_run.specs.Denoted.{IsProblemRefusal}
 use Rattle.tptp_run.specs.Derived.{IsDerivationRefusal}
 use Rattle.tptp_run.specs.Ending.{Ending, AfterFile}
 use Rattle.tptp_run.specs.code.Ending.{IsReadRefusal}
 use Rattle.tptp_run.specs.Ends as Said
 use Rattle.tptp_run.specs.Outcome.{TakesSomeOfProblemLog, TakesSomeOfTaskLog, TakesSomeOfRunLog}
+use Rattle.tptp_run.specs.code.Rooms.{SaysLacking}
 use Rattle.tptp_run.specs.code.Sources.{IsSource}
 use Rattle.tptp_run.specs.Sources.{given_names, conjecture_marks, has_conjecture}
 use Rattle.tptp_run.specs.code.Stop.{HasCause, IfAnswer, IfRefused, IfStopped}
-use Rattle.tptp_run.specs.Verifying.{EndsChecked, EndsVerify, SaysDerivation, asked_by, status_of}
+use Rattle.tptp_run.specs.Verifying.{EndsRun, EndsVerify, SaysDerivation, asked_by, status_of}
 use Rattle.tptp_run.specs.Words.{Task, Verify, Request, IsForm}
 use Rattle.tptp_run.specs.declared.run.TheConstants.{TOTAL_SIZE}
 use Rattle.tptp_run.specs.declared.sources.Source.{Source}
@@ -39,16 +40,43 @@ use Rattle.tptp_run.proofs.Stages.{after_read, after_refused, if_told, if_map}
 
 -- ---- the report
 
--- the report of a check ends the command
-pub report_ends : (asked : Asked) (t : Statements) (d : Derivation) (w : Vocabulary) (report : Report) (answer : Answer) (old new : Option (List ℕ)) → ChecksWithLog asked t d w report old new → answer.status ≡ status_of report.verified → answer.text ≡ report.text → IsAnswerWithLog (EndsChecked asked t d w) answer old new
-report_ends asked t d w report answer old new (log, taken, checks) status text =
-    (log, taken, record { verified = report.verified; status = status; checks = subst (λ (out : List ℕ). Checks asked t d w report.verified out log) (sym text) checks })
+module _ (asked : Asked) (file : List ℕ) (t : Statements) (d : Derivation) (w : Vocabulary) (answer : Answer) (old new : Option (List ℕ)) where
+  -- the report of a check ends the command
+  pub report_ends : (report : Report) → ChecksWithLog asked t d w report old new → answer.status ≡ status_of report.verified → answer.text ≡ report.text → IsAnswerWithLog (EndsRun asked file t d w) answer old new
+  report_ends report (log, taken, checks) status text =
+      (log, taken, inl (record { verified = report.verified; status = status; checks = subst (λ (out : List ℕ). Checks asked t d w report.verified out log) (sym text) checks }))
+
+  -- or a line for which there is no room
+  pub room_ends : (number : ℕ) → StopsWithLog asked t d w old new number → SaysLacking file d.names d.places number (ending_of answer) → IsAnswerWithLog (EndsRun asked file t d w) answer old new
+  room_ends number (log, taken, stops) says = (
+    log,
+    taken,
+    inr (record {
+      number = number;
+      name = says.name;
+      named = says.named;
+      place = says.place;
+      placed = says.placed;
+      status = ap (λ (e : Ending). e.status) says.is;
+      out = ap (λ (e : Ending). e.out) says.is;
+      stops = stops;
+    }),
+  )
+
+-- the same of what a call says
+pub room_said : (asked : Asked) (file : List ℕ) (t : Statements) (d : Derivation) (w : Vocabulary) (old new : Option (List ℕ)) (number : ℕ) (r : Result Answer Stop) → StopsWithLog asked t d w old new number → IfOk r (λ answer. SaysLacking file d.names d.places number (ending_of answer)) → IfOk r (λ answer. IsAnswerWithLog (EndsRun asked file t d w) answer old new)
+room_said asked file t d w old new number (Ok answer) stops says = room_ends asked file t d w answer old new number stops says
+room_said asked file t d w old new number (Err stop) stops says = tt
+
+-- the line for which there is no room is there
+pub stops_within : (asked : Asked) (t : Statements) (d : Derivation) (w : Vocabulary) (old new : Option (List ℕ)) (number : ℕ) → StopsWithLog asked t d w old new number → number < length d.graph.nodes
+stops_within asked t d w old new number (log, taken, stops) = slice_get_within d.graph.nodes number stops.stopped.lacks.line.node stops.stopped.lacks.there.node
 
 -- ---- the text of a derivation
 
-module _ (problem file text : List ℕ) (t : Statements) (names : List Name) (marks : List Bool) (conjecture : Bool) where
+module _ (problem file text : List ℕ) (limit : ℕ) (t : Statements) (names : List Name) (marks : List Bool) (conjecture : Bool) where
   abbrev pub Says : Ending → Type 0
-  Says = SaysDerivation problem file t names marks conjecture text
+  Says = SaysDerivation problem file limit t names marks conjecture text
 
   -- a refusal
   pub text_refused : (T : Type 0) (halt : Halt) (v : Vocabulary) (log : Option (List ℕ)) → t.vocabulary ≡ v → IfRefused {T = T} (Err halt) (λ answer. IsDerivationRefusal file text names v (ending_of answer)) → IfAnswer (Err halt) (λ answer. IsAnswerWithLog Says answer log log)
@@ -56,7 +84,7 @@ module _ (problem file text : List ℕ) (t : Statements) (names : List Name) (ma
   text_refused T (Stopped stop) v log same refused = tt
 
   -- a derivation, and what is answered of it
-  pub text_answered : (answer : Answer) (d : Derivation) (v w : Vocabulary) (old new : Option (List ℕ)) → t.vocabulary ≡ v → IsDerivation text names v d w → IsAnswerWithLog (EndsChecked (asked_by problem text marks conjecture) t d w) answer old new → IsAnswerWithLog Says answer old new
+  pub text_answered : (answer : Answer) (d : Derivation) (v w : Vocabulary) (old new : Option (List ℕ)) → t.vocabulary ≡ v → IsDerivation text names v d w → IsAnswerWithLog (EndsRun (asked_by problem text marks conjecture limit) file t d w) answer old new → IsAnswerWithLog Says answer old new
   text_answered answer d v w old new same is (log, taken, ends) = (log, taken, inr (d, w, subst (λ (u : Vocabulary). IsDerivation text names u d w) (sym same) is, ends))
 
 -- ---- the file of a derivation
@@ -82,9 +110,9 @@ module _ (told : Option Files) (file : List ℕ) (budget : ℕ) (P : List ℕ �
 
 -- ---- the whole command
 
-module _ (root : Option (List ℕ)) (problem file : List ℕ) where
+module _ (root : Option (List ℕ)) (limit : ℕ) (problem file : List ℕ) where
   abbrev Ends : Option Files → Answer → Option (List ℕ) → Option (List ℕ) → Type 0
-  Ends told answer old new = IfSome told (λ files. IsAnswerWithLog (EndsVerify files root problem file) answer old new)
+  Ends told answer old new = IfSome told (λ files. IsAnswerWithLog (EndsVerify files root limit problem file) answer old new)
 
   refused_here : (told : Option Files) (answer : Answer) (log : Option (List ℕ)) → IsProblemRefusal told root problem (ending_of answer) → Ends told answer log log
   refused_here None answer log refused = tt
@@ -98,17 +126,17 @@ module _ (root : Option (List ℕ)) (problem file : List ℕ) where
 
   module _ (source : Source) where
     abbrev pub Rest : List ℕ → Ending → Type 0
-    Rest = SaysDerivation problem file source.theory source.names source.marks source.has_conjecture
+    Rest = SaysDerivation problem file limit source.theory source.names source.marks source.has_conjecture
 
     source_then : (told : Option Files) (answer : Answer) (old new : Option (List ℕ)) → IsSource told root problem source → IfSome told (λ files. IsAnswerWithLog (AfterFile files file (TOTAL_SIZE - source.read) Rest) answer old new) → Ends told answer old new
     source_then None answer old new is after = tt
     source_then (Some files) answer old new (whole, resolves, (lines, v, denotes, gives, read_is)) (log, taken, after) =
         let ending : Ending = with_log answer log in
-        let of_read : ℕ → Type 0 = λ n. AfterFile files file (TOTAL_SIZE - n) (SaysDerivation problem file (given_theory lines v) (given_names lines) (conjecture_marks lines) (has_conjecture lines)) ending in
-        let of_theory : Statements → Type 0 = λ t. AfterFile files file (TOTAL_SIZE - source.read) (SaysDerivation problem file t (given_names lines) (conjecture_marks lines) (has_conjecture lines)) ending in
-        let of_names : List Name → Type 0 = λ ns. AfterFile files file (TOTAL_SIZE - source.read) (SaysDerivation problem file source.theory ns (conjecture_marks lines) (has_conjecture lines)) ending in
-        let of_marks : List Bool → Type 0 = λ ms. AfterFile files file (TOTAL_SIZE - source.read) (SaysDerivation problem file source.theory source.names ms (has_conjecture lines)) ending in
-        let of_conjecture : Bool → Type 0 = λ b. AfterFile files file (TOTAL_SIZE - source.read) (SaysDerivation problem file source.theory source.names source.marks b) ending in
+        let of_read : ℕ → Type 0 = λ n. AfterFile files file (TOTAL_SIZE - n) (SaysDerivation problem file limit (given_theory lines v) (given_names lines) (conjecture_marks lines) (has_conjecture lines)) ending in
+        let of_theory : Statements → Type 0 = λ t. AfterFile files file (TOTAL_SIZE - source.read) (SaysDerivation problem file limit t (given_names lines) (conjecture_marks lines) (has_conjecture lines)) ending in
+        let of_names : List Name → Type 0 = λ ns. AfterFile files file (TOTAL_SIZE - source.read) (SaysDerivation problem file limit source.theory ns (conjecture_marks lines) (has_conjecture lines)) ending in
+        let of_marks : List Bool → Type 0 = λ ms. AfterFile files file (TOTAL_SIZE - source.read) (SaysDerivation problem file limit source.theory source.names ms (has_conjecture lines)) ending in
+        let of_conjecture : Bool → Type 0 = λ b. AfterFile files file (TOTAL_SIZE - source.read) (SaysDerivation problem file limit source.theory source.names source.marks b) ending in
         (log, taken, inr (whole, resolves, inr (lines, v, denotes, subst of_read read_is (subst of_theory gives.theory (subst of_names gives.names (subst of_marks gives.marks (subst of_conjecture gives.conjecture after)))))))
 
     -- the derivation's file is looked at
@@ -152,11 +180,11 @@ text_stopped (Err (Stopped Memory)) S L cause = tt
 -- ---- the words that ask for it
 
 module _ (words : List (List ℕ)) (request : Request) (problem derivation : List ℕ) (named : Option (List ℕ)) (form : IsForm words request) (is : request.task ≡ Verify problem derivation named) where
-  asked_one : (told : Option Files) (answer : Answer) (old new : Option (List ℕ)) → IfSome told (λ files. IsAnswerWithLog (EndsVerify files request.root problem derivation) answer old new) → IfSome told (λ files. IsAnswerWithLog (Said.Ends files words) answer old new)
+  asked_one : (told : Option Files) (answer : Answer) (old new : Option (List ℕ)) → IfSome told (λ files. IsAnswerWithLog (EndsVerify files request.root request.limit problem derivation) answer old new) → IfSome told (λ files. IsAnswerWithLog (Said.Ends files words) answer old new)
   asked_one None answer old new ends = tt
-  asked_one (Some files) answer old new (log, taken, ends) = (log, taken, inr (request, form, subst (λ (task : Task). Said.EndsTask files request.root task (with_log answer log)) (sym is) ends))
+  asked_one (Some files) answer old new (log, taken, ends) = (log, taken, inr (request, form, subst (λ (task : Task). Said.EndsTask files request.root request.limit task (with_log answer log)) (sym is) ends))
 
-  pub verify_asked : (told : Option Files) (r : Result Answer Halt) (old new : Option (List ℕ)) → IfAnswer r (λ answer. IfSome told (λ files. IsAnswerWithLog (EndsVerify files request.root problem derivation) answer old new)) → IfAnswer r (λ answer. IfSome told (λ files. IsAnswerWithLog (Said.Ends files words) answer old new))
+  pub verify_asked : (told : Option Files) (r : Result Answer Halt) (old new : Option (List ℕ)) → IfAnswer r (λ answer. IfSome told (λ files. IsAnswerWithLog (EndsVerify files request.root request.limit problem derivation) answer old new)) → IfAnswer r (λ answer. IfSome told (λ files. IsAnswerWithLog (Said.Ends files words) answer old new))
   verify_asked told (Ok answer) old new ends = asked_one told answer old new ends
   verify_asked told (Err (Refused answer)) old new ends = asked_one told answer old new ends
   verify_asked told (Err (Stopped stop)) old new ends = tt

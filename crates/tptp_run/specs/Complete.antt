@@ -32,8 +32,8 @@ pub record IsRefutedByLog (files : Files) (root : Option (List ℕ)) (problem lo
   pub refuted : HasRefutation files log theory read
 
 -- the files have no fault that the task could meet
-abbrev pub MeetsNoFault : Files → Option (List ℕ) → Task → Type 0
-MeetsNoFault files root (Verify problem derivation log) = AreGood files root problem derivation
-MeetsNoFault files root (Format file) = IsWellSpelled files file
-MeetsNoFault files root (Parse file) = IsWellSorted files root file
-MeetsNoFault files root (Check problem log) = IsRefutedByLog files root problem log
+abbrev pub MeetsNoFault : Files → Option (List ℕ) → ℕ → Task → Type 0
+MeetsNoFault files root limit (Verify problem derivation log) = AreGood files root limit problem derivation
+MeetsNoFault files root limit (Format file) = IsWellSpelled files file
+MeetsNoFault files root limit (Parse file) = IsWellSorted files root file
+MeetsNoFault files root limit (Check problem log) = IsRefutedByLog files root problem log

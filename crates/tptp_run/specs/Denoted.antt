@@ -1,6 +1,5 @@
 -- What a problem with its includes gives, or what is said of the first fault in it.
 use Rattle.std.specs.Prelude.{◌≡◌, ◌⊎◌, ℕ, List, ◌∷◌, ◌++◌, codes, get_or, Option, Some, Ok, Err}
-use Rattle.tptp_base.specs.declared.item.Item.{Item}
 use Rattle.tptp_base.specs.declared.limit.LimitName.TheVariants.{IncludeDepth}
 use Rattle.tptp_base.specs.declared.name.Name.{Name}
 use Rattle.tptp_base.specs.declared.place.Place.{Place}
@@ -15,7 +14,6 @@ use Rattle.include_resolve.specs.Resolved.{Resolves}
 use Rattle.sort_check.specs.declared.fault.SortFault.{SortFault}
 use Rattle.sort_check.specs.declared.fault.SortRule.{SortRule}
 use Rattle.sort_check.specs.declared.line.Line.{Line}
-use Rattle.sort_check.specs.Outcomes.{Outcome}
 use Rattle.sort_check.specs.Texts.{denoted}
 use Rattle.tptp_run.specs.Ending.{Ending, says, no_such_file, limit_text, over_limit}
 use Rattle.szs_report.specs.Report.{text_line}

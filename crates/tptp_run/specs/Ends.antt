@@ -10,13 +10,13 @@ use Rattle.tptp_run.specs.Verifying.{EndsVerify}
 use Rattle.tptp_run.specs.Words.{Task, Verify, Format, Parse, Check, Request, IsForm, HaveNoForm}
 use Rattle.tptp_run.specs.declared.run.TheConstants.{USAGE}
 
--- how each task ends, where included files are looked for in the root too
-abbrev pub EndsTask : Files → Option (List ℕ) → Task → Ending → Type 0
-EndsTask files root (Verify problem derivation log) ending = EndsVerify files root problem derivation ending
-EndsTask files root (Format file) ending = EndsFormat files file ending
-EndsTask files root (Parse file) ending = EndsParse files root file ending
-EndsTask files root (Check problem log) ending = EndsCheck files root problem log ending
+-- how each task ends, where included files are looked for in the root too, and a search keeps so many clauses at most
+abbrev pub EndsTask : Files → Option (List ℕ) → ℕ → Task → Ending → Type 0
+EndsTask files root limit (Verify problem derivation log) ending = EndsVerify files root limit problem derivation ending
+EndsTask files root limit (Format file) ending = EndsFormat files file ending
+EndsTask files root limit (Parse file) ending = EndsParse files root file ending
+EndsTask files root limit (Check problem log) ending = EndsCheck files root problem log ending
 
 -- how a run on these words ends
 abbrev pub Ends : Files → List (List ℕ) → Ending → Type 0
-Ends files words ending = (HaveNoForm words × (ending ≡ says 2 USAGE.now)) ⊎ ((request : Request) × IsForm words request × EndsTask files request.root request.task ending)
+Ends files words ending = (HaveNoForm words × (ending ≡ says 2 USAGE.now)) ⊎ ((request : Request) × IsForm words request × EndsTask files request.root request.limit request.task ending)

@@ -2,5 +2,6 @@
 pub mod Answer
 pub mod Ending
 pub mod Options
+pub mod Rooms
 pub mod Sources
 pub mod Stop

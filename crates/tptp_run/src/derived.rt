@@ -43,6 +43,7 @@ pub fn read_derived(
     ensures sentences { IfOk result (λ d. All (IsSentence signature.new) d.forms) }
     ensures each_form { IfOk result (λ d. length d.forms ≡ length d.graph.nodes) }
     ensures each_name { IfOk result (λ d. length d.names ≡ length d.graph.nodes) }
+    ensures each_place { IfOk result (λ d. length d.places ≡ length d.graph.nodes) }
 {
     match read_derivation(alloc, text, given, signature) {
         Ok(derivation) => Ok(derivation),

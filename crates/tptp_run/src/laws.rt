@@ -12,11 +12,10 @@ ghost use Rattle.tptp_run.specs.Contradictory.{RefutesAxioms};
 ghost use Rattle.tptp_run.specs.Ending.{Ending};
 ghost use Rattle.tptp_run.specs.Ends.{Ends};
 ghost use Rattle.tptp_run.specs.Formatted.{EndsFormat};
-ghost use Rattle.tptp_run.specs.GoodRuns.{AreGood};
 ghost use Rattle.tptp_run.specs.Outcome.{IsRefutation};
 ghost use Rattle.tptp_run.specs.Parsed.{EndsParse};
 ghost use Rattle.tptp_run.specs.Refuted.{IsInBudget, GivesTheSame, IsExact, IsRefused};
-ghost use Rattle.tptp_run.specs.Verifying.{EndsVerify};
+ghost use Rattle.tptp_run.specs.Verifying.{AreOfRuns, EndsVerify};
 ghost use Rattle.tptp_run.specs.Words.{Check, Verify, Request, IsForm};
 
 /// A check ends with status 0 exactly where the file has the text of a log, within the limits, whose entries refute
@@ -78,20 +77,14 @@ pub fn format_has_one_ending()
         EndsFormat files file ending → EndsFormat files file other → ending ≡ other }
 {}
 
-/// The command `verify` ends in one way: with one status and one text on out. The entries of its log may differ.
+/// The command `verify` ends in one way, with one status and one text on out, but where it runs the lines: then two
+/// endings are of runs of one derivation over one theory. (Of such runs the one that makes no search has one report, but
+/// two searches for a line may keep different clauses.)
 pub fn verify_has_one_ending()
-    ensures { (files : StoreFiles) (root : Option (List ℕ)) (problem derivation : List ℕ) (ending other : Ending) →
-        EndsVerify files root problem derivation ending → EndsVerify files root problem derivation other
-        → (ending.status ≡ other.status) × (ending.out ≡ other.out) }
-{}
-
-/// What is verified is good. So of all problems and derivations, status 0 comes exactly to the good ones.
-pub fn a_verified_run_is_good()
-    ensures { (files : StoreFiles) (words : List (List ℕ)) (request : Request) (problem derivation : List ℕ)
-        (named : Option (List ℕ)) (ending : Ending)
-        → Ends files words ending → IsForm words request → request.task ≡ Verify problem derivation named
-        → ending.status ≡ 0
-        → AreGood files request.root problem derivation }
+    ensures { (files : StoreFiles) (root : Option (List ℕ)) (limit : ℕ) (problem derivation : List ℕ)
+        (ending other : Ending) →
+        EndsVerify files root limit problem derivation ending → EndsVerify files root limit problem derivation other
+        → ((ending.status ≡ other.status) × (ending.out ≡ other.out)) ⊎ AreOfRuns derivation ending other }
 {}
 
 /// Words ask for one request at most.

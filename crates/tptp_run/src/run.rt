@@ -30,8 +30,8 @@ pub const USAGE: &str =
 
 /// Runs the command that the words ask for, and answers its status: 0 where it succeeded, 1 where the derivation is not
 /// verified, 2 where the words ask for nothing, 3 where a file is missing or a text is faulty, 4 where the store
-/// failed, 5 where a sink failed, 6 where memory is wanting, 7 where a limit is passed. All that it reads comes from
-/// the store, and all that it writes goes to the two sinks.
+/// failed, 5 where a sink failed, 6 where memory is wanting, 7 where a limit is passed, or at a line for which the
+/// symbols leave no room. All that it reads comes from the store, and all that it writes goes to the two sinks.
 pub fn run_tptp<S: Store, O: Sink, L: Sink>(
     alloc: Global,
     words: &[String],
@@ -53,12 +53,12 @@ pub fn run_tptp<S: Store, O: Sink, L: Sink>(
     ensures good { IsAnswer result
         → IfSome (S.files store.old) (λ files. (request : Request) → IsForm (texts words.now) request
         → (problem derivation : List ℕ) (named : Option (List ℕ)) → request.task ≡ Verify problem derivation named
-        → AreGood files request.root problem derivation → result ≡ 0) }
+        → AreGood files request.root request.limit problem derivation → result ≡ 0) }
 
     // An answer to a task that meets no fault in the files is that it succeeded.
     ensures complete { IsAnswer result
         → IfSome (S.files store.old) (λ files. (request : Request) → IsForm (texts words.now) request
-        → MeetsNoFault files request.root request.task → result ≡ 0) }
+        → MeetsNoFault files request.root request.limit request.task → result ≡ 0) }
 
     // A file is said to be missing only where the store answered that it is.
     ensures missing { result ≡ 3
@@ -137,7 +137,8 @@ fn run_words<S: Store, L: Sink>(
     };
     match command.job {
         Job::Verify(problem, derivation, _) => {
-            verify(alloc, store, log, command.root, problem, derivation)
+            let limit = command.limit;
+            verify(alloc, store, log, command.root, problem, derivation, limit)
         }
         Job::Format(file) => format(alloc, store, file),
         Job::Parse(file) => parse(alloc, store, command.root, file),

@@ -2,11 +2,10 @@
 ghost use Rattle.std.specs.Prelude.{◌≡◌, string_bytes};
 ghost use Rattle.tptp_run.specs.declared.stop.Halt.TheVariants.{Stopped};
 ghost use Rattle.tptp_run.specs.declared.stop.Stop.TheVariants.{Memory as StopMemory};
-ghost use Rattle.tptp_run.specs.code.Stop.{stop_of, stop_of_run};
+ghost use Rattle.tptp_run.specs.code.Stop.{stop_of};
 
 use std::alloc::AllocError;
 use tptp_base::{Memory, SinkFault, Text};
-use verifier::RunFault;
 
 /// A status and the text that goes with it.
 #[derive(Drop)]
@@ -77,17 +76,6 @@ impl From<SinkFault> for Stop {
         match fault {
             SinkFault::Failed => Stop::Sink,
             SinkFault::Memory => Stop::Memory,
-        }
-    }
-}
-
-impl From<RunFault> for Stop {
-    ghost from_gives = { λ fault stop. stop ≡ stop_of_run fault };
-
-    fn from(fault: RunFault) -> Self {
-        match fault {
-            RunFault::Sink => Stop::Sink,
-            RunFault::Memory => Stop::Memory,
         }
     }
 }

@@ -5,15 +5,18 @@ ghost use Rattle.std.specs.Option.{option_copied};
 ghost use Rattle.tptp_base.specs.Count.{Rose};
 ghost use Rattle.sort_check.specs.Sorting.{AreDeclared, Extends, IsSentence};
 ghost use Rattle.tstp_graph.specs.Graphs.{IsOrdered};
+ghost use Rattle.derivation_check.specs.Cases.{asked_of};
 ghost use Rattle.derivation_check.specs.Logs.{TakesSomeOfLog};
 ghost use Rattle.tptp_run.specs.code.Answer.{ending_of, IsAnswerWithLog};
 ghost use Rattle.tptp_run.specs.Derived.{IsDerivationRefusal};
 ghost use Rattle.tptp_run.specs.Ending.{AfterFile};
 ghost use Rattle.tptp_run.specs.OtherFaults.{SaysDerivedFault, SaysLinesFault, SaysProblemFault};
 ghost use Rattle.tptp_run.specs.Outcome.{IsAnswer, TakesSomeOfProblemLog};
+ghost use Rattle.tptp_run.specs.code.Rooms.{SaysLacking};
 ghost use Rattle.tptp_run.specs.code.Stop.{HasCause, IfAnswer, IfStopped};
-ghost use Rattle.tptp_run.specs.Verifying.{EndsChecked, EndsVerify, SaysDerivation, asked_by, status_of};
+ghost use Rattle.tptp_run.specs.Verifying.{EndsRun, EndsVerify, SaysDerivation, status_of};
 
+use crate::denoted::say_of_line;
 use crate::derived::read_derived;
 use crate::refusals::read_text;
 use crate::run::TOTAL_SIZE;
@@ -21,10 +24,15 @@ use crate::sources::{Source, read_source};
 use crate::stop::{Answer, Halt, Stop};
 use derivation_check::{Asked, Report, check_derivation};
 use derivation_text::Derivation;
+use fof_terms::Signature;
+use kernel::Theory;
+use sort_check::SortRule;
 use std::alloc::Global;
-use tptp_base::{FILE_SIZE, Sink, Store};
+use tptp_base::{FILE_SIZE, LimitName, Sink, Store};
+use verifier::RunFault;
 
-/// Checks a derivation against a problem, with all that it includes, both read from the store, and writes the log.
+/// Checks a derivation against a problem, with all that it includes, both read from the store, and writes the log. A search
+/// for a line keeps so many clauses at most.
 pub fn verify<S: Store, L: Sink>(
     alloc: Global,
     store: &mut S,
@@ -32,10 +40,11 @@ pub fn verify<S: Store, L: Sink>(
     root: Option<&str>,
     problem: &str,
     derivation: &str,
+    limit: u32,
 ) -> Result<Answer, Halt>
     ensures ends { IfAnswer result (λ answer.
         IfSome (S.files store.old) (λ files.
-        IsAnswerWithLog (EndsVerify files (option_copied root.entry) problem.now derivation.now) answer
+        IsAnswerWithLog (EndsVerify files (option_copied root.entry) limit problem.now derivation.now) answer
         (L.taken log.old) (L.taken log.new))) }
     ensures absence { IfAnswer result (λ answer. answer.status ≡ 3
         → Rose (S.absents store.old) (S.absents store.new)
@@ -52,7 +61,7 @@ pub fn verify<S: Store, L: Sink>(
     match read_source(alloc, store, root, problem) {
         Ok(source) => {
             let mut source = source;
-            verify_file(alloc, store, log, &mut source, problem, derivation)
+            verify_file(alloc, store, log, &mut source, problem, derivation, limit)
         }
         Err(halt) => Err(halt),
     }
@@ -66,6 +75,7 @@ fn verify_file<S: Store, L: Sink>(
     source: &mut Source,
     problem: &str,
     file: &str,
+    limit: u32,
 ) -> Result<Answer, Halt>
     requires budget { source.old.read ≤ TOTAL_SIZE }
     requires few { length source.old.names < 2 ^ 32 }
@@ -74,7 +84,7 @@ fn verify_file<S: Store, L: Sink>(
     requires declared { AreDeclared source.old.signature }
     ensures ends { IfAnswer result (λ answer. IfSome (S.files store.old) (λ files. IsAnswerWithLog
         (AfterFile files file.now (TOTAL_SIZE - source.old.read)
-        (SaysDerivation problem.now file.now source.old.theory source.old.names source.old.marks
+        (SaysDerivation problem.now file.now limit source.old.theory source.old.names source.old.marks
         source.old.has_conjecture))
         answer (L.taken log.old) (L.taken log.new))) }
     ensures status { IfAnswer result (λ answer. IsAnswer answer.status) }
@@ -87,7 +97,7 @@ fn verify_file<S: Store, L: Sink>(
     ensures log { TakesSomeOfLog source.old.theory (L.taken log.old) (L.taken log.new) }
 {
     match read_text(alloc, store, file, TOTAL_SIZE - source.read) {
-        Ok(text) => verify_text(alloc, log, source, problem, file, text.as_slice()),
+        Ok(text) => verify_text(alloc, log, source, problem, file, text.as_slice(), limit),
         Err(halt) => Err(halt),
     }
 }
@@ -101,6 +111,7 @@ fn verify_text<L: Sink>(
     problem: &str,
     file: &str,
     text: &[u8],
+    limit: u32,
 ) -> Result<Answer, Halt>
     requires bytes { length text.now ≤ FILE_SIZE }
     requires few { length source.old.names < 2 ^ 32 }
@@ -108,7 +119,7 @@ fn verify_text<L: Sink>(
     requires sentences { All (IsSentence source.old.signature) source.old.theory.formulas }
     requires declared { AreDeclared source.old.signature }
     ensures ends { IfAnswer result (λ answer. IsAnswerWithLog
-        (SaysDerivation problem.now file.now source.old.theory source.old.names source.old.marks
+        (SaysDerivation problem.now file.now limit source.old.theory source.old.names source.old.marks
         source.old.has_conjecture text.now)
         answer (L.taken log.old) (L.taken log.new)) }
     ensures status { IfAnswer result (λ answer. IsAnswer answer.status) }
@@ -127,52 +138,74 @@ fn verify_text<L: Sink>(
         &mut source.signature,
     ) {
         Ok(derivation) => {
-            let answer = answer_on(alloc, log, source, problem, text, &derivation)?;
+            let asked = Asked {
+                problem: problem.as_bytes(),
+                output: text,
+                marks: source.marks.as_slice(),
+                has_conjecture: source.has_conjecture,
+                limit,
+            };
+            let signature = &source.signature;
+            let theory = &mut source.theory;
+            let answer = answer_on(alloc, log, file, &asked, &derivation, signature, theory)?;
             Ok(answer)
         }
         Err(halt) => Err(halt),
     }
 }
 
-// What is answered of a derivation.
+// What is answered of the derivation in a file. The signature is that of the theory, with what the derivation brings.
 fn answer_on<L: Sink>(
     alloc: Global,
     log: &mut L,
-    source: &mut Source,
-    problem: &str,
-    text: &[u8],
+    file: &str,
+    asked: &Asked<'_>,
     derivation: &Derivation,
+    signature: &Signature,
+    theory: &mut Theory,
 ) -> Result<Answer, Stop>
-    requires extends { Extends source.old.theory.vocabulary source.old.signature }
-    requires declared { AreDeclared source.old.signature }
+    requires extends { Extends theory.old.vocabulary signature.now }
+    requires declared { AreDeclared signature.now }
     requires each_form { length derivation.now.forms ≡ length derivation.now.graph.nodes }
     requires each_name { length derivation.now.names ≡ length derivation.now.graph.nodes }
+    requires each_place { length derivation.now.places ≡ length derivation.now.graph.nodes }
     requires ordered { IsOrdered derivation.now.graph.nodes derivation.now.graph }
-    requires given { All (IsSentence source.old.theory.vocabulary) source.old.theory.formulas }
-    requires lines { All (IsSentence source.old.signature) derivation.now.forms }
+    requires given { All (IsSentence theory.old.vocabulary) theory.old.formulas }
+    requires lines { All (IsSentence signature.now) derivation.now.forms }
     ensures ends { IfOk result (λ answer. IsAnswerWithLog
-        (EndsChecked (asked_by problem.now text.now source.old.marks source.old.has_conjecture) source.old.theory
-        derivation.now source.old.signature)
+        (EndsRun (asked_of asked.now) file.now theory.old derivation.now signature.now)
         answer (L.taken log.old) (L.taken log.new)) }
-    ensures status { IfOk result (λ answer. answer.status ≤ 1) }
-    ensures log { TakesSomeOfLog source.old.theory (L.taken log.old) (L.taken log.new) }
+    ensures status { IfOk result (λ answer. (answer.status ≤ 1) ⊎ (answer.status ≡ 7)) }
+    ensures log { TakesSomeOfLog theory.old (L.taken log.old) (L.taken log.new) }
     ensures cause { IfErr result (λ stop. HasCause stop ⊥ (Rose (L.faults log.old) (L.faults log.new))) }
 {
-    let asked = Asked {
-        problem: problem.as_bytes(),
-        output: text,
-        marks: source.marks.as_slice(),
-        has_conjecture: source.has_conjecture,
-    };
-    let report = check_derivation(
-        alloc,
-        &asked,
-        derivation,
-        &source.signature,
-        &mut source.theory,
-        log,
-    )?;
-    Ok(answer_of(report))
+    match check_derivation(alloc, asked, derivation, signature, theory, log) {
+        Ok(report) => Ok(answer_of(report)),
+        Err(RunFault::Room(place)) => say_room(alloc, file, derivation, place),
+        Err(RunFault::Sink) => Err(Stop::Sink),
+        Err(RunFault::Memory) => Err(Stop::Memory),
+    }
+}
+
+// What is said of the line at this place of the derivation, for which there is no room.
+fn say_room(
+    alloc: Global,
+    file: &str,
+    derivation: &Derivation,
+    place: usize,
+) -> Result<Answer, Stop>
+    requires each_name { length derivation.now.names ≡ length derivation.now.graph.nodes }
+    requires each_place { length derivation.now.places ≡ length derivation.now.graph.nodes }
+    requires within { place < length derivation.now.graph.nodes }
+    ensures said { IfOk result (λ answer.
+        SaysLacking file.now derivation.now.names derivation.now.places place (ending_of answer)) }
+    ensures status { IfOk result (λ answer. answer.status ≡ 7) }
+    ensures cause { IfErr result (λ stop. HasCause stop ⊥ ⊥) }
+{
+    let rule = SortRule::Limit(LimitName::Symbols);
+    let names = derivation.names.as_slice();
+    let places = derivation.places.as_slice();
+    say_of_line(alloc, file.as_bytes(), rule, places[place], &names[place])
 }
 
 // The status and the text that go with a report.

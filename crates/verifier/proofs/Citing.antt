@@ -1,6 +1,6 @@
 -- What entries do not cite: a formula of a theory is cited by nothing that stays legal where a formula stands in its
 -- place that no proof can cite, since it is well-sorted in no scope.
-use Rattle.std.proofs.Common.{◌≡◌, ℕ, zero, suc, ◌<◌, ◌||◌, Bool, true, false, List, [], ◌∷◌, ◌++◌, length, map, Option, None, Some, slice_get, slice_set, refl, sym, ◌∙◌, ap, subst, arith}
+use Rattle.std.proofs.Common.{◌≡◌, ◌⊎◌, inl, inr, ℕ, zero, suc, ◌<◌, ◌||◌, Bool, true, false, List, [], ◌∷◌, ◌++◌, length, map, Option, None, Some, slice_get, slice_set, refl, sym, ◌∙◌, ap, subst, arith}
 use Rattle.std.specs.List.{All}
 use Rattle.std.proofs.lemmas.List.{length-set}
 use Rattle.std.proofs.lemmas.List.Elements.{All-nil, All-cons, All-head, All-tail, All-weaker}
@@ -20,7 +20,7 @@ use Rattle.kernel.specs.declared.entry.Decl.{Decl}
 use Rattle.kernel.specs.declared.entry.Entry.{Entry}
 use Rattle.kernel.specs.declared.entry.Entry.TheVariants.{Declare, Lemma, Name, Choice}
 use Rattle.kernel.specs.declared.proof.Proof.{Proof, Line as Cited, Hyp, AndI', AndE', OrI', OrE', ImpI', ImpE', NotI', NotE', Raa', IffI', IffL', IffR', AllI', AllE', ExI', ExE', Refl, Subst', Inhabit', Row_of-Proof, end_of-Proof, more_of-Proof}
-use Rattle.derive_kit.specs.Derived.{HasCited, IsDerivedFrom}
+use Rattle.derive_kit.specs.Derived.{HasCited, IsDerivedFrom, numbers_of}
 use Rattle.elaborate.specs.declared.answer.Rule.{Rule}
 use Rattle.elaborate.specs.declared.answer.StepAnswer.TheVariants as step
 use Rattle.szs_report.specs.declared.answer.Verdict.{Verdict}
@@ -28,12 +28,13 @@ use Rattle.szs_report.specs.declared.answer.Verdict.TheVariants.{Failed, NoFalse
 use Rattle.verifier.specs.Citing.{Spares, SparesAll, DoesNotCite, DoNotCite}
 use Rattle.verifier.specs.Claim.{is_marked, some_marked, answer_cites_marked, cites_marked}
 use Rattle.verifier.specs.Closing.{Closes, IsFalseLine}
-use Rattle.verifier.specs.Lines.{Derivation, Line, parents_of}
+use Rattle.search_proofs.specs.Searched.{IsSearchedFrom}
+use Rattle.verifier.specs.Lines.{Derivation, Line, parents_of, sources_of}
 use Rattle.verifier.specs.Run.{Progress, AnswersLine, AreAnswered, IsAnswered, IsRun, begun}
 use Rattle.verifier.specs.Symbols.{IsAbsent}
 use Rattle.verifier.specs.declared.answer.LineAnswer.{LineAnswer}
 use Rattle.verifier.specs.declared.answer.LineAnswer.TheVariants.{Accepted, Unverified, Skipped}
-use Rattle.verifier.proofs.Derived.{after_stays, formula_stays, kind_derived}
+use Rattle.verifier.proofs.Derived.{ByARule, ByASearch, after_stays, formula_stays, kind_ways}
 use Rattle.verifier.proofs.Numbers.{run_numbered}
 use Rattle.verifier.proofs.Running.{place_admits}
 use Rattle.verifier.proofs.Slots.{set_elsewhere, set_here, has_value}
@@ -127,9 +128,19 @@ keeps_cited t n cites apart = record {
 pub derived_spare : (t : Statements) (cites : List ℕ) (entries : List Entry) (line : Form) (n : ℕ) → IsDerivedFrom t cites entries line → n < length t.formulas → All (λ cited. cited ≡ n → ⊥) cites → DoNotCite n entries
 derived_spare t cites entries line n derived within apart = admitted_spare (replaced t n) n entries _ (set_here t.formulas n unsorted within) (derived.adds (replaced t n) (keeps_cited t n cites apart)).legal
 
--- so do those of an accepted line
-pub line_spares : (t : Statements) (given : List Form) (line : Line) (parents : List Parent) (rule : Rule) (cites : List ℕ) (entries : List Entry) (n : ℕ) → AnswersLine t given line parents (step.Accepted rule cites entries) → n < length t.formulas → All (λ cited. cited ≡ n → ⊥) cites → DoNotCite n entries
-line_spares t given line parents rule cites entries n answers = derived_spare t cites entries line.form n (kind_derived line.node.leaf t given line.node.cited parents line.form rule cites entries answers)
+-- so do those of a search
+searched_spare : (t : Statements) (sources : List Parent) (entries : List Entry) (line : Form) (n : ℕ) → IsSearchedFrom t sources entries line → n < length t.formulas → All (λ cited. cited ≡ n → ⊥) (numbers_of sources) → DoNotCite n entries
+searched_spare t sources entries line n searched within apart = admitted_spare (replaced t n) n entries _ (set_here t.formulas n unsorted within) (searched.adds (replaced t n) (keeps_cited t n (numbers_of sources) apart)).legal
+
+-- and so those of an accepted line
+pub line_spares : (t : Statements) (d : Derivation) (line : Line) (parents : List Parent) (rule : Rule) (cites : List ℕ) (entries : List Entry) (n : ℕ) → AnswersLine t d line parents (step.Accepted rule cites entries) → n < length t.formulas → All (λ cited. cited ≡ n → ⊥) cites → DoNotCite n entries
+line_spares t d line parents rule cites entries n answers within apart = by (kind_ways line.node.leaf t d line.node.cited parents line.form rule cites entries answers)
+  where
+    by : ByARule line.node.leaf t d.given line.node.cited parents line.form rule cites entries ⊎ ByASearch line.node.leaf t d.given line.node.cited parents line.form rule cites entries → DoNotCite n entries
+    by (inl ruled) = derived_spare t cites entries line.form n ruled.derived within apart
+    by (inr found) =
+        searched_spare t (sources_of line.node.leaf d.given line.node.cited parents) entries line.form n found.searched within
+        (subst (All (λ cited. cited ≡ n → ⊥)) found.cites_are apart)
 
 pub both_spare : (n : ℕ) (first second : List Entry) → DoNotCite n first → DoNotCite n second → DoNotCite n (first ++ second)
 both_spare n [] second one two = two
@@ -169,13 +180,13 @@ spares_line n number apart = apart
 
 module _ (d : Derivation) (marks : List Bool) (n : ℕ) (marked : is_marked marks n ≡ true) where
   -- the entries of an answer that cites nothing marked
-  answer_spares : (old : Progress) (place : ℕ) (line : Line) (parents : Option (List Parent)) (answer : LineAnswer) (entries : List Entry) (new : Progress) → IsAnswered d.given old place line parents answer entries new → n < length old.theory.formulas → answer_cites_marked marks answer ≡ false → DoNotCite n entries
+  answer_spares : (old : Progress) (place : ℕ) (line : Line) (parents : Option (List Parent)) (answer : LineAnswer) (entries : List Entry) (new : Progress) → IsAnswered d old place line parents answer entries new → n < length old.theory.formulas → answer_cites_marked marks answer ≡ false → DoNotCite n entries
   answer_spares old place line None Skipped entries new is within none = none_spare n entries is.0
   answer_spares old place line None (Accepted rule cites) entries new is within none = absurd is
   answer_spares old place line None (Unverified reason) entries new is within none = absurd is
   answer_spares old place line (Some parents) Skipped entries new is within none = absurd is
   answer_spares old place line (Some parents) (Accepted rule cites) entries new is within none =
-      line_spares old.theory d.given line parents rule cites entries n is.0 within (unmarked_apart marks n cites marked none)
+      line_spares old.theory d line parents rule cites entries n is.0 within (unmarked_apart marks n cites marked none)
   answer_spares old place line (Some parents) (Unverified reason) entries new is within none = none_spare n entries is.1
 
   module _ (answers : List LineAnswer) (none : cites_marked marks answers ≡ false) where

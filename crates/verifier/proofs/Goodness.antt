@@ -1,5 +1,5 @@
 -- A run of a good derivation accepts each line.
-use Rattle.std.proofs.Common.{◌≡◌, ℕ, ◌+◌, ◌-◌, ◌<◌, inl, inr, ◌==◌, ◌||◌, Bool, true, false, List, [], ◌∷◌, ◌++◌, length, map, Option, None, Some, slice_get, slice_set, refl, sym, ◌∙◌, ap, subst, arith}
+use Rattle.std.proofs.Common.{◌≡◌, ◌⊎◌, ℕ, ◌+◌, ◌-◌, ◌<◌, inl, inr, ◌==◌, ◌||◌, Bool, true, false, List, [], ◌∷◌, ◌++◌, length, map, Option, None, Some, slice_get, slice_set, refl, sym, ◌∙◌, ap, subst, arith}
 use Rattle.std.specs.List.{list_all}
 use Rattle.std.proofs.lemmas.Bool.Decides.{nat_tests}
 use Rattle.std.proofs.lemmas.List.{append-nil, length-set, length-replicate}
@@ -9,10 +9,9 @@ use Rattle.fof_terms.specs.declared.form.Form.{Form}
 use Rattle.clause_form.specs.declared.path.Parent.{Parent}
 use Rattle.kernel.specs.Statements.{Statements}
 use Rattle.kernel.specs.declared.entry.Entry.{Entry}
-use Rattle.elaborate.specs.ByRule.{IsFirst, IsNone, IsFirstAlone, IsNoneAlone, LeafRule, rules, leaf_rules}
+use Rattle.elaborate.specs.ByRule.{IsFirst, IsNone, IsFirstAlone, IsNoneAlone, rules, leaf_rules}
 use Rattle.elaborate.specs.declared.answer.Rule.{Rule}
 use Rattle.elaborate.specs.declared.answer.Reason.{Reason}
-use Rattle.elaborate.specs.declared.answer.Reason.TheVariants.{NotYet, Leaf}
 use Rattle.elaborate.specs.declared.answer.StepAnswer.TheVariants as step
 use Rattle.tstp_graph.specs.declared.shape.Ref.{Ref}
 use Rattle.tstp_graph.specs.declared.shape.Ref.TheVariants as ref
@@ -25,7 +24,7 @@ use Rattle.verifier.specs.Run.{Progress, AnswersKind, AnswersPlace, AreAnswered,
 use Rattle.verifier.specs.declared.answer.LineAnswer.{LineAnswer}
 use Rattle.verifier.specs.declared.answer.LineAnswer.TheVariants.{Accepted, Unverified, Skipped}
 use Rattle.verifier.proofs.Counting.{IsAccepted, all_accepted}
-use Rattle.verifier.proofs.Derived.{accepted_theory}
+use Rattle.verifier.proofs.Derived.{ByARule, ByASearch, IsUnruled, kind_unruled, kind_ways, ruled_theory}
 use Rattle.verifier.proofs.Knowing.{both_is}
 use Rattle.verifier.proofs.Renumbering.{Alike, first_alike_rule, alone_alike_rule}
 use Rattle.verifier.proofs.Slots.{set_here, set_elsewhere, one_value, has_value}
@@ -55,23 +54,32 @@ pub candidates_alike : (given : List Form) (cited : Bool) (ps qs : List Parent) 
 candidates_alike given true ps qs same = same
 candidates_alike given false ps qs same = refl
 
--- a line that follows by the texts is not unverified in a theory with the same symbols
-pub never_unverified : (is_leaf : Bool) (t u : Statements) (given : List Form) (cited : Bool) (refs cites : List Ref) (parents : List Parent) (forms : List Form) (form : Form) (reason : Reason) → SameSymbols u t → HaveForms parents forms → FollowsAs is_leaf u given cited refs forms form cites → AnswersKind is_leaf t given cited parents form (step.Unverified reason) → ⊥
-never_unverified is_leaf t u given cited refs cites parents forms form reason same have = by is_leaf reason
+-- a line that follows by the texts has a rule in a theory with the same symbols
+pub never_unruled : (is_leaf : Bool) (t u : Statements) (given : List Form) (cited : Bool) (refs cites : List Ref) (parents : List Parent) (forms : List Form) (form : Form) → SameSymbols u t → HaveForms parents forms → FollowsAs is_leaf u given cited refs forms form cites → IsUnruled is_leaf t given cited parents form → ⊥
+never_unruled is_leaf t u given cited refs cites parents forms form same have = by is_leaf
   where
     alike : Alike (without_numbers forms) parents
     alike = forms_without_numbers forms ∙ sym have
 
-    leaf : (rule : Rule) (i : ℕ) → LeafRule u (candidates_of given cited (without_numbers forms)) form rule i → IsNoneAlone leaf_rules t (candidates_of given cited parents) form → ⊥
-    leaf rule i follows none =
+    by : (is_leaf : Bool) → FollowsAs is_leaf u given cited refs forms form cites → IsUnruled is_leaf t given cited parents form → ⊥
+    by true (rule, i, follows, is) none =
         alone_or_none leaf_rules t (candidates_of given cited parents) form rule i
         (alone_alike_rule leaf_rules u t form rule i (candidates_of given cited (without_numbers forms)) (candidates_of given cited parents) same (candidates_alike given cited (without_numbers forms) parents alike) follows) none
+    by false (rule, follows, is) none = first_or_none rules t parents form rule (first_alike_rule rules u t form rule (without_numbers forms) parents same alike follows) none
 
-    by : (is_leaf : Bool) (reason : Reason) → FollowsAs is_leaf u given cited refs forms form cites → AnswersKind is_leaf t given cited parents form (step.Unverified reason) → ⊥
-    by true NotYet (rule, i, follows, is) answers = leaf rule i follows answers.0
-    by true Leaf (rule, i, follows, is) answers = leaf rule i follows answers.0
-    by false NotYet (rule, follows, is) answers = first_or_none rules t parents form rule (first_alike_rule rules u t form rule (without_numbers forms) parents same alike follows) answers
-    by false Leaf (rule, follows, is) answers = answers
+-- so it is not unverified
+pub never_unverified : (is_leaf : Bool) (t u : Statements) (d : Derivation) (cited : Bool) (refs cites : List Ref) (parents : List Parent) (forms : List Form) (form : Form) (reason : Reason) → SameSymbols u t → HaveForms parents forms → FollowsAs is_leaf u d.given cited refs forms form cites → AnswersKind is_leaf t d cited parents form (step.Unverified reason) → ⊥
+never_unverified is_leaf t u d cited refs cites parents forms form reason same have follows answers =
+    never_unruled is_leaf t u d.given cited refs cites parents forms form same have follows (kind_unruled is_leaf t d cited parents form reason answers)
+
+-- and is accepted by a rule
+pub follows_ruled : (is_leaf : Bool) (t u : Statements) (d : Derivation) (cited : Bool) (refs own : List Ref) (parents : List Parent) (forms : List Form) (form : Form) (rule : Rule) (cites : List ℕ) (entries : List Entry) → SameSymbols u t → HaveForms parents forms → FollowsAs is_leaf u d.given cited refs forms form own
+    → AnswersKind is_leaf t d cited parents form (step.Accepted rule cites entries) → ByARule is_leaf t d.given cited parents form rule cites entries
+follows_ruled is_leaf t u d cited refs own parents forms form rule cites entries same have follows answers = by (kind_ways is_leaf t d cited parents form rule cites entries answers)
+  where
+    by : ByARule is_leaf t d.given cited parents form rule cites entries ⊎ ByASearch is_leaf t d.given cited parents form rule cites entries → ByARule is_leaf t d.given cited parents form rule cites entries
+    by (inl ruled) = ruled
+    by (inr found) = absurd (never_unruled is_leaf t u d.given cited refs own parents forms form same have follows found.unruled)
 
 -- What is known of a run of a good derivation: the lines that are taken have numbers, and the theory has the symbols of
 -- what is given and of the lines so far.
@@ -100,19 +108,22 @@ found_parents v d taken earlier p (r ∷ rs) forms sound done is =
 
 -- a line that follows from the parents that it has is accepted, and is taken then
 pub accepts : (v : Vocabulary) (d : Derivation) (taken : List ℕ) (earlier : List Form) (old : Progress) (place : ℕ) (line : Line) (parents : List Parent) (forms : List Form) (cites : List Ref) (answer : LineAnswer) (entries : List Entry) (new : Progress) → IsSound v d taken earlier old → place < length d.nodes
-    → HaveForms parents forms → FollowsAs line.node.leaf (so_far v d.given earlier) d.given line.node.cited line.node.parents forms line.form cites → IsAnswered d.given old place line (Some parents) answer entries new → IsAccepted answer × IsSound v d (taken ++ place ∷ []) (earlier ++ line.form ∷ []) new
+    → HaveForms parents forms → FollowsAs line.node.leaf (so_far v d.given earlier) d.given line.node.cited line.node.parents forms line.form cites → IsAnswered d old place line (Some parents) answer entries new → IsAccepted answer × IsSound v d (taken ++ place ∷ []) (earlier ++ line.form ∷ []) new
 accepts v d taken earlier old place line parents forms cited Skipped entries new sound within have follows is = absurd is
 accepts v d taken earlier old place line parents forms cited (Unverified reason) entries new sound within have follows is =
-    absurd (never_unverified line.node.leaf old.theory (so_far v d.given earlier) d.given line.node.cited line.node.parents cited parents forms line.form reason (other_way old.theory (so_far v d.given earlier) sound.same) have follows is.0)
+    absurd (never_unverified line.node.leaf old.theory (so_far v d.given earlier) d line.node.cited line.node.parents cited parents forms line.form reason (other_way old.theory (so_far v d.given earlier) sound.same) have follows is.0)
 accepts v d taken earlier old place line parents forms cited (Accepted rule cites) entries new sound within have follows (answers, (theory, admits, is)) = (
   tt,
   subst (IsSound v d (taken ++ place ∷ []) (earlier ++ line.form ∷ [])) (sym is) (record {
-    same = gained_same v d.given earlier old.theory theory line.form sound.same (accepted_theory line.node.leaf old.theory theory d.given line.node.cited parents line.form rule cites entries answers admits);
+    same = gained_same v d.given earlier old.theory theory line.form sound.same (ruled_theory old.theory theory cites entries line.form ruled.derived admits);
     count = length-set old.numbers place (Some (length theory.formulas - 1)) ∙ sound.count;
     numbers = numbers;
   }),
 )
   where
+    ruled : ByARule line.node.leaf old.theory d.given line.node.cited parents line.form rule cites entries
+    ruled = follows_ruled line.node.leaf old.theory (so_far v d.given earlier) d line.node.cited line.node.parents cited parents forms line.form rule cites entries (other_way old.theory (so_far v d.given earlier) sound.same) have follows answers
+
     numbers : (k : ℕ) → is_taken (taken ++ place ∷ []) k ≡ true → (n : ℕ) × (slice_get (slice_set old.numbers place (Some (length theory.formulas - 1))) k ≡ Some (Some n))
     numbers k is_now = by (k == place) refl
       where
@@ -139,7 +150,7 @@ pub record TurnParents (d : Derivation) (old : Progress) (place : ℕ) (entries 
   pub parents : List Parent
   pub known : parents_of d.given d.forms old.numbers line.node.parents ≡ Some parents
   pub have : HaveForms parents forms
-  pub is : IsAnswered d.given old place line (Some parents) answer entries new
+  pub is : IsAnswered d old place line (Some parents) answer entries new
 
 pub turn_parents : (v : Vocabulary) (d : Derivation) (answers : List LineAnswer) (taken : List ℕ) (earlier : List Form) (old : Progress) (place : ℕ) (entries : List Entry) (new : Progress) (line : Line) (cites : List Ref) → IsLineAt d place line → (follows : Follows (so_far v d.given earlier) d line cites) → IsSound v d taken earlier old → HasTurn d.nodes taken place
     → (a : AnswersPlace d answers old place entries new) → TurnParents d old place entries new line follows.0 a.answer
@@ -147,13 +158,13 @@ turn_parents v d answers taken earlier old place entries new line cites there fo
     let same : turn.node ≡ line.node = one_value (slice_get d.nodes place) turn.node line.node turn.there there.node in
     let done : list_all (is_done (is_taken taken)) line.node.parents ≡ true = subst (λ (n : Node). list_all (is_done (is_taken taken)) n.parents ≡ true) same turn.behind in
     let parents = found_parents v d taken earlier old line.node.parents follows.0 sound done follows.1 in
-    let here : IsAnswered d.given old place line (parents_of d.given d.forms old.numbers line.node.parents) a.answer entries new =
-    subst (λ (l : Line). IsAnswered d.given old place l (parents_of d.given d.forms old.numbers l.node.parents) a.answer entries new) (same_line d place a.line line a.there there) a.is in
+    let here : IsAnswered d old place line (parents_of d.given d.forms old.numbers line.node.parents) a.answer entries new =
+    subst (λ (l : Line). IsAnswered d old place l (parents_of d.given d.forms old.numbers l.node.parents) a.answer entries new) (same_line d place a.line line a.there there) a.is in
     record {
       parents = parents.0;
       known = parents.1;
       have = parents.2;
-      is = subst (λ (ps : Option (List Parent)). IsAnswered d.given old place line ps a.answer entries new) parents.1 here;
+      is = subst (λ (ps : Option (List Parent)). IsAnswered d old place line ps a.answer entries new) parents.1 here;
     }
 
 -- the line that has its turn, and follows, is accepted

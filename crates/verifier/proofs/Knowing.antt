@@ -1,16 +1,15 @@
 -- What is known of the theory so far: that the parents of a line stand in it, and how it goes on.
-use Rattle.std.proofs.Common.{◌≡◌, ℕ, suc, ◌+◌, ◌-◌, ◌==◌, ◌⊎◌, inl, inr, Bool, true, false, List, [], ◌∷◌, ◌++◌, length, Option, None, Some, slice_get, slice_set, replicate, refl, sym, ◌∙◌, ap, subst, arith}
+use Rattle.std.proofs.Common.{◌≡◌, ℕ, suc, ◌+◌, ◌-◌, List, [], ◌∷◌, length, Option, None, Some, slice_get, replicate, refl, sym, ◌∙◌, ap, subst, arith}
 use Rattle.std.specs.List.{All}
-use Rattle.std.proofs.lemmas.Bool.Decides.{nat_tests}
 use Rattle.std.proofs.lemmas.List.{length-set, length-replicate}
-use Rattle.std.proofs.lemmas.Option.{slice_get_within}
 use Rattle.std.proofs.lemmas.List.Elements.{All-nil, All-cons, All-weaker}
+use Rattle.fof_terms.specs.SortLaws.{Grows}
 use Rattle.fof_terms.specs.Vocabulary.{Vocabulary}
+use Rattle.fof_terms.proofs.SortLawsFacts.{grown_sorted}
 use Rattle.fof_terms.specs.declared.form.Form.{Form}
 use Rattle.clause_form.specs.declared.path.Parent.{Parent}
 use Rattle.clause_rules.specs.Steps.{IsReady, AreReady}
-use Rattle.kernel.specs.Statements.{Statements}
-use Rattle.kernel.specs.Entries.{IsFresh}
+use Rattle.kernel.specs.Statements.{Statements, AreClosed}
 use Rattle.derive_kit.specs.Derived.{AreOfTheory}
 use Rattle.tstp_graph.specs.declared.shape.Ref.{Ref}
 use Rattle.tstp_graph.specs.declared.shape.Ref.TheVariants as ref
@@ -19,12 +18,15 @@ use Rattle.clause_form.specs.Paths.{forms_of}
 use Rattle.verifier.specs.code.Numbered.{Knows, IsOver, AreNumbered, progress_of, derivation_in}
 use Rattle.verifier.specs.declared.lines.Lines.{Lines}
 use Rattle.verifier.specs.Run.{Progress, begun, with_answered}
-use Rattle.verifier.specs.Symbols.{IsAbsent}
-use Rattle.verifier.specs.code.Symbols.{IsInNoNumbered, IsUnused}
-use Rattle.verifier.proofs.Derived.{with_stays}
+use Rattle.verifier.proofs.ClosedTheories.{ready_closed}
+use Rattle.verifier.proofs.Derived.{gained_stays}
 use Rattle.verifier.proofs.Numbers.{stand_more}
-use Rattle.verifier.proofs.Slots.{set_here, set_elsewhere, set_cases, of_all, one_value, in_replicate}
-use Rattle.verifier.proofs.Symbols.{Gains, gained_fresh, gained_still}
+use Rattle.verifier.proofs.Slots.{of_all, in_replicate}
+use Rattle.verifier.proofs.Symbols.{Gains}
+
+-- the rules may still be asked about the formulas where further symbols are there
+pub still_ready : (v w : Vocabulary) → Grows v w → (forms : List Form) → All (IsReady v) forms → All (IsReady w) forms
+still_ready v w grows forms ready = All-weaker (IsReady v) (IsReady w) (λ a is. grown_sorted v w grows 1000000000 [] a is) forms ready
 
 -- the parent stands in the theory, and the rules may be asked about it
 pub record Stands (t : Statements) (p : Parent) : Type 0 where
@@ -79,54 +81,15 @@ module _ (d : Derivation) (p : Progress) (knows : Knows d p) where
   given_stand = given_on 0 d.given (λ k a is. let same : 0 + k ≡ k = omega arith in ap (slice_get d.given) same ∙ is)
 
   -- a line at a place is added
-  pub knows_more : (place : ℕ) (form : Form) (u : Statements) → slice_get d.forms place ≡ Some form → Gains p.theory u form → Knows d (with_answered p place u)
-  knows_more place form u at gains = record {
-    given = λ k a there. stays k a (knows.given k a there);
+  pub knows_more : (place : ℕ) (form : Form) (u : Statements) → slice_get d.forms place ≡ Some form → AreClosed u → Gains p.theory u form → Knows d (with_answered p place u)
+  knows_more place form u at closed gains = record {
+    given = λ k a there. gained_stays p.theory u form k a gains (knows.given k a there);
     lines = stand_more d p place form u at gains knows.lines;
-    symbols = λ k. (forth k, back k);
-    given_ready = subst (λ (v : Vocabulary). All (IsReady v) d.given) (sym same) knows.given_ready;
-    lines_ready = subst (λ (v : Vocabulary). All (IsReady v) d.forms) (sym same) knows.lines_ready;
+    given_ready = still_ready p.theory.vocabulary u.vocabulary gains.grows d.given knows.given_ready;
+    lines_ready = still_ready p.theory.vocabulary u.vocabulary gains.grows d.forms knows.lines_ready;
+    closed = closed;
     count = length-set p.numbers place (Some (length u.formulas - 1)) ∙ knows.count;
   }
-    where
-      same : u.vocabulary ≡ p.theory.vocabulary
-      same = ap (λ (t : Statements). t.vocabulary) gains.made
-
-      stays : (k : ℕ) (a : Form) → slice_get p.theory.formulas k ≡ Some a → slice_get u.formulas k ≡ Some a
-      stays k a there = with_stays p.theory u (gains.before ++ form ∷ []) k a gains.made there
-
-      here : slice_get (slice_set p.numbers place (Some (length u.formulas - 1))) place ≡ Some (Some (length u.formulas - 1))
-      here = set_here p.numbers place (Some (length u.formulas - 1)) (omega (arith, knows.count, slice_get_within d.forms place form at))
-
-      forth : (k : ℕ) → IsFresh k u → IsUnused k d (slice_set p.numbers place (Some (length u.formulas - 1)))
-      forth k fresh = (was.0, now)
-        where
-          parts : IsFresh k p.theory × IsAbsent k form
-          parts = gained_fresh p.theory u form k gains fresh
-
-          was : IsUnused k d p.numbers
-          was = (knows.symbols k).0 parts.0
-
-          now : IsInNoNumbered k d.forms (slice_set p.numbers place (Some (length u.formulas - 1)))
-          now q n a number there = by (set_cases p.numbers place q (Some (length u.formulas - 1)) (Some n) number)
-            where
-              by : ((q ≡ place) × (Some n ≡ Some (length u.formulas - 1))) ⊎ (slice_get p.numbers q ≡ Some (Some n)) → IsAbsent k a
-              by (inl (is, said)) = subst (IsAbsent k) (one_value (slice_get d.forms place) form a at (ap (slice_get d.forms) (sym is) ∙ there)) parts.1
-              by (inr before) = was.1 q n a before there
-
-      back : (k : ℕ) → IsUnused k d (slice_set p.numbers place (Some (length u.formulas - 1))) → IsFresh k u
-      back k unused = gained_still p.theory u form k gains ((knows.symbols k).1 (unused.0, before)) (unused.1 place (length u.formulas - 1) form here at)
-        where
-          before : IsInNoNumbered k d.forms p.numbers
-          before q n a number there = by (q == place) refl
-            where
-              by : (b : Bool) → (q == place) ≡ b → IsAbsent k a
-              by true test =
-                  let is : q ≡ place = grind (arith, nat_tests) in
-                  unused.1 place (length u.formulas - 1) a here (ap (slice_get d.forms) (sym is) ∙ there)
-              by false test =
-                  let apart : q ≡ place → ⊥ = λ is. grind (arith, nat_tests) in
-                  unused.1 q n a (set_elsewhere p.numbers place q (Some (length u.formulas - 1)) apart ∙ number) there
 
 pub of_theory : (t : Statements) (ps : List Parent) → All (Stands t) ps → AreOfTheory t ps
 of_theory t ps all = All-weaker (Stands t) (λ (p : Parent). slice_get t.formulas p.number ≡ Some p.form) (λ p s. s.at) ps all
@@ -139,9 +102,9 @@ pub knows_none : (t : Statements) (d : Derivation) → d.given ≡ t.formulas �
 knows_none t d same count given_ready lines_ready = record {
   given = λ k a there. ap (λ (fs : List Form). slice_get fs k) (sym same) ∙ there;
   lines = λ k n a number there. absurd (no_number k n number);
-  symbols = λ k. (λ fresh. (subst (All (IsAbsent k)) (sym same) fresh, λ q n a number there. absurd (no_number q n number)), λ unused. subst (All (IsAbsent k)) same unused.0);
   given_ready = subst (All (IsReady t.vocabulary)) (sym same) given_ready;
   lines_ready = lines_ready;
+  closed = ready_closed t given_ready;
   count = length-replicate (length d.nodes) None ∙ sym count;
 }
   where

@@ -1,7 +1,7 @@
 -- Legal entries lead from one theory to another.
 use Rattle.std.proofs.Common.{◌≡◌, [], ◌∷◌, ◌++◌, refl}
 use Rattle.kernel.specs.Statements.{Statements}
-use Rattle.kernel.specs.Entries.{Legal, After, Admits}
+use Rattle.kernel.specs.Entries.{Legal, After}
 use Rattle.kernel.specs.declared.entry.Entry.{Entry}
 use Rattle.kernel.proofs.EntryLaws.{admits_append}
 use Rattle.verifier.specs.Logged.{LeadTo}

@@ -1,10 +1,12 @@
 pub mod Accepting
 pub mod Adding
 pub mod Citing
+pub mod ClosedTheories
 pub mod Collecting
 pub mod Counting
 pub mod Declaring
 pub mod Derived
+pub mod FaultCauses
 pub mod Goodness
 pub mod Knowing
 pub mod Latest
@@ -17,6 +19,7 @@ pub mod OneReport
 pub mod OneVerdict
 pub mod Refuting
 pub mod Renumbering
+pub mod Rooms
 pub mod Running
 pub mod Slots
 pub mod Speaking

@@ -12,25 +12,25 @@ use Rattle.kernel.specs.declared.entry.Entry.{Entry}
 use Rattle.derive_kit.specs.Derived.{numbers_of}
 use Rattle.elaborate.specs.ByRule.{GivesFirst, IsFirstAlone, leaf_rules}
 use Rattle.elaborate.specs.declared.answer.Rule.{Rule}
-use Rattle.elaborate.specs.declared.answer.StepAnswer.TheVariants as step
 use Rattle.tstp_graph.specs.declared.shape.Ref.{Ref}
 use Rattle.tstp_graph.specs.declared.shape.Ref.TheVariants as ref
 use Rattle.tstp_graph.specs.Order.{is_taken, TakesInTurn, first_left}
 use Rattle.verifier.specs.Claim.{is_marked, some_marked, answer_cites_marked, cites_marked, is_marked_ref, some_marked_ref}
-use Rattle.verifier.specs.Good.{without_numbers, so_far, cited_one, cited_by_leaf, FollowsAs, Follows, FollowInTurn, IsGood}
-use Rattle.verifier.specs.Lines.{Derivation, Line, IsLineAt, given_from, parent_of, parents_of, candidates_of}
-use Rattle.verifier.specs.Run.{Progress, AnswersKind, AnswersPlace, AreAnswered, IsAnswered, IsRun, begun}
+use Rattle.verifier.specs.Good.{without_numbers, so_far, cited_one, cited_by_leaf, FollowsAs, FollowInTurn, IsGood}
+use Rattle.verifier.specs.Lines.{Derivation, Line, given_from, parent_of, parents_of, candidates_of}
+use Rattle.verifier.specs.Run.{Progress, AreAnswered, IsAnswered, IsRun, begun}
 use Rattle.verifier.specs.declared.answer.LineAnswer.{LineAnswer}
 use Rattle.verifier.specs.declared.answer.LineAnswer.TheVariants.{Accepted, Unverified, Skipped}
 use Rattle.verifier.proofs.Citing.{or_false}
 use Rattle.verifier.proofs.Counting.{IsAccepted}
-use Rattle.verifier.proofs.Goodness.{HaveForms, IsSound, begun_sound, candidates_alike, forms_without_numbers, turn_accepted, turn_parents}
+use Rattle.verifier.proofs.Derived.{IsRuled}
+use Rattle.verifier.proofs.Goodness.{HaveForms, IsSound, begun_sound, candidates_alike, follows_ruled, forms_without_numbers, turn_accepted, turn_parents}
 use Rattle.verifier.proofs.Knowing.{accepted_is, both_is, with_number_is}
 use Rattle.verifier.proofs.Numbers.{IsNumbered, answer_numbered, begun_numbered}
 use Rattle.verifier.proofs.Renumbering.{alone_alike_rule}
 use Rattle.verifier.proofs.Slots.{one_value, has_value}
 use Rattle.verifier.proofs.Symbols.{SameSymbols, other_way}
-use Rattle.verifier.proofs.Turns.{HasTurn, turn_of, none_left}
+use Rattle.verifier.proofs.Turns.{turn_of, none_left}
 
 past_end : {X : Type 0} (xs : List X) (k : ℕ) → length xs ≤ k → slice_get xs k ≡ None
 past_end [] k le = refl
@@ -102,11 +102,11 @@ module _ (marks : List Bool) (d : Derivation) (p : Progress) (short : length mar
       ap (λ (n : ℕ). is_marked marks n || false) same
 
   -- what the answer to a line cites is marked where what the line cites by the text is
-  line_marked : (is_leaf : Bool) (u : Statements) (cited : Bool) (refs own : List Ref) (parents : List Parent) (forms : List Form) (form : Form) (rule : Rule) (cites : List ℕ) (entries : List Entry) → SameSymbols u p.theory → HaveForms parents forms → parents_of d.given d.forms p.numbers refs ≡ Some parents
-      → FollowsAs is_leaf u d.given cited refs forms form own → AnswersKind is_leaf p.theory d.given cited parents form (step.Accepted rule cites entries) → some_marked marks cites ≡ some_marked_ref marks own
-  line_marked false u cited refs own parents forms form rule cites entries same have known (r, follows, own_is) (by, cites_are, derived) =
+  line_marked : (is_leaf : Bool) (u : Statements) (cited : Bool) (refs own : List Ref) (parents : List Parent) (forms : List Form) (form : Form) (rule : Rule) (cites : List ℕ) → SameSymbols u p.theory → HaveForms parents forms → parents_of d.given d.forms p.numbers refs ≡ Some parents
+      → FollowsAs is_leaf u d.given cited refs forms form own → IsRuled is_leaf p.theory d.given cited parents form rule cites → some_marked marks cites ≡ some_marked_ref marks own
+  line_marked false u cited refs own parents forms form rule cites same have known (r, follows, own_is) (by, cites_are) =
       ap (some_marked marks) cites_are ∙ parents_marked refs parents known ∙ ap (some_marked_ref marks) (sym own_is)
-  line_marked true u cited refs own parents forms form rule cites entries same have known (r, i, follows, own_is) (j, c, there, leaf, cites_are, derived) =
+  line_marked true u cited refs own parents forms form rule cites same have known (r, i, follows, own_is) (j, c, there, leaf, cites_are) =
       let here : j ≡ i =
       one_alone leaf_rules p.theory (candidates_of d.given cited parents) form rule r j i leaf
       (alone_alike_rule leaf_rules u p.theory form r i (candidates_of d.given cited (without_numbers forms)) (candidates_of d.given cited parents) same (candidates_alike d.given cited (without_numbers forms) parents (forms_without_numbers forms ∙ sym have)) follows) in
@@ -117,11 +117,12 @@ module _ (marks : List Bool) (d : Derivation) (p : Progress) (short : length mar
 -- ---- what is marked of a run
 
 pub answered_marked : (marks : List Bool) (d : Derivation) (old : Progress) (place : ℕ) (line : Line) (u : Statements) (own : List Ref) (parents : List Parent) (forms : List Form) (answer : LineAnswer) (entries : List Entry) (new : Progress) → length marks ≤ length d.given → IsNumbered (length d.given) d old → SameSymbols u old.theory → HaveForms parents forms
-    → parents_of d.given d.forms old.numbers line.node.parents ≡ Some parents → FollowsAs line.node.leaf u d.given line.node.cited line.node.parents forms line.form own → IsAccepted answer → IsAnswered d.given old place line (Some parents) answer entries new → answer_cites_marked marks answer ≡ some_marked_ref marks own
+    → parents_of d.given d.forms old.numbers line.node.parents ≡ Some parents → FollowsAs line.node.leaf u d.given line.node.cited line.node.parents forms line.form own → IsAccepted answer → IsAnswered d old place line (Some parents) answer entries new → answer_cites_marked marks answer ≡ some_marked_ref marks own
 answered_marked marks d old place line u own parents forms Skipped entries new short numbered same have known follows good is = absurd good
 answered_marked marks d old place line u own parents forms (Unverified reason) entries new short numbered same have known follows good is = absurd good
 answered_marked marks d old place line u own parents forms (Accepted rule cites) entries new short numbered same have known follows good is =
-    line_marked marks d old short numbered.behind line.node.leaf u line.node.cited line.node.parents own parents forms line.form rule cites entries same have known follows is.0
+    line_marked marks d old short numbered.behind line.node.leaf u line.node.cited line.node.parents own parents forms line.form rule cites same have known follows
+    (follows_ruled line.node.leaf old.theory u d line.node.cited line.node.parents own parents forms line.form rule cites entries same have follows is.0).ruled
 
 marked_parts : (marks : List Bool) (xs ys : List Ref) → some_marked_ref marks (xs ++ ys) ≡ false → (some_marked_ref marks xs ≡ false) × (some_marked_ref marks ys ≡ false)
 marked_parts marks [] ys none = (refl, none)

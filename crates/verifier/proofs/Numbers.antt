@@ -15,7 +15,7 @@ use Rattle.verifier.specs.Run.{Progress, AreAnswered, IsAnswered, IsRun, begun, 
 use Rattle.verifier.specs.declared.answer.LineAnswer.{LineAnswer}
 use Rattle.verifier.specs.declared.answer.LineAnswer.TheVariants.{Accepted, Unverified, Skipped}
 use Rattle.verifier.proofs.Counting.{IsAccepted, one_accepted}
-use Rattle.verifier.proofs.Derived.{accepted_theory, with_stays}
+use Rattle.verifier.proofs.Derived.{accepted_theory, gained_stays}
 use Rattle.verifier.proofs.Slots.{set_here, set_elsewhere, set_cases, last_behind, one_value, in_replicate}
 use Rattle.verifier.proofs.Symbols.{Gains}
 
@@ -23,10 +23,10 @@ use Rattle.verifier.proofs.Symbols.{Gains}
 
 module _ (d : Derivation) (p : Progress) (place : ℕ) (form : Form) (u : Statements) (there : slice_get d.forms place ≡ Some form) (gains : Gains p.theory u form) where
   at_last : slice_get u.formulas (length u.formulas - 1) ≡ Some form
-  at_last = subst (λ (t : Statements). slice_get t.formulas (length t.formulas - 1) ≡ Some form) (sym gains.made) (last_behind p.theory.formulas gains.before form)
+  at_last = subst (λ (fs : List Form). slice_get fs (length fs - 1) ≡ Some form) (sym gains.formulas) (last_behind p.theory.formulas gains.before form)
 
   longer : length p.theory.formulas + 1 ≤ length u.formulas
-  longer = omega (arith, ap (λ (x : Statements). length x.formulas) gains.made, length-append p.theory.formulas (gains.before ++ form ∷ []), length-append gains.before (form ∷ []))
+  longer = omega (arith, ap (λ (fs : List Form). length fs) gains.formulas, length-append p.theory.formulas (gains.before ++ form ∷ []), length-append gains.before (form ∷ []))
 
   -- all lines that have numbers stand there
   pub stand_more : LinesStand p.theory d.forms p.numbers → LinesStand u d.forms (slice_set p.numbers place (Some (length u.formulas - 1)))
@@ -37,7 +37,7 @@ module _ (d : Derivation) (p : Progress) (place : ℕ) (form : Form) (u : Statem
           let n_is : n ≡ length u.formulas - 1 = cc in
           let form_is : form ≡ a = one_value (slice_get d.forms place) form a there (ap (slice_get d.forms) (sym here) ∙ is) in
           ap (slice_get u.formulas) n_is ∙ at_last ∙ ap Some form_is
-      by (inr before) = with_stays p.theory u (gains.before ++ form ∷ []) n a gains.made (stand k n a before is)
+      by (inr before) = gained_stays p.theory u form n a gains (stand k n a before is)
 
 -- ---- what is known of the numbers behind some lines
 
@@ -61,14 +61,14 @@ module _ (first : ℕ) (d : Derivation) where
       by k n (inl (here, said)) = let n_is : n ≡ length u.formulas - 1 = cc in omega (arith, n_is, before.long, longer d p place form u there gains)
       by k n (inr number) = before.behind k n number
 
-  pub answer_numbered : (old : Progress) (place : ℕ) (line : Line) (parents : Option (List Parent)) (answer : LineAnswer) (entries : List Entry) (new : Progress) → IsLineAt d place line → IsAnswered d.given old place line parents answer entries new → IsNumbered first d old → IsNumbered first d new
+  pub answer_numbered : (old : Progress) (place : ℕ) (line : Line) (parents : Option (List Parent)) (answer : LineAnswer) (entries : List Entry) (new : Progress) → IsLineAt d place line → IsAnswered d old place line parents answer entries new → IsNumbered first d old → IsNumbered first d new
   answer_numbered old place line None Skipped entries new there is before = subst (IsNumbered first d) (sym is.1) before
   answer_numbered old place line None (Accepted rule cites) entries new there is before = absurd is
   answer_numbered old place line None (Unverified reason) entries new there is before = absurd is
   answer_numbered old place line (Some parents) Skipped entries new there is before = absurd is
   answer_numbered old place line (Some parents) (Accepted rule cites) entries new there (answers, (theory, admits, is)) before =
       subst (IsNumbered first d) (sym is)
-      (numbered_more old place line.form theory there.form (accepted_theory line.node.leaf old.theory theory d.given line.node.cited parents line.form rule cites entries answers admits) before)
+      (numbered_more old place line.form theory there.form (accepted_theory line.node.leaf old.theory theory d line.node.cited parents line.form rule cites entries answers admits) before)
   answer_numbered old place line (Some parents) (Unverified reason) entries new there is before = subst (IsNumbered first d) (sym is.2) before
 
   pub answers_numbered : (answers : List LineAnswer) (old : Progress) (places : List ℕ) (entries : List Entry) (new : Progress) → AreAnswered d answers old places entries new → IsNumbered first d old → IsNumbered first d new
@@ -110,7 +110,7 @@ set_keeps p place k theory within has = by (k == place) refl
         (has.0, set_elsewhere p.numbers place k (Some (length theory.formulas - 1)) apart ∙ has.1)
 
 module _ (d : Derivation) where
-  answer_keeps : (old : Progress) (place : ℕ) (line : Line) (parents : Option (List Parent)) (answer : LineAnswer) (entries : List Entry) (new : Progress) (k : ℕ) → place < length old.numbers → IsAnswered d.given old place line parents answer entries new → HasNumber old k → HasNumber new k
+  answer_keeps : (old : Progress) (place : ℕ) (line : Line) (parents : Option (List Parent)) (answer : LineAnswer) (entries : List Entry) (new : Progress) (k : ℕ) → place < length old.numbers → IsAnswered d old place line parents answer entries new → HasNumber old k → HasNumber new k
   answer_keeps old place line None Skipped entries new k within is has = subst (λ (p : Progress). HasNumber p k) (sym is.1) has
   answer_keeps old place line None (Accepted rule cites) entries new k within is has = absurd is
   answer_keeps old place line None (Unverified reason) entries new k within is has = absurd is
@@ -118,7 +118,7 @@ module _ (d : Derivation) where
   answer_keeps old place line (Some parents) (Accepted rule cites) entries new k within (answers, (theory, admits, is)) has = subst (λ (p : Progress). HasNumber p k) (sym is) (set_keeps old place k theory within has)
   answer_keeps old place line (Some parents) (Unverified reason) entries new k within is has = subst (λ (p : Progress). HasNumber p k) (sym is.2) has
 
-  answer_has : (old : Progress) (place : ℕ) (line : Line) (parents : Option (List Parent)) (answer : LineAnswer) (entries : List Entry) (new : Progress) → place < length old.numbers → IsAccepted answer → IsAnswered d.given old place line parents answer entries new → HasNumber new place
+  answer_has : (old : Progress) (place : ℕ) (line : Line) (parents : Option (List Parent)) (answer : LineAnswer) (entries : List Entry) (new : Progress) → place < length old.numbers → IsAccepted answer → IsAnswered d old place line parents answer entries new → HasNumber new place
   answer_has old place line parents Skipped entries new within good is = absurd good
   answer_has old place line parents (Unverified reason) entries new within good is = absurd good
   answer_has old place line None (Accepted rule cites) entries new within good is = absurd is

@@ -1,38 +1,40 @@
--- Two runs of one derivation from one theory: their answers say the same and cite what is marked alike, whatever their entries
--- are.
-use Rattle.std.proofs.Common.{◌≡◌, ℕ, zero, suc, ◌+◌, ◌-◌, ◌<◌, ◌≤◌, ◌==◌, ◌||◌, inl, inr, Bool, true, false, List, [], ◌∷◌, length, map, Option, None, Some, slice_get, replicate, refl, sym, ◌∙◌, ap, subst, arith}
+-- Two runs of one derivation from one theory, where in the one no search is made: their answers say the same and cite what
+-- is marked alike, whatever their entries are.
+use Rattle.std.proofs.Common.{◌≡◌, ℕ, suc, ◌+◌, ◌-◌, ◌<◌, ◌≤◌, ◌==◌, ◌||◌, ◌⊎◌, inl, inr, Bool, true, false, List, [], ◌∷◌, length, map, Option, None, Some, slice_get, replicate, refl, sym, ◌∙◌, ap, subst, arith}
 use Rattle.std.specs.List.{list_any}
 use Rattle.std.proofs.lemmas.Bool.Decides.{nat_tests}
 use Rattle.std.proofs.lemmas.Option.{slice_get_within}
+use Rattle.fof_terms.specs.Vocabulary.{Vocabulary}
 use Rattle.fof_terms.specs.declared.form.Form.{Form}
 use Rattle.clause_form.specs.declared.path.Parent.{Parent}
 use Rattle.kernel.specs.Statements.{Statements}
-use Rattle.kernel.specs.Entries.{Admits, IsFresh}
 use Rattle.kernel.specs.declared.entry.Entry.{Entry}
 use Rattle.elaborate.specs.ByRule.{IsFirst, IsFirstAlone, rules, leaf_rules}
 use Rattle.elaborate.specs.declared.answer.Reason.{Reason}
-use Rattle.elaborate.specs.declared.answer.Reason.TheVariants.{NotYet, Leaf}
+use Rattle.elaborate.specs.Answers.{IsSearchAnswer}
+use Rattle.elaborate.specs.declared.answer.Reason.TheVariants.{Dry, Full, Heavy, Wide, Leaf}
 use Rattle.elaborate.specs.declared.answer.Rule.{Rule}
 use Rattle.elaborate.specs.declared.answer.StepAnswer.TheVariants as step
 use Rattle.tstp_graph.specs.declared.shape.Ref.{Ref}
 use Rattle.tstp_graph.specs.declared.shape.Ref.TheVariants as ref
 use Rattle.tstp_graph.specs.Order.{is_taken, first_left}
-use Rattle.szs_report.specs.declared.answer.LineAnswer.{LineAnswer as Said}
 use Rattle.verifier.specs.Claim.{answer_cites_marked, cites_marked}
-use Rattle.verifier.specs.Lines.{Derivation, Line, numbered, with_number, accepted, parent_of, both, parents_of, candidates_of}
+use Rattle.step_clauses.specs.Wide.{is_wide}
+use Rattle.verifier.specs.Lines.{Derivation, Line, with_number, accepted, parent_of, both, parents_of, candidates_of, sources_of}
 use Rattle.verifier.specs.Report.{said_of}
 use Rattle.verifier.specs.Run.{Progress, AnswersKind, AnswersPlace, AreAnswered, IsAnswered, IsRun, begun, with_answered}
+use Rattle.verifier.specs.Unsearched.{AreUnsearched, IsUnsearched}
 use Rattle.verifier.specs.declared.answer.LineAnswer.{LineAnswer}
 use Rattle.verifier.specs.declared.answer.LineAnswer.TheVariants.{Accepted, Unverified, Skipped}
 use Rattle.clause_form.specs.Paths.{forms_of}
-use Rattle.verifier.proofs.Accepting.{kind_follows}
-use Rattle.verifier.proofs.Derived.{accepted_theory}
-use Rattle.verifier.proofs.Goodness.{candidates_alike, never_unverified, same_line}
+use Rattle.verifier.proofs.Accepting.{kind_follows, not_searched}
+use Rattle.verifier.proofs.Derived.{ByARule, ByASearch, IsRuled, IsUnruled, kind_reason, kind_unruled, kind_ways, ruled_theory}
+use Rattle.verifier.proofs.Goodness.{candidates_alike, never_unruled, same_line}
 use Rattle.verifier.proofs.Marking.{answered_marked}
 use Rattle.verifier.proofs.Numbers.{IsNumbered, answer_numbered, begun_numbered}
 use Rattle.verifier.proofs.Renumbering.{Alike, first_alike_rule, alone_alike_rule}
 use Rattle.verifier.proofs.Slots.{set_here, set_elsewhere, one_value, has_value}
-use Rattle.verifier.proofs.Symbols.{SameSymbols, same_symbols, other_way, Gains, gained_fresh, gained_still}
+use Rattle.verifier.proofs.Symbols.{SameSymbols, same_symbols, other_way, GainsByRule, gained_fresh, ruled_gains, ruled_still}
 use Rattle.verifier.proofs.Turns.{none_left}
 
 -- ---- the first rule is one
@@ -53,26 +55,90 @@ one_leaf_rule (q ∷ rs) t candidates line r s i j (inr (none, rest)) (inr (nor,
 
 -- ---- the answers to a line in theories with the same symbols
 
-module _ (given : List Form) (cited : Bool) (form : Form) (t u : Statements) (ps qs : List Parent) (same : SameSymbols t u) (alike : Alike ps qs) where
-  kinds_rule : (is_leaf : Bool) (r s : Rule) (cites others : List ℕ) (entries more : List Entry) → AnswersKind is_leaf t given cited ps form (step.Accepted r cites entries) → AnswersKind is_leaf u given cited qs form (step.Accepted s others more) → r ≡ s
-  kinds_rule false r s cites others entries more (by, is, derived) (also, are, again) = one_rule rules u qs form r s (first_alike_rule rules t u form r ps qs same alike by) also
-  kinds_rule true r s cites others entries more (i, c, there, by, is, derived) (j, e, here, also, are, again) =
-      one_leaf_rule leaf_rules u (candidates_of given cited qs) form r s i j (alone_alike_rule leaf_rules t u form r i (candidates_of given cited ps) (candidates_of given cited qs) same (candidates_alike given cited ps qs alike) by) also
+-- two lists of parents with the same formulas give the same sources
+sources_alike : (is_leaf : Bool) (given : List Form) (cited : Bool) (ps qs : List Parent) → Alike ps qs → forms_of (sources_of is_leaf given cited ps) ≡ forms_of (sources_of is_leaf given cited qs)
+sources_alike true given cited ps qs alike = candidates_alike given cited ps qs alike
+sources_alike false given cited ps qs alike = alike
 
-  kinds_reason : (is_leaf : Bool) (r s : Reason) → AnswersKind is_leaf t given cited ps form (step.Unverified r) → AnswersKind is_leaf u given cited qs form (step.Unverified s) → r ≡ s
-  kinds_reason false NotYet NotYet none nothing = refl
-  kinds_reason false NotYet Leaf none nothing = absurd nothing
-  kinds_reason false Leaf s none nothing = absurd none
-  kinds_reason true NotYet NotYet none nothing = refl
-  kinds_reason true Leaf Leaf none nothing = refl
-  kinds_reason true NotYet Leaf none nothing = let wrong : true ≡ false = sym none.1 ∙ nothing.1 in absurd cc
-  kinds_reason true Leaf NotYet none nothing = let wrong : true ≡ false = sym nothing.1 ∙ none.1 in absurd cc
+-- the case of a search is wide, or not
+abbrev width : Statements → Bool → List Form → Bool → List Parent → Form → Bool
+width t is_leaf given cited ps form = is_wide (length t.vocabulary.symbols) (forms_of (sources_of is_leaf given cited ps)) form
 
-  -- a line that is accepted here is not unverified there
-  not_apart : (is_leaf : Bool) (refs : List Ref) (r : Rule) (cites : List ℕ) (entries : List Entry) (reason : Reason) → AnswersKind is_leaf t given cited ps form (step.Accepted r cites entries) → AnswersKind is_leaf u given cited qs form (step.Unverified reason) → ⊥
-  not_apart is_leaf refs r cites entries reason answers none =
-      let follows = kind_follows is_leaf t t given cited refs ps form r cites entries (same_symbols t) answers in
-      never_unverified is_leaf u t given cited refs follows.0 qs (forms_of ps) form reason same (sym alike) follows.1 none
+one_width : (t u : Statements) (is_leaf : Bool) (given : List Form) (cited : Bool) (ps qs : List Parent) (form : Form) → SameSymbols t u → Alike ps qs → width t is_leaf given cited ps form ≡ width u is_leaf given cited qs form
+one_width t u is_leaf given cited ps qs form same alike =
+    ap (λ (v : Vocabulary). is_wide (length v.symbols) (forms_of (sources_of is_leaf given cited ps)) form) same.vocabulary
+    ∙ ap (λ (fs : List Form). is_wide (length u.vocabulary.symbols) fs form) (sources_alike is_leaf given cited ps qs alike)
+
+never_both : (b : Bool) → b ≡ true → b ≡ false → ⊥
+never_both b one other = let wrong : true ≡ false = sym one ∙ other in cc
+
+-- a leaf that names nothing is not searched for
+never_free : (is_leaf cited : Bool) → is_leaf ≡ true → cited ≡ false → (is_leaf ≡ false) ⊎ (cited ≡ true) → ⊥
+never_free is_leaf cited leaf free (inl is) = never_both is_leaf leaf is
+never_free is_leaf cited leaf free (inr is) = never_both cited is free
+
+-- what a search leaves open was not too wide for it
+open_narrow : (t : Statements) (sources : List Parent) (form : Form) (limit : ℕ) (reason : Reason) → IsSearchAnswer t sources form limit (step.Unverified reason) → (reason ≡ Wide) ⊎ (is_wide (length t.vocabulary.symbols) (forms_of sources) form ≡ false)
+open_narrow t sources form limit Dry open_ = inr open_.narrow
+open_narrow t sources form limit Full open_ = inr open_.narrow
+open_narrow t sources form limit Heavy open_ = inr open_.narrow
+open_narrow t sources form limit Wide open_ = inl refl
+open_narrow t sources form limit Leaf open_ = absurd open_
+
+-- and what no search is made for is
+unsearched_wide : (t : Statements) (sources : List Parent) (form : Form) (limit : ℕ) (reason : Reason) → IsUnsearched (Unverified reason) → IsSearchAnswer t sources form limit (step.Unverified reason) → (reason ≡ Wide) × (is_wide (length t.vocabulary.symbols) (forms_of sources) form ≡ true)
+unsearched_wide t sources form limit Dry direct open_ = absurd direct
+unsearched_wide t sources form limit Full direct open_ = absurd direct
+unsearched_wide t sources form limit Heavy direct open_ = absurd direct
+unsearched_wide t sources form limit Wide direct open_ = (refl, open_)
+unsearched_wide t sources form limit Leaf direct open_ = absurd open_
+
+-- a line that a rule gives here has a rule there
+not_unruled : (is_leaf : Bool) (given : List Form) (cited : Bool) (refs : List Ref) (form : Form) (t u : Statements) (ps qs : List Parent) (r : Rule) (cites : List ℕ) → SameSymbols t u → Alike ps qs → IsRuled is_leaf t given cited ps form r cites → IsUnruled is_leaf u given cited qs form → ⊥
+not_unruled is_leaf given cited refs form t u ps qs r cites same alike ruled none =
+    let follows = kind_follows is_leaf t t given cited refs ps form r cites (same_symbols t) ruled in
+    never_unruled is_leaf u t given cited refs follows.0 qs (forms_of ps) form same (sym alike) follows.1 none
+
+module _ (d : Derivation) (cited : Bool) (refs : List Ref) (form : Form) (t u : Statements) (ps qs : List Parent) (same : SameSymbols t u) (alike : Alike ps qs) where
+  kinds_rule : (is_leaf : Bool) (r s : Rule) (cites others : List ℕ) → IsRuled is_leaf t d.given cited ps form r cites → IsRuled is_leaf u d.given cited qs form s others → r ≡ s
+  kinds_rule false r s cites others (by, is) (also, are) = one_rule rules u qs form r s (first_alike_rule rules t u form r ps qs same alike by) also
+  kinds_rule true r s cites others (i, c, there, by, is) (j, e, here, also, are) =
+      one_leaf_rule leaf_rules u (candidates_of d.given cited qs) form r s i j (alone_alike_rule leaf_rules t u form r i (candidates_of d.given cited ps) (candidates_of d.given cited qs) same (candidates_alike d.given cited ps qs alike) by) also
+
+  -- a line that a rule gives here is accepted by a rule there
+  rule_there : (is_leaf : Bool) (r s : Rule) (cites others : List ℕ) (more : List Entry) → IsRuled is_leaf t d.given cited ps form r cites → AnswersKind is_leaf u d cited qs form (step.Accepted s others more) → ByARule is_leaf u d.given cited qs form s others more
+  rule_there is_leaf r s cites others more ruled answers = by (kind_ways is_leaf u d cited qs form s others more answers)
+    where
+      by : ByARule is_leaf u d.given cited qs form s others more ⊎ ByASearch is_leaf u d.given cited qs form s others more → ByARule is_leaf u d.given cited qs form s others more
+      by (inl again) = again
+      by (inr found) = absurd (not_unruled is_leaf d.given cited refs form t u ps qs r cites same alike ruled found.unruled)
+
+  -- a line that is left open without a search is not accepted there
+  not_there : (is_leaf : Bool) (reason : Reason) (s : Rule) (others : List ℕ) (more : List Entry) → IsUnsearched (Unverified reason) → AnswersKind is_leaf t d cited ps form (step.Unverified reason) → AnswersKind is_leaf u d cited qs form (step.Accepted s others more) → ⊥
+  not_there is_leaf reason s others more direct none answers = by (kind_ways is_leaf u d cited qs form s others more answers) (kind_reason is_leaf t d cited ps form reason none)
+    where
+      by : ByARule is_leaf u d.given cited qs form s others more ⊎ ByASearch is_leaf u d.given cited qs form s others more
+          → ((reason ≡ Leaf) × (is_leaf ≡ true) × (cited ≡ false)) ⊎ (((is_leaf ≡ false) ⊎ (cited ≡ true)) × IsSearchAnswer t (sources_of is_leaf d.given cited ps) form d.limit (step.Unverified reason)) → ⊥
+      by (inl ruled) why = not_unruled is_leaf d.given cited refs form u t qs ps s others (other_way t u same) (sym alike) ruled.ruled (kind_unruled is_leaf t d cited ps form reason none)
+      by (inr found) (inl (is, leaf, free)) = never_free is_leaf cited leaf free found.may
+      by (inr found) (inr (may, open_)) =
+          let wide = unsearched_wide t (sources_of is_leaf d.given cited ps) form d.limit reason direct open_ in
+          never_both (width u is_leaf d.given cited qs form) (sym (one_width t u is_leaf d.given cited ps qs form same alike) ∙ wide.1) found.narrow
+
+  kinds_reason : (is_leaf : Bool) (r s : Reason) → IsUnsearched (Unverified r) → AnswersKind is_leaf t d cited ps form (step.Unverified r) → AnswersKind is_leaf u d cited qs form (step.Unverified s) → r ≡ s
+  kinds_reason is_leaf r s direct none nothing = by (kind_reason is_leaf t d cited ps form r none) (kind_reason is_leaf u d cited qs form s nothing)
+    where
+      open_too : (r ≡ Wide) × (width t is_leaf d.given cited ps form ≡ true) → (s ≡ Wide) ⊎ (width u is_leaf d.given cited qs form ≡ false) → r ≡ s
+      open_too wide (inl also) = wide.0 ∙ sym also
+      open_too wide (inr narrow) = absurd (never_both (width u is_leaf d.given cited qs form) (sym (one_width t u is_leaf d.given cited ps qs form same alike) ∙ wide.1) narrow)
+
+      by : ((r ≡ Leaf) × (is_leaf ≡ true) × (cited ≡ false)) ⊎ (((is_leaf ≡ false) ⊎ (cited ≡ true)) × IsSearchAnswer t (sources_of is_leaf d.given cited ps) form d.limit (step.Unverified r))
+          → ((s ≡ Leaf) × (is_leaf ≡ true) × (cited ≡ false)) ⊎ (((is_leaf ≡ false) ⊎ (cited ≡ true)) × IsSearchAnswer u (sources_of is_leaf d.given cited qs) form d.limit (step.Unverified s)) → r ≡ s
+      by (inl (is, leaf, free)) (inl (also, leaf_too, free_too)) = is ∙ sym also
+      by (inl (is, leaf, free)) (inr (may, open_)) = absurd (never_free is_leaf cited leaf free may)
+      by (inr (may, open_)) (inl (also, leaf, free)) = absurd (never_free is_leaf cited leaf free may)
+      by (inr (may, open_)) (inr (may_too, again)) =
+          open_too (unsearched_wide t (sources_of is_leaf d.given cited ps) form d.limit r direct open_) (open_narrow u (sources_of is_leaf d.given cited qs) form d.limit s again)
 
 -- ---- two runs of the same lines
 
@@ -143,11 +209,11 @@ module _ (d : Derivation) (p q : Progress) (level : AreLevel p q) where
       both_level (parent_of d.given d.forms p.numbers r) (parent_of d.given d.forms q.numbers r) (parents_of d.given d.forms p.numbers rs) (parents_of d.given d.forms q.numbers rs) (parent_level r) (parents_level rs)
 
 -- a line that both gain
-gained_level : (t u v w : Statements) (line : Form) → SameSymbols t u → Gains t v line → Gains u w line → SameSymbols v w
+gained_level : (t u v w : Statements) (line : Form) → SameSymbols t u → GainsByRule t v line → GainsByRule u w line → SameSymbols v w
 gained_level t u v w line same first second = record {
   vocabulary = ap (λ (x : Statements). x.vocabulary) first.made ∙ same.vocabulary ∙ sym (ap (λ (x : Statements). x.vocabulary) second.made);
-  forth = λ k fresh. let parts = gained_fresh t v line k first fresh in gained_still u w line k second (same.forth k parts.0) parts.1;
-  back = λ k fresh. let parts = gained_fresh u w line k second fresh in gained_still t v line k first (same.back k parts.0) parts.1;
+  forth = λ k fresh. let parts = gained_fresh t v line k (ruled_gains t v line first) fresh in ruled_still u w line k second (same.forth k parts.0) parts.1;
+  back = λ k fresh. let parts = gained_fresh u w line k (ruled_gains u w line second) fresh in ruled_still t v line k first (same.back k parts.0) parts.1;
 }
 
 -- the line at the place is accepted in both
@@ -184,13 +250,13 @@ record AnsweredLevel (d : Derivation) (a b : LineAnswer) (v w : Progress) : Type
   level : AreLevel v w
 
 module _ (d : Derivation) (p q : Progress) (place : ℕ) (line : Line) (within : place < length d.nodes) (level : AreLevel p q) (first : IsNumbered (length d.given) d p) (second : IsNumbered (length d.given) d q) where
-  both_accepted : (ps qs : List Parent) (r s : Rule) (cites others : List ℕ) (entries more : List Entry) (v w : Progress) → parents_of d.given d.forms p.numbers line.node.parents ≡ Some ps → parents_of d.given d.forms q.numbers line.node.parents ≡ Some qs → Alike ps qs
-      → IsAnswered d.given p place line (Some ps) (Accepted r cites) entries v → IsAnswered d.given q place line (Some qs) (Accepted s others) more w → AnsweredLevel d (Accepted r cites) (Accepted s others) v w
-  both_accepted ps qs r s cites others entries more v w known also alike here there =
-      let is : AnswersKind line.node.leaf p.theory d.given line.node.cited ps line.form (step.Accepted r cites entries) = here.0 in
-      let are : AnswersKind line.node.leaf q.theory d.given line.node.cited qs line.form (step.Accepted s others more) = there.0 in
-      let rule : r ≡ s = kinds_rule d.given line.node.cited line.form p.theory q.theory ps qs level.same alike line.node.leaf r s cites others entries more is are in
-      let follows = kind_follows line.node.leaf p.theory p.theory d.given line.node.cited line.node.parents ps line.form r cites entries (same_symbols p.theory) is in
+  both_accepted : (ps qs : List Parent) (r s : Rule) (cites others : List ℕ) (entries more : List Entry) (v w : Progress) → parents_of d.given d.forms p.numbers line.node.parents ≡ Some ps → parents_of d.given d.forms q.numbers line.node.parents ≡ Some qs → Alike ps qs → IsUnsearched (Accepted r cites)
+      → IsAnswered d p place line (Some ps) (Accepted r cites) entries v → IsAnswered d q place line (Some qs) (Accepted s others) more w → AnsweredLevel d (Accepted r cites) (Accepted s others) v w
+  both_accepted ps qs r s cites others entries more v w known also alike direct here there =
+      let is : ByARule line.node.leaf p.theory d.given line.node.cited ps line.form r cites entries = not_searched line.node.leaf p.theory d line.node.cited ps line.form r cites entries direct here.0 in
+      let are : ByARule line.node.leaf q.theory d.given line.node.cited qs line.form s others more = rule_there d line.node.cited line.node.parents line.form p.theory q.theory ps qs level.same alike line.node.leaf r s cites others more is.ruled there.0 in
+      let rule : r ≡ s = kinds_rule d line.node.cited line.node.parents line.form p.theory q.theory ps qs level.same alike line.node.leaf r s cites others is.ruled are.ruled in
+      let follows = kind_follows line.node.leaf p.theory p.theory d.given line.node.cited line.node.parents ps line.form r cites (same_symbols p.theory) is.ruled in
       record {
         alike = record {
           said = ap (λ (x : Rule). said_of (Accepted x cites)) rule;
@@ -201,8 +267,8 @@ module _ (d : Derivation) (p q : Progress) (place : ℕ) (line : Line) (within :
         level = subst (λ (x : Progress). AreLevel x w) (sym here.1.2) (subst (λ (x : Progress). AreLevel (with_answered p place here.1.0) x) (sym there.1.2)
             (placed_level p q place here.1.0 there.1.0 (omega (arith, within, first.count)) (omega (arith, within, second.count)) level
             (gained_level p.theory q.theory here.1.0 there.1.0 line.form level.same
-            (accepted_theory line.node.leaf p.theory here.1.0 d.given line.node.cited ps line.form r cites entries is here.1.1)
-            (accepted_theory line.node.leaf q.theory there.1.0 d.given line.node.cited qs line.form s others more are there.1.1))));
+            (ruled_theory p.theory here.1.0 cites entries line.form is.derived here.1.1)
+            (ruled_theory q.theory there.1.0 others more line.form are.derived there.1.1))));
       }
 
   stays_level : (a b : LineAnswer) (v w : Progress) → said_of a ≡ said_of b → ((marks : List Bool) → answer_cites_marked marks a ≡ answer_cites_marked marks b) → v ≡ p → w ≡ q → AnsweredLevel d a b v w
@@ -211,25 +277,26 @@ module _ (d : Derivation) (p q : Progress) (place : ℕ) (line : Line) (within :
     level = subst (λ (x : Progress). AreLevel x w) (sym is) (subst (λ (x : Progress). AreLevel p x) (sym also) level);
   }
 
-  by_parents : (ps qs : Option (List Parent)) (a b : LineAnswer) (entries more : List Entry) (v w : Progress) → parents_of d.given d.forms p.numbers line.node.parents ≡ ps → parents_of d.given d.forms q.numbers line.node.parents ≡ qs → LevelLists ps qs
-      → IsAnswered d.given p place line ps a entries v → IsAnswered d.given q place line qs b more w → AnsweredLevel d a b v w
-  by_parents None None Skipped Skipped entries more v w known also alike here there = stays_level Skipped Skipped v w refl (λ marks. refl) here.1 there.1
-  by_parents None None (Accepted r cites) b entries more v w known also alike here there = absurd here
-  by_parents None None (Unverified reason) b entries more v w known also alike here there = absurd here
-  by_parents None None Skipped (Accepted s others) entries more v w known also alike here there = absurd there
-  by_parents None None Skipped (Unverified reason) entries more v w known also alike here there = absurd there
-  by_parents None (Some qs) a b entries more v w known also alike here there = absurd alike
-  by_parents (Some ps) None a b entries more v w known also alike here there = absurd alike
-  by_parents (Some ps) (Some qs) Skipped b entries more v w known also alike here there = absurd here
-  by_parents (Some ps) (Some qs) (Accepted r cites) Skipped entries more v w known also alike here there = absurd there
-  by_parents (Some ps) (Some qs) (Unverified reason) Skipped entries more v w known also alike here there = absurd there
-  by_parents (Some ps) (Some qs) (Accepted r cites) (Accepted s others) entries more v w known also alike here there = both_accepted ps qs r s cites others entries more v w known also alike here there
-  by_parents (Some ps) (Some qs) (Accepted r cites) (Unverified reason) entries more v w known also alike here there =
-      absurd (not_apart d.given line.node.cited line.form p.theory q.theory ps qs level.same alike line.node.leaf line.node.parents r cites entries reason here.0 there.0)
-  by_parents (Some ps) (Some qs) (Unverified reason) (Accepted s others) entries more v w known also alike here there =
-      absurd (not_apart d.given line.node.cited line.form q.theory p.theory qs ps (other_way p.theory q.theory level.same) (sym alike) line.node.leaf line.node.parents s others more reason there.0 here.0)
-  by_parents (Some ps) (Some qs) (Unverified reason) (Unverified other) entries more v w known also alike here there =
-      let same : reason ≡ other = kinds_reason d.given line.node.cited line.form p.theory q.theory ps qs level.same alike line.node.leaf reason other here.0 there.0 in
+  by_parents : (ps qs : Option (List Parent)) (a b : LineAnswer) (entries more : List Entry) (v w : Progress) → parents_of d.given d.forms p.numbers line.node.parents ≡ ps → parents_of d.given d.forms q.numbers line.node.parents ≡ qs → LevelLists ps qs → IsUnsearched a
+      → IsAnswered d p place line ps a entries v → IsAnswered d q place line qs b more w → AnsweredLevel d a b v w
+  by_parents None None Skipped Skipped entries more v w known also alike direct here there = stays_level Skipped Skipped v w refl (λ marks. refl) here.1 there.1
+  by_parents None None (Accepted r cites) b entries more v w known also alike direct here there = absurd here
+  by_parents None None (Unverified reason) b entries more v w known also alike direct here there = absurd here
+  by_parents None None Skipped (Accepted s others) entries more v w known also alike direct here there = absurd there
+  by_parents None None Skipped (Unverified reason) entries more v w known also alike direct here there = absurd there
+  by_parents None (Some qs) a b entries more v w known also alike direct here there = absurd alike
+  by_parents (Some ps) None a b entries more v w known also alike direct here there = absurd alike
+  by_parents (Some ps) (Some qs) Skipped b entries more v w known also alike direct here there = absurd here
+  by_parents (Some ps) (Some qs) (Accepted r cites) Skipped entries more v w known also alike direct here there = absurd there
+  by_parents (Some ps) (Some qs) (Unverified reason) Skipped entries more v w known also alike direct here there = absurd there
+  by_parents (Some ps) (Some qs) (Accepted r cites) (Accepted s others) entries more v w known also alike direct here there = both_accepted ps qs r s cites others entries more v w known also alike direct here there
+  by_parents (Some ps) (Some qs) (Accepted r cites) (Unverified reason) entries more v w known also alike direct here there =
+      let is = not_searched line.node.leaf p.theory d line.node.cited ps line.form r cites entries direct here.0 in
+      absurd (not_unruled line.node.leaf d.given line.node.cited line.node.parents line.form p.theory q.theory ps qs r cites level.same alike is.ruled (kind_unruled line.node.leaf q.theory d line.node.cited qs line.form reason there.0))
+  by_parents (Some ps) (Some qs) (Unverified reason) (Accepted s others) entries more v w known also alike direct here there =
+      absurd (not_there d line.node.cited line.node.parents line.form p.theory q.theory ps qs level.same alike line.node.leaf reason s others more direct here.0 there.0)
+  by_parents (Some ps) (Some qs) (Unverified reason) (Unverified other) entries more v w known also alike direct here there =
+      let same : reason ≡ other = kinds_reason d line.node.cited line.node.parents line.form p.theory q.theory ps qs level.same alike line.node.leaf reason other direct here.0 there.0 in
       stays_level (Unverified reason) (Unverified other) v w (ap (λ (x : Reason). said_of (Unverified x)) same) (λ marks. refl) here.2 there.2
 
 -- ---- the lines in turn
@@ -238,15 +305,15 @@ module _ (d : Derivation) (p q : Progress) (place : ℕ) (line : Line) (within :
 abbrev AtPlace : Derivation → List LineAnswer → List LineAnswer → ℕ → Type 0
 AtPlace d answers others k = (a : LineAnswer) × (b : LineAnswer) × (slice_get answers k ≡ Some a) × (slice_get others k ≡ Some b) × AreOfOneLine d a b
 
-module _ (d : Derivation) (answers others : List LineAnswer) where
+module _ (d : Derivation) (answers others : List LineAnswer) (direct : AreUnsearched answers) where
   place_level : (p q : Progress) (place : ℕ) (entries more : List Entry) (v w : Progress) → AreLevel p q → IsNumbered (length d.given) d p → IsNumbered (length d.given) d q
       → (a : AnswersPlace d answers p place entries v) (b : AnswersPlace d others q place more w) → AnsweredLevel d a.answer b.answer v w
   place_level p q place entries more v w level first second a b =
       let same : b.line ≡ a.line = same_line d place b.line a.line b.there a.there in
-      let there : IsAnswered d.given q place a.line (parents_of d.given d.forms q.numbers a.line.node.parents) b.answer more w =
-      subst (λ (l : Line). IsAnswered d.given q place l (parents_of d.given d.forms q.numbers l.node.parents) b.answer more w) same b.is in
+      let there : IsAnswered d q place a.line (parents_of d.given d.forms q.numbers a.line.node.parents) b.answer more w =
+      subst (λ (l : Line). IsAnswered d q place l (parents_of d.given d.forms q.numbers l.node.parents) b.answer more w) same b.is in
       by_parents d p q place a.line (slice_get_within d.nodes place a.line.node a.there.node) level first second (parents_of d.given d.forms p.numbers a.line.node.parents) (parents_of d.given d.forms q.numbers a.line.node.parents) a.answer b.answer entries more v w refl refl
-      (parents_level d p q level a.line.node.parents) a.is there
+      (parents_level d p q level a.line.node.parents) (direct place a.answer a.answer_there) a.is there
 
   turns_level : (p q : Progress) (places : List ℕ) (entries more : List Entry) (v w : Progress) (k : ℕ) → AreLevel p q → IsNumbered (length d.given) d p → IsNumbered (length d.given) d q
       → AreAnswered d answers p places entries v → AreAnswered d others q places more w → is_taken places k ≡ true → AtPlace d answers others k
@@ -279,7 +346,7 @@ same_any f (x ∷ xs) [] count each = absurd (omega (arith, count))
 same_any f (x ∷ xs) (y ∷ ys) count each =
     ap (λ (b : Bool). b || list_any f xs) (each 0 x y refl refl) ∙ ap (λ (b : Bool). f y || b) (same_any f xs ys (omega (arith, count)) (λ k a b here there. each (suc k) a b here there))
 
-module _ (start : Statements) (d : Derivation) (order : List ℕ) (answers others : List LineAnswer) (entries more : List Entry) (end last : Statements) (given : start.formulas ≡ d.given) (all : first_left (is_taken order) 0 d.nodes ≡ None) (run : IsRun start d order answers entries end) (other : IsRun start d order others more last) where
+module _ (start : Statements) (d : Derivation) (order : List ℕ) (answers others : List LineAnswer) (entries more : List Entry) (end last : Statements) (given : start.formulas ≡ d.given) (all : first_left (is_taken order) 0 d.nodes ≡ None) (direct : AreUnsearched answers) (run : IsRun start d order answers entries end) (other : IsRun start d order others more last) where
   starts : IsNumbered (length d.given) d (begun start d)
   starts = subst (λ (fs : List Form). IsNumbered (length fs) d (begun start d)) given (begun_numbered start d)
 
@@ -289,7 +356,7 @@ module _ (start : Statements) (d : Derivation) (order : List ℕ) (answers other
       let zero_more : 0 + k ≡ k = omega arith in
       let taken : is_taken order k ≡ true = ap (is_taken order) (sym zero_more) ∙ none_left (is_taken order) 0 d.nodes k node.0 all node.1 in
       let found =
-      turns_level d answers others (begun start d) (begun start d) order entries more (record { theory = end; numbers = run.numbers }) (record { theory = last; numbers = other.numbers }) k
+      turns_level d answers others direct (begun start d) (begun start d) order entries more (record { theory = end; numbers = run.numbers }) (record { theory = last; numbers = other.numbers }) k
       (record { same = same_symbols start; slots = λ i. level_itself (slice_get (replicate (length d.nodes) None) i) }) starts starts run.answered other.answered taken in
       subst (λ (x : LineAnswer). AreOfOneLine d x b) (one_value (slice_get answers k) found.0 a found.2 here)
       (subst (λ (y : LineAnswer). AreOfOneLine d found.0 y) (one_value (slice_get others k) found.1 b found.3 there) found.4)

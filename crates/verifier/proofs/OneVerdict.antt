@@ -7,7 +7,6 @@ use Rattle.szs_report.specs.declared.answer.LineAnswer.{LineAnswer as Said}
 use Rattle.szs_report.specs.declared.answer.LineAnswer.TheVariants as said
 use Rattle.szs_report.specs.declared.answer.Verdict.{Verdict}
 use Rattle.szs_report.specs.declared.answer.Verdict.TheVariants.{Verified, Failed, NoFalse, BadClaim}
-use Rattle.verifier.specs.Claim.{status_word}
 use Rattle.verifier.specs.Report.{said_of, lines_text, report_text, is_unverified, is_skipped, unverified_of, skipped_of, IsVerdict}
 use Rattle.verifier.specs.declared.answer.LineAnswer.{LineAnswer}
 use Rattle.verifier.specs.declared.answer.LineAnswer.TheVariants.{Accepted, Unverified, Skipped}

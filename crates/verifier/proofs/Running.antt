@@ -13,10 +13,10 @@ use Rattle.clause_form.specs.declared.path.Parent.{Parent}
 use Rattle.tstp_graph.specs.declared.shape.Node.{Node}
 use Rattle.tstp_graph.specs.Order.{is_taken, TakesInTurn}
 use Rattle.verifier.specs.Lines.{Derivation, Line, parents_of}
-use Rattle.verifier.specs.Logged.{LogsSome, LogsRun, entries_text}
+use Rattle.verifier.specs.Logged.{LogsSome, LogsRun, LogsStopped, entries_text}
 use Rattle.verifier.specs.code.Numbered.{progress_of}
-use Rattle.verifier.specs.Run.{Progress, IsAnswered, AnswersPlace, AreAnswered, begun}
-use Rattle.verifier.specs.code.Taking.{RunsLine}
+use Rattle.verifier.specs.Run.{Progress, IsAnswered, AnswersPlace, AreAnswered, LacksRoom, begun}
+use Rattle.verifier.specs.code.Taking.{RunsLine, StopsAt}
 use Rattle.verifier.specs.declared.answer.LineAnswer.{LineAnswer}
 use Rattle.verifier.specs.declared.answer.LineAnswer.TheVariants.{Accepted, Unverified, Skipped}
 use Rattle.verifier.specs.declared.run.Outcome.{Outcome}
@@ -25,7 +25,7 @@ use Rattle.verifier.proofs.Slots.{set_here, set_elsewhere}
 use Rattle.verifier.proofs.Turns.{HasTurn, turn_of, taken_last, taken_still, taken_apart}
 
 -- the entries of one answer are legal in turn
-pub answer_admits : (d : Derivation) (old : Progress) (place : ℕ) (line : Line) (parents : Option (List Parent)) (answer : LineAnswer) (entries : List Entry) (new : Progress) → IsAnswered d.given old place line parents answer entries new → Admits old.theory entries new.theory
+pub answer_admits : (d : Derivation) (old : Progress) (place : ℕ) (line : Line) (parents : Option (List Parent)) (answer : LineAnswer) (entries : List Entry) (new : Progress) → IsAnswered d old place line parents answer entries new → Admits old.theory entries new.theory
 answer_admits d old place line None Skipped entries new is = subst (λ (es : List Entry). Admits old.theory es new.theory) (sym is.0) (ap (λ (p : Progress). p.theory) is.1)
 answer_admits d old place line None (Accepted rule cites) entries new is = absurd is
 answer_admits d old place line None (Unverified reason) entries new is = absurd is
@@ -48,23 +48,25 @@ answers_admit d answers old (place ∷ places) entries new (own, mid, answered, 
 abbrev pub AgreeOn : List ℕ → List LineAnswer → List LineAnswer → Type 0
 AgreeOn taken final answers = (k : ℕ) → is_taken taken k ≡ true → slice_get final k ≡ slice_get answers k
 
--- Some lines are answered, and what is answered of the rest can follow.
+-- Some lines of the order are answered, and what is answered of lines behind them can follow.
 pub record IsRunning (d : Derivation) (start : Progress) (order : List ℕ) (now : Progress) (answers : List LineAnswer) (done rest : List ℕ) (log_old log_now : Option (List ℕ)) : Type 0 where
+  pub order_is : order ≡ done ++ rest
   pub turns : TakesInTurn d.nodes done rest
   pub count : length answers ≡ length d.nodes
   pub entries : List Entry
   pub legal : Admits start.theory entries now.theory
-  pub goes_on : (final : List LineAnswer) → AgreeOn done final answers → (later : List Entry) (end : Progress) → AreAnswered d final now rest later end → AreAnswered d final start order (entries ++ later) end
+  pub goes_on : (final : List LineAnswer) → AgreeOn done final answers → (places : List ℕ) (later : List Entry) (end : Progress) → AreAnswered d final now places later end → AreAnswered d final start (done ++ places) (entries ++ later) end
   pub taken : Takes log_old log_now (entries_text entries)
   pub in_range : HaveNumbersInRange entries
 
 pub running_none : (d : Derivation) (start : Progress) (order : List ℕ) (answers : List LineAnswer) (log : Option (List ℕ)) → TakesInTurn d.nodes [] order → length answers ≡ length d.nodes → IsRunning d start order start answers [] order log log
 running_none d start order answers log turns count = record {
+  order_is = refl;
   turns = turns;
   count = count;
   entries = [];
   legal = refl;
-  goes_on = λ final agree later end are. are;
+  goes_on = λ final agree places later end are. are;
   taken = takes_nothing log;
   in_range = tt;
 }
@@ -93,18 +95,20 @@ running_more d start order now new answers more done longer here rest place answ
     let stays : (k : ℕ) → is_taken done k ≡ true → slice_get set k ≡ slice_get answers k = λ k taken. set_elsewhere answers place k answer (taken_apart done place k turn.is_new taken) in
     subst (λ (as_ : List LineAnswer). IsRunning d start order new as_ longer rest log_old log_new) (sym is_more)
     (subst (λ (ps : List ℕ). IsRunning d start order new set ps rest log_old log_new) (sym is_longer) (record {
+      order_is = before.order_is ∙ sym (append_assoc done (place ∷ []) rest);
       turns = before.turns.1;
       count = length-set answers place answer ∙ before.count;
       entries = before.entries ++ answered.entries;
       legal = admits_append start.theory now.theory new.theory before.entries answered.entries before.legal (answer_admits d now place answered.line (parents_of d.given d.forms now.numbers answered.line.node.parents) answer answered.entries new answered.is);
-      goes_on = λ final agree later end are.
-          subst (λ (es : List Entry). AreAnswered d final start order es end) (sym (append_assoc before.entries answered.entries later))
-          (before.goes_on final (λ k taken. agree k (taken_still done place k taken) ∙ stays k taken) (answered.entries ++ later) end (
+      goes_on = λ final agree places later end are.
+          subst (λ (ps : List ℕ). AreAnswered d final start ps ((before.entries ++ answered.entries) ++ later) end) (sym (append_assoc done (place ∷ []) places))
+          (subst (λ (es : List Entry). AreAnswered d final start (done ++ place ∷ places) es end) (sym (append_assoc before.entries answered.entries later))
+          (before.goes_on final (λ k taken. agree k (taken_still done place k taken) ∙ stays k taken) (place ∷ places) (answered.entries ++ later) end (
             answered.entries,
             new,
-            record { line = answered.line; there = answered.there; answer = answer; answer_there = agree place (taken_last done place) ∙ here_is; is = answered.is },
+            record { line = answered.line; there = answered.there; room = answered.room; answer = answer; answer_there = agree place (taken_last done place) ∙ here_is; is = answered.is },
             (later, refl, are),
-          ));
+          )));
       taken = takes_more_entries log_old log_now log_new before.entries answered.entries before.taken answered.taken;
       in_range = range_both before.entries answered.entries before.in_range answered.in_range;
     }))
@@ -113,20 +117,54 @@ running_more d start order now new answers more done longer here rest place answ
 pub running_cut : (d : Derivation) (start : Progress) (order : List ℕ) (now : Progress) (answers : List LineAnswer) (done rest : List ℕ) (log_old log_now log_new : Option (List ℕ)) → IsRunning d start order now answers done rest log_old log_now → LogsSome now.theory log_now log_new → LogsSome start.theory log_old log_new
 running_cut d start order now answers done rest log_old log_now log_new so_far cut = logs_more start.theory now.theory so_far.entries log_old log_now log_new so_far.legal so_far.taken cut
 
+-- the lines so far are answered
+answered_so_far : (d : Derivation) (start : Progress) (order : List ℕ) (now : Progress) (answers : List LineAnswer) (done rest : List ℕ) (log_old log_now : Option (List ℕ)) → (r : IsRunning d start order now answers done rest log_old log_now) → AreAnswered d answers start done r.entries now
+answered_so_far d start order now answers done rest log_old log_now r =
+    subst (λ (ps : List ℕ). AreAnswered d answers start ps r.entries now) (append-nil done)
+    (subst (λ (es : List Entry). AreAnswered d answers start (done ++ []) es now) (append-nil r.entries) (r.goes_on answers (λ k taken. refl) [] [] now (refl, refl)))
+
 pub running_all : (d : Derivation) (t : Statements) (order : List ℕ) (end : Statements) (numbers : List (Option ℕ)) (answers : List LineAnswer) (done rest : List ℕ) (log_old log_now : Option (List ℕ)) → rest ≡ [] → IsRunning d (begun t d) order (progress_of end numbers) answers done rest log_old log_now → LogsRun t d order answers numbers end log_old log_now
 running_all d t order end numbers answers done rest log_old log_now none so_far =
     let all : IsRunning d (begun t d) order (progress_of end numbers) answers done [] log_old log_now = subst (λ (ps : List ℕ). IsRunning d (begun t d) order (progress_of end numbers) answers done ps log_old log_now) none so_far in
+    let order_is : order ≡ done = all.order_is ∙ append-nil done in
     record {
       entries = all.entries;
       run = record {
         count = all.count;
         numbers = numbers;
-        answered = subst (λ (es : List Entry). AreAnswered d answers (begun t d) order es (progress_of end numbers)) (append-nil all.entries) (all.goes_on answers (λ k taken. refl) [] (progress_of end numbers) (refl, refl));
+        answered = subst (λ (ps : List ℕ). AreAnswered d answers (begun t d) ps all.entries (progress_of end numbers)) (sym order_is) (answered_so_far d (begun t d) order (progress_of end numbers) answers done [] log_old log_now all);
       };
       numbered = refl;
       taken = all.taken;
       in_range = all.in_range;
     }
+
+-- the run stops where there is no room for the line that has its turn
+pub running_stopped : (d : Derivation) (t : Statements) (order : List ℕ) (end : Statements) (numbers : List (Option ℕ)) (answers : List LineAnswer) (done here rest : List ℕ) (place : ℕ) (log_old log_now : Option (List ℕ)) → here ≡ place ∷ rest
+    → IsRunning d (begun t d) order (progress_of end numbers) answers done here log_old log_now → LacksRoom d (progress_of end numbers) place → LogsStopped t d order place end log_old log_now
+running_stopped d t order end numbers answers done here rest place log_old log_now here_is so_far lacks = record {
+  entries = so_far.entries;
+  stopped = record {
+    before = done;
+    behind = rest;
+    order_is = so_far.order_is ∙ ap (λ (ps : List ℕ). done ++ ps) here_is;
+    answers = answers;
+    numbers = numbers;
+    answered = answered_so_far d (begun t d) order (progress_of end numbers) answers done here log_old log_now so_far;
+    lacks = lacks;
+  };
+  taken = so_far.taken;
+  in_range = so_far.in_range;
+}
+
+-- as the code finds it
+pub stopped_here : (d : Derivation) (t : Statements) (order : List ℕ) (now end : Statements) (numbers after : List (Option ℕ)) (answers : List LineAnswer) (done here rest : List ℕ) (place at : ℕ) (log_old log_now log_new : Option (List ℕ)) → here ≡ place ∷ rest
+    → IsRunning d (begun t d) order (progress_of now numbers) answers done here log_old log_now → StopsAt d (progress_of now numbers) place (progress_of end after) log_now log_new at → LogsStopped t d order at end log_old log_new
+stopped_here d t order now end numbers after answers done here rest place at log_old log_now log_new here_is so_far (at_is, lacks, same, log_is) =
+    subst (λ (k : ℕ). LogsStopped t d order k end log_old log_new) (sym at_is)
+    (subst (λ (x : Statements). LogsStopped t d order place x log_old log_new) (sym (ap (λ (p : Progress). p.theory) same))
+    (subst (λ (log : Option (List ℕ)). LogsStopped t d order place now log_old log) (sym log_is)
+    (running_stopped d t order now numbers answers done here rest place log_old log_now here_is so_far lacks)))
 
 -- ---- the places in an order
 
@@ -142,10 +180,19 @@ running_begins d t order numbers answers count log is all same turns =
     (running_none d (begun t d) order answers log turns (same ∙ all))
 
 -- a run over the formulas of a theory, which are the given formulas
-module _ {E : Type 0} (result : Result Outcome E) (t end : Statements) (old new : Option (List ℕ)) where
+module _ {E : Type 0} (result : Result Outcome E) (t end : Statements) (old new : Option (List ℕ)) (limit : ℕ) where
   pub ran_over : (given all : List Form) (nodes graph : List Node) (forms : List Form) (places order : List ℕ) → given ≡ all → nodes ≡ graph → places ≡ order
-      → IfOk result (λ ran. LogsRun t (record { given = given; nodes = nodes; forms = forms }) places ran.answers ran.numbers end old new) → IfOk result (λ ran. LogsRun t (record { given = all; nodes = graph; forms = forms }) order ran.answers ran.numbers end old new)
+      → IfOk result (λ ran. LogsRun t (record { given = given; nodes = nodes; forms = forms; limit = limit }) places ran.answers ran.numbers end old new) → IfOk result (λ ran. LogsRun t (record { given = all; nodes = graph; forms = forms; limit = limit }) order ran.answers ran.numbers end old new)
   ran_over given all nodes graph forms places order one two three ran =
-      subst (λ (ps : List ℕ). IfOk result (λ ran. LogsRun t (record { given = all; nodes = graph; forms = forms }) ps ran.answers ran.numbers end old new)) three
-      (subst (λ (ns : List Node). IfOk result (λ ran. LogsRun t (record { given = all; nodes = ns; forms = forms }) places ran.answers ran.numbers end old new)) two
-      (subst (λ (fs : List Form). IfOk result (λ ran. LogsRun t (record { given = fs; nodes = nodes; forms = forms }) places ran.answers ran.numbers end old new)) one ran))
+      subst (λ (ps : List ℕ). IfOk result (λ ran. LogsRun t (record { given = all; nodes = graph; forms = forms; limit = limit }) ps ran.answers ran.numbers end old new)) three
+      (subst (λ (ns : List Node). IfOk result (λ ran. LogsRun t (record { given = all; nodes = ns; forms = forms; limit = limit }) places ran.answers ran.numbers end old new)) two
+      (subst (λ (fs : List Form). IfOk result (λ ran. LogsRun t (record { given = fs; nodes = nodes; forms = forms; limit = limit }) places ran.answers ran.numbers end old new)) one ran))
+
+-- the same where the run stops
+module _ (t end : Statements) (old new : Option (List ℕ)) (limit place : ℕ) where
+  pub stopped_over : (given all : List Form) (nodes graph : List Node) (forms : List Form) (places order : List ℕ) → given ≡ all → nodes ≡ graph → places ≡ order
+      → LogsStopped t (record { given = given; nodes = nodes; forms = forms; limit = limit }) places place end old new → LogsStopped t (record { given = all; nodes = graph; forms = forms; limit = limit }) order place end old new
+  stopped_over given all nodes graph forms places order one two three stopped =
+      subst (λ (ps : List ℕ). LogsStopped t (record { given = all; nodes = graph; forms = forms; limit = limit }) ps place end old new) three
+      (subst (λ (ns : List Node). LogsStopped t (record { given = all; nodes = ns; forms = forms; limit = limit }) places place end old new) two
+      (subst (λ (fs : List Form). LogsStopped t (record { given = fs; nodes = nodes; forms = forms; limit = limit }) places place end old new) one stopped))

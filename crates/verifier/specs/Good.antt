@@ -2,7 +2,7 @@
 -- follows from its parents by a rule, each leaf from what is given, and some line is falsehood. For the rules that ask
 -- for a new symbol, a symbol is new to a line where it stands neither in a given formula nor in the formula of a line
 -- before it in the order.
-use Rattle.std.specs.Prelude.{ℕ, ◌≡◌, Bool, true, false, List, [], ◌∷◌, ◌++◌, Option, None, Some, map, slice_get}
+use Rattle.std.specs.Prelude.{ℕ, ◌≡◌, Bool, true, false, List, [], ◌∷◌, ◌++◌, length, Option, None, Some, map, slice_get}
 use Rattle.fof_terms.specs.Vocabulary.{Vocabulary}
 use Rattle.fof_terms.specs.declared.form.Form.{Form}
 use Rattle.kernel.specs.Statements.{Statements}
@@ -12,6 +12,7 @@ use Rattle.elaborate.specs.declared.answer.Rule.{Rule}
 use Rattle.tstp_graph.specs.declared.shape.Ref.{Ref}
 use Rattle.verifier.specs.Lines.{Derivation, Line, IsLineAt, numbered, both, candidates_of}
 use Rattle.verifier.specs.Report.{HasFalse}
+use Rattle.verifier.specs.Run.{HasRoomFrom}
 use Rattle.tstp_graph.specs.declared.shape.Ref.TheVariants as ref
 
 -- the formula of a parent
@@ -64,3 +65,9 @@ FollowInTurn v d earlier (place ∷ places) cites =
 pub record IsGood (v : Vocabulary) (d : Derivation) (order : List ℕ) (cites : List Ref) : Type 0 where
   pub each : FollowInTurn v d [] order cites
   pub ends : HasFalse d.forms
+
+-- beside these symbols there is room for each line, by the formulas from which it is to follow: those that it cites, or of
+-- a leaf that names none all that are given
+abbrev pub HaveRoom : Vocabulary → Derivation → Type 0
+HaveRoom v d =
+    (place : ℕ) (line : Line) (forms : List Form) → IsLineAt d place line → cited_forms d.given d.forms line.node.parents ≡ Some forms → HasRoomFrom (length v.symbols) d line (without_numbers forms)

@@ -9,4 +9,5 @@ pub mod Logged
 pub mod Report
 pub mod Run
 pub mod Symbols
+pub mod Unsearched
 pub mod code

@@ -9,11 +9,13 @@ use Rattle.tstp_graph.specs.declared.shape.Ref.{Ref}
 use Rattle.tstp_graph.specs.declared.shape.Ref.TheVariants as ref
 
 -- The lines of a derivation over given formulas, in the order of the text: the nodes of its graph, and the formula of
--- each, which is what the line denotes, negated where its role is conjecture.
+-- each, which is what the line denotes, negated where its role is conjecture. A search for one of them keeps so many
+-- clauses at most.
 pub record Derivation : Type 0 where
   pub given : List Form
   pub nodes : List Node
   pub forms : List Form
+  pub limit : ℕ
 
 -- a line: its node in the graph, and its formula
 pub record Line : Type 0 where
@@ -70,3 +72,8 @@ parents_of given forms numbers (ref ∷ refs) = both (parent_of given forms numb
 abbrev pub candidates_of : List Form → Bool → List Parent → List Parent
 candidates_of given true parents = parents
 candidates_of given false parents = given_from 0 given
+
+-- the formulas from which a line is to follow: a leaf's candidates, and the parents of a step
+abbrev pub sources_of : Bool → List Form → Bool → List Parent → List Parent
+sources_of true given cited parents = candidates_of given cited parents
+sources_of false given cited parents = parents

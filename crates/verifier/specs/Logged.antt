@@ -8,7 +8,7 @@ use Rattle.kernel.specs.Entries.{Admits}
 use Rattle.kernel.specs.declared.entry.Entry.{Entry}
 use Rattle.proof_log.specs.Entries.{HaveNumbersInRange, entry_text}
 use Rattle.verifier.specs.Lines.{Derivation}
-use Rattle.verifier.specs.Run.{IsRun}
+use Rattle.verifier.specs.Run.{IsRun, IsStopped}
 use Rattle.verifier.specs.declared.answer.LineAnswer.{LineAnswer}
 
 abbrev pub entries_text : List Entry → List ℕ
@@ -35,5 +35,13 @@ pub record LogsRun (start : Statements) (d : Derivation) (order : List ℕ) (ans
   pub entries : List Entry
   pub run : IsRun start d order answers entries end
   pub numbered : run.numbers ≡ numbers
+  pub taken : Takes old new (entries_text entries)
+  pub in_range : HaveNumbersInRange entries
+
+-- The run stops at this place, where there is no room for the line, and the log has taken the entries of the lines
+-- before it, whose numbers fit their types.
+pub record LogsStopped (start : Statements) (d : Derivation) (order : List ℕ) (place : ℕ) (end : Statements) (old new : Option (List ℕ)) : Type 0 where
+  pub entries : List Entry
+  pub stopped : IsStopped start d order place entries end
   pub taken : Takes old new (entries_text entries)
   pub in_range : HaveNumbersInRange entries

@@ -6,9 +6,9 @@ use Rattle.tptp_base.specs.declared.name.Name.{Name}
 use Rattle.fof_terms.specs.declared.form.Form.{Form, Or}
 use Rattle.elaborate.specs.declared.answer.Rule.{Rule}
 use Rattle.elaborate.specs.declared.answer.Rule.TheVariants.{Norm, Cover, Tautology, Resolution, Paramodulation}
-use Rattle.elaborate.specs.declared.answer.Rule.TheVariants.{EqFactor, Rewrite, Split, Skolem, Definition, Choice}
+use Rattle.elaborate.specs.declared.answer.Rule.TheVariants.{EqFactor, Rewrite, Split, Skolem, Definition, Choice, Search}
 use Rattle.elaborate.specs.declared.answer.Reason.{Reason}
-use Rattle.elaborate.specs.declared.answer.Reason.TheVariants.{NotYet, Leaf}
+use Rattle.elaborate.specs.declared.answer.Reason.TheVariants.{Dry, Full, Heavy, Wide, Leaf}
 use Rattle.szs_report.specs.Report.{line_text, verdict_text}
 use Rattle.szs_report.specs.declared.answer.LineAnswer.{LineAnswer as Said}
 use Rattle.szs_report.specs.declared.answer.Verdict.{Verdict}
@@ -32,10 +32,14 @@ rule_name Split = codes "split"
 rule_name Skolem = codes "skolem"
 rule_name Definition = codes "definition"
 rule_name Choice = codes "choice"
+rule_name Search = codes "search"
 
 -- the printed name of a reason
 abbrev pub reason_name : Reason → List ℕ
-reason_name NotYet = codes "not-yet"
+reason_name Dry = codes "dry"
+reason_name Full = codes "full"
+reason_name Heavy = codes "heavy"
+reason_name Wide = codes "wide"
 reason_name Leaf = codes "leaf"
 
 -- what is printed of an answer

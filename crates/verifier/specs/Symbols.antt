@@ -1,4 +1,5 @@
--- Which symbols stand in the theory of a run: those of what is given and of the lines that are accepted.
+-- Which symbols stand in the theory of a run, of those that it begins with: those of what is given and of the lines that
+-- are accepted.
 use Rattle.std.specs.Prelude.{ℕ, ◌≡◌, true, false, List, Some, slice_get}
 use Rattle.std.specs.List.{All as Each}
 use Rattle.fof_terms.specs.Occurs.{occurs_in}

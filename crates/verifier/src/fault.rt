@@ -15,6 +15,9 @@ pub enum RunFault {
     Sink,
     #[error("out of memory")]
     Memory,
+    /// There is no room for the symbols that a search for the line at this place may bring in.
+    #[error("no room for the symbols of a search")]
+    Room(usize),
 }
 
 impl From<AllocError> for RunFault {

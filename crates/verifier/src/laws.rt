@@ -14,11 +14,12 @@ ghost use Rattle.szs_report.specs.declared.answer.Verdict.{Verdict as Ending};
 ghost use Rattle.verifier.specs.Citing.{DoNotCite};
 ghost use Rattle.verifier.specs.Claim.{cites_marked, is_marked, some_marked_ref};
 ghost use Rattle.verifier.specs.Closing.{Closes, IsVerified};
-ghost use Rattle.verifier.specs.Good.{IsGood};
+ghost use Rattle.verifier.specs.Good.{HaveRoom, IsGood};
 ghost use Rattle.verifier.specs.Lines.{Derivation, Line as Placed};
 ghost use Rattle.verifier.specs.Report.{HasFalse, AreAccepted, IsVerdict, said_of};
-ghost use Rattle.verifier.specs.Run.{AnswersLine, IsRun};
+ghost use Rattle.verifier.specs.Run.{AnswersLine, IsRun, IsStopped};
 ghost use Rattle.verifier.specs.Symbols.{IsUnusedIn};
+ghost use Rattle.verifier.specs.Unsearched.{AreUnsearched};
 ghost use Rattle.verifier.specs.declared.answer.LineAnswer.{LineAnswer as Answered};
 ghost use Rattle.verifier.specs.declared.claim.Claim.{Claim as Claimed};
 
@@ -39,9 +40,9 @@ pub fn a_verified_run_refutes()
 /// Of the formulas that stand in the theory before the entries of an accepted line, the entries cite none but those
 /// that the line is said to cite.
 pub fn a_line_cites_what_is_said()
-    ensures { (t : Statements) (given : List Formula) (line : Placed) (parents : List Stated) (rule : Rule)
+    ensures { (t : Statements) (d : Derivation) (line : Placed) (parents : List Stated) (rule : Rule)
         (cites : List ℕ) (entries : List LogEntry) (number : ℕ)
-        → AnswersLine t given line parents (step.Accepted rule cites entries) → number < length t.formulas
+        → AnswersLine t d line parents (step.Accepted rule cites entries) → number < length t.formulas
         → Each (λ cited. cited ≡ number → ⊥) cites → DoNotCite number entries }
 {}
 
@@ -55,12 +56,12 @@ pub fn a_run_cites_what_its_lines_cite()
         → DoNotCite number (entries ++ last) }
 {}
 
-/// A symbol is new to all formulas of the theory behind a run exactly where it stands in nothing that is given and in
-/// no accepted line.
+/// A symbol of those that a run begins with is new to all formulas of the theory behind the run exactly where it stands
+/// in nothing that is given and in no accepted line. So what searches bring in makes no symbol of the texts old.
 pub fn a_run_speaks_of_its_lines()
     ensures { (start : Statements) (d : Derivation) (order : List ℕ) (answers : List Answered) (entries : List LogEntry)
         (end : Statements) (k : ℕ)
-        → start.formulas ≡ d.given → IsRun start d order answers entries end
+        → start.formulas ≡ d.given → k < length start.vocabulary.symbols → IsRun start d order answers entries end
         → IsFresh k end ↔ IsUnusedIn k d order answers }
 {}
 
@@ -80,28 +81,40 @@ pub fn a_good_derivation_is_accepted()
         → cites_marked marks answers ≡ false }
 {}
 
-/// A derivation is good where a run accepts each line and one of them is falsehood. Where no answer cites a formula
-/// that is marked, the lines cite none that is marked by their texts. So the law before asks for no more than is found.
+/// A run of a good derivation does not stop, where the symbols that it begins with leave room for each line.
+pub fn a_good_derivation_has_room()
+    ensures { (start : Statements) (d : Derivation) (order : List ℕ) (cites : List Cited) (place : ℕ)
+        (entries : List LogEntry) (end : Statements)
+        → start.formulas ≡ d.given → IsGood start.vocabulary d order cites → TakesInTurn d.nodes [] order
+        → HaveRoom start.vocabulary d → IsStopped start d order place entries end → ⊥ }
+{}
+
+/// A derivation is good where a run accepts each line without a search and one of them is falsehood. Where no answer
+/// cites a formula that is marked, the lines cite none that is marked by their texts. So of the derivations that need no
+/// search the law on good ones asks for no more than is found.
 pub fn an_accepted_derivation_is_good()
     ensures { (start : Statements) (d : Derivation) (order : List ℕ) (answers : List Answered) (entries : List LogEntry)
         (end : Statements)
-        → start.formulas ≡ d.given → IsRun start d order answers entries end → AreAccepted answers → HasFalse d.forms
+        → start.formulas ≡ d.given → IsRun start d order answers entries end → AreAccepted answers
+        → AreUnsearched answers → HasFalse d.forms
         → (cites : List Cited) × IsGood start.vocabulary d order cites
         × ((marks : List Bool) → length marks ≤ length d.given → cites_marked marks answers ≡ false
         → some_marked_ref marks cites ≡ false) }
 {}
 
-/// Two runs of a derivation from one theory answer each line alike: what is said of it is the same, and a formula that
-/// is marked is cited in the one exactly where it is cited in the other. Their entries may differ.
+/// Two runs of a derivation from one theory, the first of which makes no search, answer each line alike: what is said of
+/// it is the same, and a formula that is marked is cited in the one exactly where it is cited in the other. Their entries
+/// may differ. (Where lines are searched for, the lists of clauses that two searches keep may differ, and with them what
+/// is found.)
 pub fn a_run_has_one_report()
     ensures said { (start : Statements) (d : Derivation) (order : List ℕ) (answers others : List Answered)
         (entries more : List LogEntry) (end last : Statements)
-        → start.formulas ≡ d.given → first_left (is_taken order) 0 d.nodes ≡ None
+        → start.formulas ≡ d.given → first_left (is_taken order) 0 d.nodes ≡ None → AreUnsearched answers
         → IsRun start d order answers entries end → IsRun start d order others more last
         → map said_of answers ≡ map said_of others }
     ensures marked { (start : Statements) (d : Derivation) (order : List ℕ) (answers others : List Answered)
         (entries more : List LogEntry) (end last : Statements) (marks : List Bool)
-        → start.formulas ≡ d.given → first_left (is_taken order) 0 d.nodes ≡ None
+        → start.formulas ≡ d.given → first_left (is_taken order) 0 d.nodes ≡ None → AreUnsearched answers
         → IsRun start d order answers entries end → IsRun start d order others more last → length marks ≤ length d.given
         → cites_marked marks answers ≡ cites_marked marks others }
 {}

@@ -23,9 +23,9 @@ pub use declarations::declare;
 pub use ending::{has_false, verdict};
 pub use fault::RunFault;
 pub use laws::{
-    a_good_derivation_is_accepted, a_line_cites_what_is_said, a_run_cites_what_its_lines_cite,
-    a_run_has_one_report, a_run_speaks_of_its_lines, a_verified_run_refutes,
-    an_accepted_derivation_is_good, one_verdict_applies,
+    a_good_derivation_has_room, a_good_derivation_is_accepted, a_line_cites_what_is_said,
+    a_run_cites_what_its_lines_cite, a_run_has_one_report, a_run_speaks_of_its_lines,
+    a_verified_run_refutes, an_accepted_derivation_is_good, one_verdict_applies,
 };
 pub use names::{answer_of, reason_name, rule_name};
 pub use run::{Outcome, run_lines};

@@ -3,11 +3,14 @@ ghost use Rattle.std.specs.Prelude.{◌≡◌, ◌<◌, ◌≤◌, length, IfOk,
 ghost use Rattle.tptp_base.specs.Count.{Rose};
 ghost use Rattle.clause_rules.specs.Steps.{AreReady, IsReady};
 ghost use Rattle.derive_kit.specs.Derived.{AreOfTheory};
-ghost use Rattle.verifier.specs.Faults.{HasCause};
+ghost use Rattle.kernel.specs.Statements.{AreClosed};
+ghost use Rattle.step_clauses.specs.Room.{HasRoom};
+ghost use Rattle.verifier.specs.Faults.{HasCause, HasRunCause};
+ghost use Rattle.verifier.specs.Lines.{sources_of as all_sources};
 ghost use Rattle.verifier.specs.Logged.{LeadTo, LogsSome};
 ghost use Rattle.clause_form.specs.Paths.{forms_of};
 ghost use Rattle.verifier.specs.code.Numbered.{AreNumbered, progress_of, derivation_in, Knows};
-ghost use Rattle.verifier.specs.code.Taking.{CanTake, TakesAnswer, RunsLine};
+ghost use Rattle.verifier.specs.code.Taking.{CanTake, TakesAnswer, RunsLine, StopsAt};
 ghost use Rattle.verifier.specs.Run as spec;
 
 use crate::answer::LineAnswer;
@@ -20,10 +23,12 @@ use elaborate::{StepAnswer, leaf, step};
 use fof_terms::Form;
 use kernel::Theory;
 use std::alloc::Global;
+use step_clauses::has_room;
 use tptp_base::{List, Memory, Sink};
 use tstp_graph::Node;
 
-/// Runs the line at this place, given the numbers of the lines that are accepted so far. Its own joins them.
+/// Runs the line at this place, given the numbers of the lines that are accepted so far. Its own joins them. `Room`
+/// exactly where the line is not skipped and there is no room for it, but for want of memory.
 #[tactic(auto, using(crate::proofs::Leading::led_none))]
 pub fn run_line<K: Sink>(
     alloc: Global,
@@ -43,7 +48,9 @@ pub fn run_line<K: Sink>(
     ensures knows { OnOk result (Knows (derivation_in lines.now) (progress_of theory.new numbers.new)) }
     ensures leads { LeadTo theory.old theory.new }
     ensures cut { OnErr result (LogsSome theory.old (K.taken log.old) (K.taken log.new)) }
-    ensures cause { IfErr result (λ fault. HasCause fault (Rose (K.faults log.old) (K.faults log.new))) }
+    ensures cause { IfErr result (λ fault. HasRunCause fault (Rose (K.faults log.old) (K.faults log.new))
+        (StopsAt (derivation_in lines.now) (progress_of theory.old numbers.old) place
+        (progress_of theory.new numbers.new) (K.taken log.old) (K.taken log.new))) }
     ensures more_faults { K.faults log.old ≤ K.faults log.new }
 {
     let node = &lines.nodes[place];
@@ -53,35 +60,49 @@ pub fn run_line<K: Sink>(
     else {
         return Ok(LineAnswer::Skipped);
     };
-    let answer = answer_line(alloc, theory, lines.given, node, parents.as_slice(), form)?;
+    let sources = sources_of(node, lines.given, parents.as_slice());
+    let symbols = u64::from(theory.signature().symbol_count());
+    let room = has_room(alloc, symbols, sources, form)?;
+    if !room {
+        return Err(RunFault::Room(place));
+    }
+    let answer = answer_line(alloc, theory, node, sources, form, lines.limit)?;
     take_answer(alloc, answer, place, numbers, theory, log)
 }
 
-// The answer to a line that has these parents.
+// The formulas from which a line that has these parents is to follow.
+fn sources_of<'a>(node: &Node, given: &'a [Parent], parents: &'a [Parent]) -> &'a [Parent]
+    requires { AreNumbered given.now }
+    ensures { result.now ≡ all_sources node.now.leaf (forms_of given.now) node.now.cited parents.now }
+{
+    if node.leaf && !node.cited {
+        given
+    } else {
+        parents
+    }
+}
+
+// The answer to a line that is to follow from these formulas.
 fn answer_line(
     alloc: Global,
     theory: &Theory,
-    given: &[Parent],
     node: &Node,
-    parents: &[Parent],
+    sources: &[Parent],
     form: &Form,
+    limit: u32,
 ) -> Result<StepAnswer, Memory>
-    requires parents { AreOfTheory theory.now parents.now }
-    requires parents_ready { AreReady theory.now.vocabulary parents.now }
-    requires given { AreOfTheory theory.now given.now }
-    requires given_ready { AreReady theory.now.vocabulary given.now }
+    requires sources { AreOfTheory theory.now sources.now }
+    requires ready { AreReady theory.now.vocabulary sources.now }
     requires line { IsReady theory.now.vocabulary form.now }
-    requires numbered { AreNumbered given.now }
+    requires closed { AreClosed theory.now }
+    requires room { HasRoom (length theory.now.vocabulary.symbols) (forms_of sources.now) form.now }
     ensures { IfOk result
-        (spec.AnswersKind node.now.leaf theory.now (forms_of given.now) node.now.cited parents.now form.now) }
+        (spec.AnswersFrom node.now.leaf theory.now sources.now node.now.cited form.now limit) }
 {
-    if !node.leaf {
-        return step(alloc, theory, parents, form);
-    }
-    if node.cited {
-        leaf(alloc, theory, parents, true, form)
+    if node.leaf {
+        leaf(alloc, theory, sources, node.cited, form, limit)
     } else {
-        leaf(alloc, theory, given, false, form)
+        step(alloc, theory, sources, form, limit)
     }
 }
 

@@ -12,4 +12,6 @@ pub struct Lines<'a> {
     pub nodes: &'a [Node],
     /// The formula of each node.
     pub forms: &'a [Form],
+    /// How many clauses a search keeps at most.
+    pub limit: u32,
 }

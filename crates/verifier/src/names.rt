@@ -24,6 +24,7 @@ pub fn rule_name(rule: Rule) -> &'static [u8]
         Rule::Skolem => b"skolem",
         Rule::Definition => b"definition",
         Rule::Choice => b"choice",
+        Rule::Search => b"search",
     }
 }
 
@@ -32,7 +33,10 @@ pub fn reason_name(reason: Reason) -> &'static [u8]
     ensures { result.now ≡ Report.reason_name reason }
 {
     match reason {
-        Reason::NotYet => b"not-yet",
+        Reason::Dry => b"dry",
+        Reason::Full => b"full",
+        Reason::Heavy => b"heavy",
+        Reason::Wide => b"wide",
         Reason::Leaf => b"leaf",
     }
 }

@@ -5,8 +5,8 @@ ghost use Rattle.tptp_base.specs.Count.{Rose};
 ghost use Rattle.tstp_graph.specs.Graphs.{IsOrdered};
 ghost use Rattle.tstp_graph.specs.Order.{TakesInTurn};
 ghost use Rattle.clause_rules.specs.Steps.{IsReady};
-ghost use Rattle.verifier.specs.Faults.{HasCause};
-ghost use Rattle.verifier.specs.Logged.{LeadTo, LogsSome, LogsRun};
+ghost use Rattle.verifier.specs.Faults.{HasRunCause};
+ghost use Rattle.verifier.specs.Logged.{LeadTo, LogsSome, LogsRun, LogsStopped};
 ghost use Rattle.verifier.specs.code.Numbered.{derivation_in, IsOver};
 
 use crate::answer::LineAnswer;
@@ -32,17 +32,19 @@ pub struct Outcome {
 
 /// Runs the lines of a derivation in the theory of its given formulas, in the order of its graph, and answers each in
 /// the order of the text. The entries of an accepted line are added to the theory and logged before the next line is
-/// looked at. A line with a parent that is not accepted is skipped.
+/// looked at. A line with a parent that is not accepted is skipped. A search keeps so many clauses at most.
 ///
 /// # Errors
 ///
-/// `Sink` where the log failed, and `Memory`. The log has then taken a prefix of the lines of legal entries, and such
-/// entries lead to the theory (`leads`).
+/// `Room` at the first line in that order which is not skipped and for which the symbols of the theory leave no room: the
+/// log has then taken the entries of the lines before it. `Sink` where the log failed, and `Memory`: the log has then
+/// taken a prefix of the lines of legal entries. Such entries lead to the theory (`leads`).
 #[tactic(auto, using(crate::proofs::Leading::led_none))]
 pub fn run_lines<K: Sink>(
     alloc: Global,
     forms: &[Form],
     graph: &Graph,
+    limit: u32,
     theory: &mut Theory,
     log: &mut K,
 ) -> Result<Outcome, RunFault>
@@ -57,10 +59,19 @@ pub fn run_lines<K: Sink>(
           nodes = graph.now.nodes;
           forms =
               forms.now;
+          limit = limit;
         }) graph.now.order ran.answers ran.numbers theory.new (K.taken log.old) (K.taken log.new)) }
     ensures leads { LeadTo theory.old theory.new }
     ensures cut { OnErr result (LogsSome theory.old (K.taken log.old) (K.taken log.new)) }
-    ensures cause { IfErr result (λ fault. HasCause fault (Rose (K.faults log.old) (K.faults log.new))) }
+    ensures cause { IfErr result (λ fault. HasRunCause fault (Rose (K.faults log.old) (K.faults log.new)) (λ place.
+        LogsStopped theory.old
+        (record {
+          given = theory.old.formulas;
+          nodes = graph.now.nodes;
+          forms =
+              forms.now;
+          limit = limit;
+        }) graph.now.order place theory.new (K.taken log.old) (K.taken log.new))) }
     ensures more_faults { K.faults log.old ≤ K.faults log.new }
 {
     let given = given_parents(alloc, theory)?;
@@ -68,6 +79,7 @@ pub fn run_lines<K: Sink>(
         given: given.as_slice(),
         nodes: graph.nodes.as_slice(),
         forms,
+        limit,
     };
     run_in_order(alloc, &lines, graph.order.as_slice(), theory, log)
 }
@@ -88,7 +100,9 @@ fn run_in_order<K: Sink>(
         (K.taken log.new)) }
     ensures leads { LeadTo theory.old theory.new }
     ensures cut { OnErr result (LogsSome theory.old (K.taken log.old) (K.taken log.new)) }
-    ensures cause { IfErr result (λ fault. HasCause fault (Rose (K.faults log.old) (K.faults log.new))) }
+    ensures cause { IfErr result (λ fault. HasRunCause fault (Rose (K.faults log.old) (K.faults log.new)) (λ place.
+        LogsStopped theory.old (derivation_in lines.now) order.now place theory.new (K.taken log.old)
+        (K.taken log.new))) }
     ensures more_faults { K.faults log.old ≤ K.faults log.new }
 {
     let count = lines.nodes.len();

@@ -1,5 +1,5 @@
 -- What the proof of a line by the first of several rules says, and its entries by others.
-use Rattle.std.specs.Prelude.{ℕ, ◌≡◌, ◌<◌, List, [], ◌∷◌, Option, Some, None, slice_get}
+use Rattle.std.specs.Prelude.{ℕ, ◌≡◌, ◌<◌, ◌⊎◌, Bool, true, false, List, [], ◌∷◌, Option, Some, None, slice_get}
 use Rattle.fof_terms.specs.declared.form.Form.{Form}
 use Rattle.fof_terms.specs.Vocabulary.{Vocabulary}
 use Rattle.clause_form.specs.declared.path.Parent.{Parent}
@@ -8,15 +8,25 @@ use Rattle.kernel.specs.Statements.{Statements}
 use Rattle.kernel.specs.declared.entry.Entry.{Entry}
 use Rattle.kernel.specs.declared.proof.Proof.{Proof}
 use Rattle.clause_proofs.specs.Shown.{ShowsLine}
-use Rattle.elaborate.specs.ByRule.{IsFirst, IsNone, shape_rules}
+use Rattle.elaborate.specs.Answers.{IsSearchAnswer}
+use Rattle.elaborate.specs.ByRule.{IsFirst, IsNone, shape_rules, symbol_rules}
+use Rattle.elaborate.specs.declared.answer.Reason.TheVariants.{Leaf}
+use Rattle.elaborate.specs.declared.answer.StepAnswer.{StepAnswer}
+use Rattle.elaborate.specs.declared.answer.StepAnswer.TheVariants.{Unverified}
 use Rattle.elaborate.specs.declared.leaves.FromOne.{FromOne}
+use Rattle.elaborate.specs.declared.steps.Derived.{Derived}
 use Rattle.elaborate.specs.declared.steps.Found.{Found}
-use Rattle.derive_kit.specs.Derived.{IsDerivedFrom}
+use Rattle.derive_kit.specs.Derived.{IsDerivedFrom, numbers_of}
 
 -- the first of the rules by shape that gives the line, with a proof of it, or that there is none
 abbrev pub IsFound : Statements → List Parent → Form → Option Found → Type 0
 IsFound t parents line None = IsNone shape_rules t parents line
 IsFound t parents line (Some found) = IsFirst shape_rules t parents line found.rule × ShowsLine t.vocabulary parents line found.proof
+
+-- the first of the rules by names and new symbols that gives the line, with entries that derive it, or that there is none
+abbrev pub IsDerived : Statements → List Parent → Form → Option Derived → Type 0
+IsDerived t parents line None = IsNone symbol_rules t parents line
+IsDerived t parents line (Some derived) = IsFirst symbol_rules t parents line derived.rule × IsDerivedFrom t (numbers_of parents) derived.entries line
 
 -- `cover` gives the line from the candidate at this place alone
 abbrev pub CoversAlone : Vocabulary → List Parent → Form → ℕ → Type 0
@@ -54,3 +64,7 @@ IsFirstCover w candidates line (Some from) = IsFromFirst w candidates line from
 abbrev pub IsByEntries : Statements → List ℕ → Form → Type 0 → Option (List Entry) → Type 0
 IsByEntries t cites line holds None = holds → ⊥
 IsByEntries t cites line holds (Some entries) = holds × IsDerivedFrom t cites entries line
+
+-- what is answered to a leaf that no rule gives
+abbrev pub IsLeftLeaf : Statements → List Parent → Bool → Form → ℕ → StepAnswer → Type 0
+IsLeftLeaf t candidates cited line limit answer = ((cited ≡ true) × IsSearchAnswer t candidates line limit answer) ⊎ ((cited ≡ false) × (answer ≡ Unverified Leaf))

@@ -8,6 +8,7 @@ use Rattle.clause_form.specs.Covers.{scope_of}
 use Rattle.clause_rules.specs.Steps.{scope_of_both}
 use Rattle.unify_terms.specs.Substitution.{image_at}
 use Rattle.superpose.specs.declared.made.Made.{Made}
+use Rattle.superpose.specs.Absent.{AreWithout}
 use Rattle.superpose.specs.Drafts.{IsClause}
 use Rattle.superpose.specs.Inferences.{InfersFromOne, InfersFromTwo}
 use Rattle.saturation.specs.declared.member.Member.{Member}
@@ -29,6 +30,7 @@ pub record FollowsOne (v : Vocabulary) (c : Clause) (a : ℕ) (m : Member) : Typ
   pub origin : m.origin ≡ Inferred a a images
   pub each : length images ≡ length (scope_of c)
   pub infers : InfersFromOne v c m.clause (image_at images)
+  pub no_new : (k : ℕ) → AreWithout k c.lits → AreWithout k m.clause.lits
   pub clause : IsClause v m.clause
 
 -- the member follows from the clauses of these numbers
@@ -37,6 +39,7 @@ pub record FollowsTwo (v : Vocabulary) (c d : Clause) (a b : ℕ) (m : Member) :
   pub origin : m.origin ≡ Inferred a b images
   pub each : length images ≡ length (scope_of_both c d)
   pub infers : InfersFromTwo v c d m.clause (image_at images)
+  pub no_new : (k : ℕ) → AreWithout k c.lits → AreWithout k d.lits → AreWithout k m.clause.lits
   pub clause : IsClause v m.clause
 
 -- all inferences from the clause came to the others, up to instances

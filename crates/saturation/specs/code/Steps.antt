@@ -5,7 +5,7 @@ use Rattle.fof_terms.specs.Vocabulary.{Vocabulary}
 use Rattle.clause_form.specs.declared.clause.Clause.{Clause}
 use Rattle.saturation.specs.declared.member.Member.{Member}
 use Rattle.saturation.specs.declared.outcome.Outcome.{Outcome}
-use Rattle.saturation.specs.Ends.{EndsWith, HasOrigins, KeepsLimit, NamesOnes}
+use Rattle.saturation.specs.Ends.{EndsWith, HasFitMembers, HasOrigins, KeepsLimit, NamesOnes}
 use Rattle.saturation.specs.Lists.{bound_of, IsCoveredIn}
 use Rattle.saturation.specs.code.Search.{IsFound, IsUnderWay, IsTaken}
 
@@ -39,5 +39,6 @@ IsNext v whole inputs list rest heavy (Some x) =
 pub record AnswersAs (v : Vocabulary) (whole : Bool) (inputs : List Clause) (limit : ℕ) (outcome : Outcome) : Type 0 where
   pub keeps : KeepsLimit limit outcome
   pub origins : HasOrigins v inputs outcome
+  pub fit : HasFitMembers v outcome
   pub ends : whole ≡ true → EndsWith v inputs limit outcome
   pub alone : whole ≡ false → NamesOnes outcome

@@ -1,6 +1,6 @@
 -- What is left under a substitution, over as few variables as will do.
 use Rattle.std.specs.Prelude.{ℕ, ◌<◌, ◌≤◌, ◌≡◌, List, length}
-use Rattle.fof_terms.specs.declared.term.Term.{Term}
+use Rattle.fof_terms.specs.declared.term.Term.{Term, Var}
 use Rattle.fof_terms.specs.Vocabulary.{Vocabulary}
 use Rattle.clause_form.specs.declared.clause.Lit.{Lit}
 use Rattle.clause_form.specs.Images.{image, IsImages}
@@ -18,6 +18,7 @@ pub record IsConclusion (scope : List ℕ) (images : List Term) (left : List Lit
   pub size : length m.subst ≡ length scope
   pub few : length m.clause.sorts ≤ 1000000000
   pub exist : (v : Vocabulary) → SortsExist v scope → SortsExist v m.clause.sorts
+  pub variables : (k : ℕ) → (name : ℕ) × (names k ≡ Var name)
   pub named : (v : Vocabulary) → IsImages v scope (scope_of m.clause) names
   pub returns : (v : Vocabulary) → IsImages v (scope_of m.clause) scope back
   pub subst : (k : ℕ) → k < length scope → image_at m.subst k ≡ image names (image_at images k)

@@ -1,7 +1,6 @@
 -- Why a command ends before its work is done.
 use Rattle.tptp_base.specs.declared.sink.SinkFault.{SinkFault}
 use Rattle.tptp_base.specs.declared.sink.SinkFault.TheVariants.{Failed, Memory as SinkMemory}
-use Rattle.verifier.specs.declared.fault.RunFault.{RunFault}
 use Rattle.tptp_run.specs.declared.stop.Stop.{Stop}
 use Rattle.tptp_run.specs.declared.stop.Stop.TheVariants.{Sink, Memory, Store}
 use Rattle.std.specs.Prelude.{⊤, Ok, Err}
@@ -9,17 +8,11 @@ use Rattle.std.specs.declared.result.Result.{Result}
 use Rattle.tptp_run.specs.declared.stop.Answer.{Answer}
 use Rattle.tptp_run.specs.declared.stop.Halt.{Halt}
 use Rattle.tptp_run.specs.declared.stop.Halt.TheVariants.{Refused, Stopped}
-use Rattle.verifier.specs.declared.fault.RunFault.TheVariants as run
 
 -- a fault of a sink
 abbrev pub stop_of : SinkFault → Stop
 stop_of Failed = Sink
 stop_of SinkMemory = Memory
-
--- why a run did not come to its end
-abbrev pub stop_of_run : RunFault → Stop
-stop_of_run run.Sink = Sink
-stop_of_run run.Memory = Memory
 
 -- a fault of the store has one cause, a fault of a sink the other, and want of memory none
 abbrev pub HasCause : Stop → Type 0 → Type 0 → Type 0

@@ -13,7 +13,7 @@ verify_file-requires-clause-same g c = source_same (g.S.Store.files c.args.store
 
 pub returns-in-Ok-clause-ends : goal.returns-in-Ok-clause-ends
 returns-in-Ok-clause-ends g c =
-    source_ends (option_copied c.args.root) c.args.problem.now c.args.derivation.now c.in-Ok.source (g.S.Store.files c.args.store.now) (g.S.Store.files c.read_source.new.store) c.verify_file.result (g.L.Sink.taken c.args.log.now) (g.L.Sink.taken c.verify_file.new.log) c.in-Ok.ensures.is c.in-Ok.ensures.same_files c.verify_file.ensures.ends
+    source_ends (option_copied c.args.root) c.args.limit c.args.problem.now c.args.derivation.now c.in-Ok.source (g.S.Store.files c.args.store.now) (g.S.Store.files c.read_source.new.store) c.verify_file.result (g.L.Sink.taken c.args.log.now) (g.L.Sink.taken c.verify_file.new.log) c.in-Ok.ensures.is c.in-Ok.ensures.same_files c.verify_file.ensures.ends
 
 pub returns-in-Ok-clause-absence : goal.returns-in-Ok-clause-absence
 returns-in-Ok-clause-absence g c =
@@ -34,11 +34,11 @@ returns-in-Ok-clause-cause g c =
 
 pub returns-in-Ok-clause-log : goal.returns-in-Ok-clause-log
 returns-in-Ok-clause-log g c =
-    source_logged (option_copied c.args.root) c.args.problem.now c.args.derivation.now c.in-Ok.source (g.S.Store.files c.args.store.now) (g.L.Sink.taken c.args.log.now) (g.L.Sink.taken c.verify_file.new.log) c.in-Ok.ensures.is c.verify_file.ensures.log
+    source_logged (option_copied c.args.root) c.args.limit c.args.problem.now c.args.derivation.now c.in-Ok.source (g.S.Store.files c.args.store.now) (g.L.Sink.taken c.args.log.now) (g.L.Sink.taken c.verify_file.new.log) c.in-Ok.ensures.is c.verify_file.ensures.log
 
 pub returns-in-Err-clause-ends : goal.returns-in-Err-clause-ends
 returns-in-Err-clause-ends g c =
-    problem_refused (option_copied c.args.root) c.args.problem.now c.args.derivation.now Source c.in-Err.halt (g.S.Store.files c.args.store.now) (g.L.Sink.taken c.args.log.now) c.in-Err.ensures.refused
+    problem_refused (option_copied c.args.root) c.args.limit c.args.problem.now c.args.derivation.now Source c.in-Err.halt (g.S.Store.files c.args.store.now) (g.L.Sink.taken c.args.log.now) c.in-Err.ensures.refused
 
 pub returns-in-Err-clause-absence : goal.returns-in-Err-clause-absence
 returns-in-Err-clause-absence g c =
@@ -47,4 +47,4 @@ returns-in-Err-clause-absence g c =
     problem_refused_so (Rose (g.S.Store.absents c.args.store.now) (g.S.Store.absents c.read_source.new.store)) told root c.args.problem.now c.args.derivation.now Source c.in-Err.halt c.in-Err.ensures.absence
 
 pub returns-in-Err-clause-log : goal.returns-in-Err-clause-log
-returns-in-Err-clause-log g c = nothing_logged (option_copied c.args.root) c.args.problem.now c.args.derivation.now (g.S.Store.files c.args.store.now) (g.L.Sink.taken c.args.log.now)
+returns-in-Err-clause-log g c = nothing_logged (option_copied c.args.root) c.args.limit c.args.problem.now c.args.derivation.now (g.S.Store.files c.args.store.now) (g.L.Sink.taken c.args.log.now)

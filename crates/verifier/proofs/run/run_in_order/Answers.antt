@@ -2,9 +2,10 @@ use Rattle.std.proofs.Common.{◌+◌, arith, drop, get_or, length, refl}
 use Rattle.std.proofs.lemmas.List.{drop_all}
 use Rattle.std.proofs.lemmas.Result.{err_from_is_err_and}
 use Rattle.verifier.specs.code.Numbered.{derivation_in}
+use Rattle.verifier.proofs.FaultCauses.{passed_cause}
 use Rattle.verifier.proofs.Knowing.{over_numbered, over_knows}
 use Rattle.verifier.proofs.Leading.{led_itself, led_more}
-use Rattle.verifier.proofs.Running.{place_here, place_done, running_begins, running_turn, turn_within, running_more, running_cut, running_all}
+use Rattle.verifier.proofs.Running.{place_here, place_done, running_begins, running_turn, turn_within, running_more, running_cut, running_all, stopped_here}
 use Rattle.verifier.proofs.run.run_in_order.Goals as goal
 
 pub loop-place-init : goal.loop-place-init
@@ -30,6 +31,15 @@ returns-in_err-answer-clause-cut g c =
 
 pub returns-in_err-answer-clause-leads : goal.returns-in_err-answer-clause-leads
 returns-in_err-answer-clause-leads g c = led_more _ _ _ c.loop-place.invariant.leads c.in_err-answer.ensures.leads
+
+pub returns-in_err-answer-clause-cause : goal.returns-in_err-answer-clause-cause
+returns-in_err-answer-clause-cause g c =
+    let p = err_from_is_err_and c.from_residual-in_err-answer.result c.from_residual-in_err-answer.ensures.1 in
+    let i = c.loop-place.place-index in
+    rw (p.1, p.2)
+    (passed_cause _ _ _ _ _ _ c.loop-place.invariant.faults
+    (λ at. stopped_here (derivation_in c.args.lines.now) c.args.theory.now c.args.order.now c.loop-place.theory c.run_line.new.theory c.loop-place.numbers c.run_line.new.numbers c.loop-place.answers _ _ (drop (i + 1) c.args.order.now) (get_or c.args.order.now i 0) at _ _ _ (place_here c.args.order.now i c.loop-place-test.true) c.loop-place.invariant.running)
+    c.in_err-answer.ensures.cause)
 
 pub set-requires : goal.set-requires
 set-requires g c =

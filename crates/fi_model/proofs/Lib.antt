@@ -1,0 +1,16 @@
+pub mod CellFacts
+pub mod DomainFacts
+pub mod DomainLoops
+pub mod FillFacts
+pub mod IndexFacts
+pub mod Layers
+pub mod Loops
+pub mod Marks
+pub mod OneModel
+pub mod Reading
+pub mod RowFacts
+pub mod RowLoops
+pub mod ScopeFacts
+pub mod SentenceFacts
+pub mod TableFacts
+pub mod TruthFacts

@@ -1,0 +1,10 @@
+pub mod ClauseFormulas
+pub mod Entering
+pub mod FormFacts
+pub mod FunctionsFacts
+pub mod Literals
+pub mod PassedFacts
+pub mod PendingFacts
+pub mod Steps
+pub mod WantedFacts
+pub mod Whole

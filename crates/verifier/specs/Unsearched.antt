@@ -1,0 +1,19 @@
+-- Lines for which no search is made, since a rule gives them, or they are skipped, or a search may not be asked for them.
+use Rattle.std.specs.Prelude.{⊤, ℕ, ◌≡◌, List, Some, slice_get}
+use Rattle.elaborate.specs.declared.answer.Rule.TheVariants.{Search}
+use Rattle.elaborate.specs.declared.answer.Reason.TheVariants.{Dry, Full, Heavy, Wide, Leaf}
+use Rattle.verifier.specs.declared.answer.LineAnswer.{LineAnswer}
+use Rattle.verifier.specs.declared.answer.LineAnswer.TheVariants.{Accepted, Unverified, Skipped}
+
+abbrev pub IsUnsearched : LineAnswer → Type 0
+IsUnsearched (Accepted rule cites) = rule ≡ Search → ⊥
+IsUnsearched (Unverified Dry) = ⊥
+IsUnsearched (Unverified Full) = ⊥
+IsUnsearched (Unverified Heavy) = ⊥
+IsUnsearched (Unverified Wide) = ⊤
+IsUnsearched (Unverified Leaf) = ⊤
+IsUnsearched Skipped = ⊤
+
+-- all the lines are such
+abbrev pub AreUnsearched : List LineAnswer → Type 0
+AreUnsearched answers = (place : ℕ) (answer : LineAnswer) → slice_get answers place ≡ Some answer → IsUnsearched answer
