@@ -3,6 +3,7 @@ pub mod Entering
 pub mod FormFacts
 pub mod FunctionsFacts
 pub mod Literals
+pub mod Passed
 pub mod PassedFacts
 pub mod PendingFacts
 pub mod Steps

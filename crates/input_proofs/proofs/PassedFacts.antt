@@ -35,13 +35,14 @@ use Rattle.step_clauses.specs.Inputs.{clauses_from}
 use Rattle.step_clauses.specs.Skolems.{uses_of}
 use Rattle.input_proofs.specs.Opened.{AreChoices, ShowEach}
 use Rattle.input_proofs.specs.Wanted.{AreWanted}
-use Rattle.input_proofs.specs.code.Passed.{IsLeftOut, IsTaken, Passes, HavePassed, IsOutside, AllLack, own_of, number_in, number_after}
-use Rattle.input_proofs.specs.code.Pending.{IsPending, IsPendingOn}
+use Rattle.input_proofs.specs.code.Passed.{IsLeftOut, IsTaken, Passes, own_of, number_in}
+use Rattle.input_proofs.specs.code.Pending.{IsPending}
 use Rattle.input_proofs.specs.declared.forms.Opening.{Opening}
 use Rattle.input_proofs.specs.declared.pending.Pending.{Pending}
 use Rattle.input_proofs.proofs.Entering.{choices_both, are_choices, formulas_both, added_first, added_then, enters_both}
 use Rattle.input_proofs.proofs.FunctionsFacts.{each_function, distinct_functions, others_outside, made_lacks, sorted_lacks}
 use Rattle.input_proofs.proofs.Literals.{each_append}
+use Rattle.input_proofs.proofs.Passed.{HavePassed, IsOutside, IsPendingOn, AllLack, number_after}
 use Rattle.input_proofs.proofs.Steps.{MayOpen, after_both, after_more, clauses_both, grown_own, norm_in, own_sorted, own_small, own_skolemized, own_count, own_places}
 use Rattle.input_proofs.proofs.WantedFacts.{wanted_append, as_many_marks, as_many_clauses, none_wanted, pending_further, pending_here}
 

@@ -41,14 +41,15 @@ use Rattle.input_proofs.specs.Formulas.{formula_of}
 use Rattle.input_proofs.specs.Functions.{searched_vocabulary, searched_clauses, with_functions}
 use Rattle.input_proofs.specs.Opened.{AreChoices, AreOpened, StandFrom, ShowEach, ShowsClause}
 use Rattle.input_proofs.specs.Wanted.{AreWanted}
-use Rattle.input_proofs.specs.code.Passed.{MayPass, Passes, HavePassed, AllLack, number_after}
-use Rattle.input_proofs.specs.code.Pending.{IsPendingOn, cited}
+use Rattle.input_proofs.specs.code.Passed.{MayPass, Passes}
+use Rattle.input_proofs.specs.code.Pending.{cited}
 use Rattle.input_proofs.specs.declared.forms.Opening.{Opening}
 use Rattle.input_proofs.specs.declared.opening.OpenedInputs.{OpenedInputs}
 use Rattle.input_proofs.specs.declared.pending.Pending.{Pending}
 use Rattle.input_proofs.proofs.ClauseFormulas.{clauses_lack}
 use Rattle.input_proofs.proofs.FunctionsFacts.{others_outside, made_lacks, sorted_lacks}
 use Rattle.input_proofs.proofs.Literals.{each_append}
+use Rattle.input_proofs.proofs.Passed.{HavePassed, IsPendingOn, AllLack, number_after}
 use Rattle.input_proofs.proofs.PassedFacts.{one_passed}
 use Rattle.input_proofs.proofs.PendingFacts.{take_all}
 use Rattle.input_proofs.proofs.Steps.{MayOpen, may_pass, own_skolemized, after_both, after_more}

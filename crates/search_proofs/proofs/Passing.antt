@@ -31,12 +31,12 @@ use Rattle.saturation.specs.declared.member.Origin.{Origin}
 use Rattle.saturation.specs.declared.member.Origin.TheVariants.{Input, Inferred}
 use Rattle.superpose.specs.Drafts.{IsClause}
 use Rattle.unify_terms.specs.Substitution.{image_at}
-use Rattle.search_proofs.specs.Needed.{Names, NameEarlier, AreNeeded, IsMarked}
+use Rattle.search_proofs.specs.Needed.{Names, AreNeeded, IsMarked}
 use Rattle.search_proofs.specs.code.Facts.{Setting, IsOf, AreShown, StandsAt, first_fact}
 use Rattle.search_proofs.specs.code.Members.{IsPremise, IsConcluded, IsPassed, IsPassedIf, MembersStand, IsMembers, ShowMore, PassMembers}
 use Rattle.search_proofs.proofs.Forms.{formula_ready}
 use Rattle.search_proofs.proofs.InTurn.{stands_in, stands_last, no_more, one_of, shown_twice, stands_on}
-use Rattle.search_proofs.proofs.Sweeping.{origin_names, count_of, each_names}
+use Rattle.search_proofs.proofs.Sweeping.{NameEarlier, origin_names, count_of, each_names}
 use Rattle.search_proofs.proofs.Symbols.{clause_at, taken}
 
 -- the member at a place, as code meets it

@@ -11,7 +11,8 @@ use Rattle.saturation.specs.Origins.{Makes, IsMade, AreMade}
 use Rattle.saturation.specs.declared.member.Member.{Member}
 use Rattle.saturation.specs.declared.member.Origin.{Origin}
 use Rattle.saturation.specs.declared.member.Origin.TheVariants.{Input, Inferred}
-use Rattle.search_proofs.specs.Needed.{Names, NamesBelow, NameEarlier, IsMarked, IsNamed, AreNeeded}
+use Rattle.search_proofs.specs.Needed.{Names, IsMarked, IsNamed, AreNeeded}
+use Rattle.search_proofs.specs.code.Naming.{NamesBelow}
 use Rattle.search_proofs.specs.code.Marks.{IsUnmarked, Marks, Passes}
 
 pub set_count : (xs : List Bool) (i : ℕ) → length (slice_set xs i true) ≡ length xs
@@ -151,6 +152,10 @@ swept_all members last k marks le s = record {
   of_each = λ i n. s.of_each n.by n.member i (omega arith) n.there n.marked n.names;
   only = s.only;
 }
+
+-- each member's origin names earlier members alone
+abbrev pub NameEarlier : List Member → Type 0
+NameEarlier members = (j : ℕ) (m : Member) → slice_get members j ≡ Some m → NamesBelow j m.origin
 
 -- what a made member's origin names
 pub origin_names : (v : Vocabulary) (inputs list : List Clause) (e : Clause) (o : Origin) → Makes v inputs list e o → NamesBelow (length list) o

@@ -1,5 +1,5 @@
 -- Which members of a search's list a further member needs.
-use Rattle.std.specs.Prelude.{ℕ, Bool, true, ◌≡◌, ◌<◌, ◌⊎◌, List, length, Some, slice_get}
+use Rattle.std.specs.Prelude.{ℕ, Bool, true, ◌≡◌, ◌⊎◌, List, length, Some, slice_get}
 use Rattle.saturation.specs.declared.member.Member.{Member}
 use Rattle.saturation.specs.declared.member.Origin.{Origin}
 use Rattle.saturation.specs.declared.member.Origin.TheVariants.{Input, Inferred}
@@ -8,14 +8,6 @@ use Rattle.saturation.specs.declared.member.Origin.TheVariants.{Input, Inferred}
 abbrev pub Names : Origin → ℕ → Type 0
 Names (Input n) i = ⊥
 Names (Inferred a b images) i = (i ≡ a) ⊎ (i ≡ b)
-
--- the origin names the first so many members alone
-abbrev pub NamesBelow : ℕ → Origin → Type 0
-NamesBelow n o = (i : ℕ) → Names o i → i < n
-
--- each member's origin names earlier members alone
-abbrev pub NameEarlier : List Member → Type 0
-NameEarlier members = (j : ℕ) (m : Member) → slice_get members j ≡ Some m → NamesBelow j m.origin
 
 -- the place is marked
 abbrev pub IsMarked : List Bool → ℕ → Type 0

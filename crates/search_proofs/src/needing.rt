@@ -4,7 +4,8 @@ ghost use Rattle.fof_terms.specs.Vocabulary.{Vocabulary};
 ghost use Rattle.clause_form.specs.declared.clause.Clause.{Clause as Disjunction};
 ghost use Rattle.saturation.specs.Members.{clauses_of};
 ghost use Rattle.saturation.specs.Origins.{AreMade, IsMade};
-ghost use Rattle.search_proofs.specs.Needed.{AreNeeded, NamesBelow};
+ghost use Rattle.search_proofs.specs.Needed.{AreNeeded};
+ghost use Rattle.search_proofs.specs.code.Naming.{NamesBelow};
 ghost use Rattle.search_proofs.specs.code.Marks.{IsUnmarked, Marks, Passes};
 
 use saturation::{Member, Origin};

@@ -1,27 +1,21 @@
 -- What is made of the first formulas of a step, and of the next one.
-use Rattle.std.specs.Prelude.{ℕ, ◌≡◌, ◌+◌, ◌≤◌, ◌<◌, ◌⊎◌, Bool, true, false, List, [], ◌∷◌, ◌++◌, length, map, take, drop, Option, Some, None, slice_get}
-use Rattle.std.specs.List.{All as Each, AllByRecursion, list_any}
+use Rattle.std.specs.Prelude.{ℕ, ◌≡◌, ◌+◌, ◌≤◌, ◌⊎◌, Bool, true, false, List, [], ◌∷◌, ◌++◌, length, map, take, drop, Option, Some, None, slice_get}
+use Rattle.std.specs.List.{list_any}
 use Rattle.fof_terms.specs.declared.form.Form.{Form, Imp}
-use Rattle.fof_terms.specs.Occurs.{occurs_in}
 use Rattle.fof_terms.specs.Sorts.{Sorted, SortedTo}
 use Rattle.fof_terms.specs.Vocabulary.{Vocabulary}
 use Rattle.clause_form.specs.Clauses.{clauses_in}
 use Rattle.clause_form.specs.Norm.{norm_of}
 use Rattle.clause_form.specs.Sizes.{norm_size_of, clause_count_of}
-use Rattle.kernel.specs.Entries.{IsFresh}
 use Rattle.kernel.specs.Proves.{Proves}
 use Rattle.kernel.specs.Statements.{Statements}
 use Rattle.kernel.specs.declared.proof.Proof.{Proof}
-use Rattle.skolem_fresh.specs.Entered.{Enters, formulas_told}
-use Rattle.skolem_fresh.specs.Told.{AddedFrom}
 use Rattle.skolem_proofs.specs.Choosing.{IsWitnessedBy}
 use Rattle.skolem_proofs.specs.declared.whole.Skolemized.{Skolemized}
 use Rattle.step_clauses.specs.Existentials.{existentials, ex_count}
-use Rattle.step_clauses.specs.Inputs.{clauses_from, next_behind}
 use Rattle.step_clauses.specs.Skolems.{KnowsFrom, uses_of}
-use Rattle.input_proofs.specs.Opened.{AreChoices, ShowEach}
 use Rattle.input_proofs.specs.Wanted.{AreWanted}
-use Rattle.input_proofs.specs.code.Pending.{IsPending, IsPendingOn}
+use Rattle.input_proofs.specs.code.Pending.{IsPending}
 use Rattle.input_proofs.specs.declared.forms.Opening.{Opening}
 use Rattle.input_proofs.specs.declared.pending.Pending.{Pending}
 
@@ -77,29 +71,3 @@ own_of a wanted old = take (clause_count_of (norm_of true a)) (drop (length old.
 pub record Passes (number : Option ℕ) (a : Form) (first : ℕ) (wanted : List Bool) (old new : Opening) : Type 0 where
   pub next : new.next ≡ old.next + ex_count (norm_of true a)
   pub how : IsLeftOut (own_of a wanted old) old new ⊎ IsTaken number a first (own_of a wanted old) old new
-
--- the first number behind those of the formulas' functions
-abbrev pub number_after : ℕ → List Form → ℕ
-number_after next [] = next
-number_after next (a ∷ forms) = number_after (next_behind next a) forms
-
--- the symbol is none of those from `start` on, of which the last is behind `end`
-abbrev pub IsOutside : ℕ → ℕ → ℕ → Type 0
-IsOutside start end k = (k < start) ⊎ (end ≤ k)
-
-abbrev pub AllLack : ℕ → List Form → Type 0
-AllLack k = Each (λ a. occurs_in k a ≡ false)
-
--- The first formulas of the step are done. Its functions have the numbers from `start` on, and w knows them. Where the
--- property holds, the formulas stand at their numbers.
-pub record HavePassed (start first : ℕ) (w : Vocabulary) (wanted : List Bool) (Given : Statements → ℕ → Type 0) (done : List Form) (o : Opening) : Type 0 where
-  pub next : o.next ≡ number_after start done
-  pub choose : AreChoices o.choices
-  pub enter : (u : Statements) → u.vocabulary ≡ w → ((k : ℕ) → start ≤ k → IsFresh k u) → Enters u o.choices
-  pub speak : (k : ℕ) → AllByRecursion (λ a. occurs_in k a ≡ false) done → IsOutside start o.next k → AllLack k (formulas_told w o.choices)
-  pub forms : List Form
-  pub count : length o.facts ≡ length forms
-  pub forms_sorted : AllByRecursion (Sorted w []) forms
-  pub forms_speak : (k : ℕ) → AllByRecursion (λ a. occurs_in k a ≡ false) done → IsOutside start o.next k → AllByRecursion (λ a. occurs_in k a ≡ false) forms
-  pub facts : (s : Statements) → s.vocabulary ≡ w → Given s (length o.choices) → AddedFrom s first o.choices → ShowEach s o.facts forms
-  pub pending : AreWanted (IsPendingOn forms) (take (length o.pending) wanted) (clauses_from start done) o.pending

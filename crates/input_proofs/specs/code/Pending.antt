@@ -1,5 +1,5 @@
 -- Implications from a formula of the step to its clauses, as long as the formula has no number.
-use Rattle.std.specs.Prelude.{ℕ, ◌≡◌, ◌+◌, List, [], Some, slice_get}
+use Rattle.std.specs.Prelude.{ℕ, ◌≡◌, ◌+◌, []}
 use Rattle.fof_terms.specs.declared.form.Form.{Form, Imp}
 use Rattle.fof_terms.specs.Sorts.{Sorted}
 use Rattle.clause_form.specs.declared.clause.Clause.{Clause}
@@ -16,10 +16,6 @@ Implies a c p = (s : Statements) → Sorted s.vocabulary [] a → Proves s [] []
 -- the same of the formula of the fact of this number
 abbrev pub IsPending : ℕ → Form → Clause → Pending → Type 0
 IsPending fact a c p = (p.fact ≡ fact) × Implies a c p.implication
-
--- the same of one of these formulas, at its number
-abbrev pub IsPendingOn : List Form → Clause → Pending → Type 0
-IsPendingOn forms c p = (a : Form) × (slice_get forms p.fact ≡ Some a) × Implies a c p.implication
 
 -- the clause, by its formula, where the formulas stand from number n on
 abbrev pub cited : ℕ → Pending → Proof

@@ -1,7 +1,7 @@
 use Rattle.std.proofs.Common.{take, length}
 use Rattle.clause_form.specs.Paths.{forms_of}
 use Rattle.input_proofs.specs.Functions.{searched_vocabulary}
-use Rattle.input_proofs.specs.code.Passed.{HavePassed}
+use Rattle.input_proofs.proofs.Passed.{HavePassed}
 use Rattle.input_proofs.proofs.Whole.{ParentsStand}
 use Rattle.input_proofs.proofs.opening.open_inputs.Given as goal
 
