@@ -17,7 +17,8 @@ use Rattle.fi_model.specs.declared.sentence.Sentence.{Sentence}
 use Rattle.fi_model.specs.declared.sentence.What.{What}
 use Rattle.fi_model.specs.declared.table.Table.{Table}
 use Rattle.fi_model.specs.Cells.{are_within, cell}
-use Rattle.fi_model.specs.Faults.{Refuses, IsModelFault, HaveDomains, HaveRows, first_double, Lacks, IsFirstLacking}
+use Rattle.fi_model.specs.code.Shapes.{RefusesShape}
+use Rattle.fi_model.specs.Faults.{IsModelFault, HaveDomains, HaveRows, first_double, Lacks, IsFirstLacking}
 use Rattle.fi_model.specs.Interpretations.{size}
 use Rattle.fi_model.specs.Models.{domains, names, is_of, IsDomain, AreDomains, both, places, value_place, kind_of, row, alone, row_of, row_at, entry_rows, entries_rows, says_rows, rows_then, rows, is_at, are_places, takes_at, AreValues, ModelOf}
 use Rattle.fi_model.specs.Sentences.{Text, sentences}
@@ -173,7 +174,7 @@ model_is items v said elements found index tables m s d r single is are all same
   values = values_are v elements found single m same_domains (rw (same_tables, sym is) are) (rw same_tables all);
 }
 
-pub shape_is : (items : List Item) (v : Vocabulary) (f : ModelFault) → Refuses (sentences items) f → IsModelFault items v f
+pub shape_is : (items : List Item) (v : Vocabulary) (f : ModelFault) → RefusesShape (sentences items) f → IsModelFault items v f
 shape_is items v (fault.Shape place) h = h
 shape_is items v (fault.Domain name) h = absurd h
 shape_is items v (fault.Element place name) h = absurd h

@@ -1,4 +1,4 @@
--- Lemmas on what specs/Scope defines.
+-- Lemmas on what specs/code/Scope defines.
 use Rattle.std.specs.Prelude.{ℕ, List, [], ◌∷◌, ◌≡◌}
 use Rattle.std.specs.Borrow.{Bor}
 use Rattle.fi_model.specs.declared.truth.Scope.{Scope, Outside as outside, Under as under}
@@ -6,7 +6,7 @@ use Rattle.fi_model.specs.declared.truth.Scope.TheOpen.{Outside, Under}
 use Rattle.fi_model.specs.declared.truth.Scope.TheViews.{roll-Scope}
 use Rattle.fi_model.specs.declared.truth.Scope.TheFolds.{fold-roll-Scope}
 use denote.Hole.Carrier.{roll}
-use Rattle.fi_model.specs.Scope.{scope_step, scope_elements}
+use Rattle.fi_model.specs.code.Scope.{scope_step, scope_elements}
 
 -- The equations of this word.
 pub scope_elements-Outside : scope_elements outside ≡ []

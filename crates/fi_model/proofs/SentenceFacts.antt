@@ -6,7 +6,7 @@ use Rattle.tptp_base.specs.declared.place.Place.{Place}
 use Rattle.fi_model.specs.declared.fault.ModelFault.{ModelFault}
 use Rattle.fi_model.specs.declared.sentence.Sentence.{Sentence}
 use Rattle.fi_model.specs.Sentences.{item_sentence, in_front, and_then, sentences}
-use Rattle.fi_model.specs.Faults.{Refuses}
+use Rattle.fi_model.specs.code.Shapes.{RefusesShape}
 use Rattle.fi_model.specs.code.Adding.{AddsSentence}
 use Rattle.fi_model.proofs.Loops.{at_member}
 use Rattle.fi_model.specs.declared.fault.ModelFault.TheVariants as fault
@@ -36,7 +36,7 @@ module _ (items : List Item) (i : ℕ) (item : Item) (found : List Sentence) (lt
   pub turn : (new : List Sentence) → AddsSentence (item_sentence item) found new → sentences items ≡ behind new (sentences (drop (i + 1) items))
   turn new a = turning ∙ added (item_sentence item) new (sentences (drop (i + 1) items)) a
 
-  refused : (r : Result (Option Sentence) Place) (f : ModelFault) (rest : Result (List Sentence) Place) → sentences items ≡ behind found (and_then r rest) → Refuses r f → Refuses (sentences items) f
+  refused : (r : Result (Option Sentence) Place) (f : ModelFault) (rest : Result (List Sentence) Place) → sentences items ≡ behind found (and_then r rest) → RefusesShape r f → RefusesShape (sentences items) f
   refused r (fault.Shape place) rest e h = e ∙ ap (λ (q : Result (Option Sentence) Place). behind found (and_then q rest)) h
   refused r (fault.Domain name) rest e h = absurd h
   refused r (fault.Element place name) rest e h = absurd h
@@ -44,7 +44,7 @@ module _ (items : List Item) (i : ℕ) (item : Item) (found : List Sentence) (lt
   refused r (fault.Missing name) rest e h = absurd h
   refused r fault.Memory rest e h = tt
 
-  pub turn_fails : (f : ModelFault) → Refuses (item_sentence item) f → Refuses (sentences items) f
+  pub turn_fails : (f : ModelFault) → RefusesShape (item_sentence item) f → RefusesShape (sentences items) f
   turn_fails f h = refused (item_sentence item) f (sentences (drop (i + 1) items)) turning h
 
 pub ends : (items : List Item) (i : ℕ) (found : List Sentence) → length items ≤ i → sentences items ≡ behind found (sentences (drop i items)) → sentences items ≡ Ok found

@@ -17,14 +17,6 @@ use Rattle.fi_model.specs.Sentences.{Text, sentences}
 use Rattle.fi_model.specs.Models.{sort_number, is_of, domains, names, repeats, AreDomains, rows, is_at, takes}
 use Rattle.fi_model.specs.declared.fault.ModelFault.TheVariants as fault
 
--- ---- an item that is no sentence
-
--- the fault is that of the answer, if memory was not wanting
-abbrev pub Refuses : {X : Type 0} → Result X Place → ModelFault → Type 0
-Refuses answer (fault.Shape place) = answer ≡ Err place
-Refuses answer fault.Memory = Unit {0}
-Refuses answer _ = ⊥
-
 -- ---- domains
 
 abbrev pub sort_text : Option Text → Text

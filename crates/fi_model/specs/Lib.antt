@@ -3,7 +3,6 @@ pub mod Distinct
 pub mod Faults
 pub mod Interpretations
 pub mod Models
-pub mod Scope
 pub mod Sentences
 pub mod Tables
 pub mod code

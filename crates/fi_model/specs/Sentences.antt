@@ -218,6 +218,7 @@ body_says r (body.Typing t) = None
 -- the languages of formulas with quantifiers
 abbrev pub is_quantified : Lang → Bool
 is_quantified lang.Cnf = false
+is_quantified lang.Tcf = false
 is_quantified lang.Fof = true
 is_quantified lang.Tff = true
 is_quantified lang.Tcf = false

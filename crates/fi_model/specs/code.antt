@@ -2,3 +2,5 @@
 pub mod Slots
 pub mod Adding
 pub mod Marking
+pub mod Scope
+pub mod Shapes

@@ -16,12 +16,17 @@ const MARK: u8 = 0;
 pub fn as_words(alloc: Global, tokens: Tokens) -> Result<Tokens, Memory>
     ensures items { IfOk result (λ words. words.items ≡ spec.as_words tokens.items) }
     ensures end { IfOk result (λ words. words.end ≡ tokens.end) }
+    ensures style { IfOk result (λ words. words.style ≡ tokens.style) }
 {
-    let Tokens { mut items, end } = tokens;
+    let Tokens {
+        mut items,
+        end,
+        style,
+    } = tokens;
     for at in 0..items.len() {
         take_word(alloc, &mut items, at)?;
     }
-    Ok(Tokens { items, end })
+    Ok(Tokens { items, end, style })
 }
 
 // Puts a word in the place of the token at a place, if that is a distinct object.

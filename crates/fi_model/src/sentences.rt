@@ -1,7 +1,7 @@
 // The sentences of a model's items.
 ghost use Rattle.std.specs.Prelude.{◌≡◌, Ok, IfOk, IfErr, OnOk};
 ghost use Rattle.fi_model.specs.code.Adding.{AddsSentence};
-ghost use Rattle.fi_model.specs.Faults.{Refuses};
+ghost use Rattle.fi_model.specs.code.Shapes.{RefusesShape};
 ghost use Rattle.fi_model.specs.Sentences as spec;
 
 use crate::bounds::domain;
@@ -16,7 +16,7 @@ use tptp_base::{Annotated, Body, Item, Lang, List, Memory, Name, Role, Surface};
 /// The sentences of the items, or the place of the first item that is none.
 pub fn sentences(alloc: Global, items: &[Item]) -> Result<List<Sentence>, ModelFault>
     ensures all { IfOk result (λ found. spec.sentences items.now ≡ Ok found) }
-    ensures fault { IfErr result (λ fault. Refuses (spec.sentences items.now) fault) }
+    ensures fault { IfErr result (λ fault. RefusesShape (spec.sentences items.now) fault) }
 {
     let mut found = List::new(alloc);
     for item in items {
@@ -28,7 +28,7 @@ pub fn sentences(alloc: Global, items: &[Item]) -> Result<List<Sentence>, ModelF
 // Adds the sentence of an item, if it has one.
 fn add_sentence(alloc: Global, item: &Item, found: &mut List<Sentence>) -> Result<(), ModelFault>
     ensures added { OnOk result (AddsSentence (spec.item_sentence item.now) found.old found.new) }
-    ensures fault { IfErr result (λ fault. Refuses (spec.item_sentence item.now) fault) }
+    ensures fault { IfErr result (λ fault. RefusesShape (spec.item_sentence item.now) fault) }
 {
     match item_sentence(alloc, item)? {
         Some(sentence) => {
@@ -42,7 +42,7 @@ fn add_sentence(alloc: Global, item: &Item, found: &mut List<Sentence>) -> Resul
 // The sentence of an item, none for a comment, or the place of what is no sentence.
 fn item_sentence(alloc: Global, item: &Item) -> Result<Option<Sentence>, ModelFault>
     ensures all { IfOk result (λ found. spec.item_sentence item.now ≡ Ok found) }
-    ensures fault { IfErr result (λ fault. Refuses (spec.item_sentence item.now) fault) }
+    ensures fault { IfErr result (λ fault. RefusesShape (spec.item_sentence item.now) fault) }
 {
     match item {
         Item::Comment(_) => Ok(None),

@@ -3,7 +3,7 @@ ghost use Rattle.std.specs.Prelude.{◌≡◌, [], ◌∷◌, get_or, map};
 ghost use Rattle.std.specs.List.{list_all, list_any};
 ghost use Rattle.fi_model.specs.Interpretations.{value_of, is_true, all_below, some_below, size};
 ghost use Rattle.fi_model.specs.Tables.{interpretation, table_value};
-ghost use Rattle.fi_model.specs.Scope.{scope_elements};
+ghost use Rattle.fi_model.specs.code.Scope.{scope_elements};
 
 use crate::model::FiniteModel;
 use crate::table::Table;

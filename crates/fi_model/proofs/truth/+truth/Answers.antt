@@ -1,6 +1,6 @@
 use Rattle.std.proofs.Common.{◌≡◌, ◌<◌, ◌∷◌, sym, ap, arith, false, true}
 use Rattle.fi_model.specs.Interpretations.{is_true, size}
-use Rattle.fi_model.specs.Scope.{scope_elements}
+use Rattle.fi_model.specs.code.Scope.{scope_elements}
 use Rattle.fi_model.specs.Tables.{interpretation}
 use Rattle.fi_model.proofs.ScopeFacts.{scope_elements-Under}
 use Rattle.fi_model.proofs.TruthFacts.{all_below-not, some_below-yes}

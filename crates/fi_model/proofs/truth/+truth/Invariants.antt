@@ -1,7 +1,7 @@
 use Rattle.std.proofs.Common.{◌≡◌, ◌∷◌, take, true, false}
 use Rattle.std.specs.List.{list_all, list_any}
 use Rattle.fi_model.specs.Interpretations.{is_true, all_below, some_below}
-use Rattle.fi_model.specs.Scope.{scope_elements}
+use Rattle.fi_model.specs.code.Scope.{scope_elements}
 use Rattle.fi_model.specs.Tables.{interpretation}
 use Rattle.fi_model.proofs.truth.+truth.Given as goal
 

@@ -1,6 +1,6 @@
 use Rattle.std.proofs.Common.{map}
 use Rattle.fi_model.specs.Interpretations.{value_of}
-use Rattle.fi_model.specs.Scope.{scope_elements}
+use Rattle.fi_model.specs.code.Scope.{scope_elements}
 use Rattle.fi_model.specs.Tables.{interpretation}
 use Rattle.fi_model.proofs.CellFacts.{Reaches}
 use Rattle.fi_model.proofs.truth.+value.Given as goal
