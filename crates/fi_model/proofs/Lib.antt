@@ -4,9 +4,11 @@ pub mod DomainLoops
 pub mod FillFacts
 pub mod IndexFacts
 pub mod Layers
+pub mod LookFacts
 pub mod Loops
 pub mod Marks
 pub mod OneModel
+pub mod Quantified
 pub mod Reading
 pub mod RowFacts
 pub mod RowLoops

@@ -2,5 +2,6 @@
 pub mod Slots
 pub mod Adding
 pub mod Marking
+pub mod Looks
 pub mod Scope
 pub mod Shapes

@@ -9,6 +9,7 @@ mod fault;
 mod formulas;
 mod index;
 mod laws;
+mod looked;
 mod model;
 mod rows;
 mod sentence;
