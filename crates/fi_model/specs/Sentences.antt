@@ -221,7 +221,6 @@ is_quantified lang.Cnf = false
 is_quantified lang.Tcf = false
 is_quantified lang.Fof = true
 is_quantified lang.Tff = true
-is_quantified lang.Tcf = false
 
 -- the name of a formula is no distinct object
 abbrev pub is_name : Name → Bool
