@@ -79,7 +79,7 @@ fn is_quantified(lang: Lang) -> bool
     ensures { result ≡ spec.is_quantified lang }
 {
     match lang {
-        Lang::Cnf => false,
+        Lang::Cnf | Lang::Tcf => false,
         Lang::Fof | Lang::Tff => true,
     }
 }
