@@ -27,7 +27,7 @@ use Rattle.skolem_proofs.specs.Choosing.{AreOthers}
 use Rattle.skolem_proofs.proofs.Lacking.{none_has}
 use Rattle.step_clauses.specs.declared.existentials.Existential.{Existential}
 use Rattle.step_clauses.specs.Skolems.{skolems_from, use_of}
-use Rattle.input_proofs.specs.code.Passed.{IsOutside}
+use Rattle.input_proofs.proofs.Passed.{IsOutside}
 
 -- the functions of these existential quantifiers, numbered from `next` on
 abbrev pub uses_from : ℕ → List Existential → List Use

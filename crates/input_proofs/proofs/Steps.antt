@@ -25,7 +25,8 @@ use Rattle.step_clauses.specs.Skolems.{skolem_symbol, skolems_from, skolems_of, 
 use Rattle.step_clauses.proofs.InputFacts.{skolems_count}
 use Rattle.step_clauses.proofs.Placed.{skolemized_is}
 use Rattle.step_clauses.proofs.WaysFacts.{at_seam, one_further}
-use Rattle.input_proofs.specs.code.Passed.{MayPass, number_after}
+use Rattle.input_proofs.specs.code.Passed.{MayPass}
+use Rattle.input_proofs.proofs.Passed.{number_after}
 
 abbrev pub symbols_of : List Skolem → List Symbol
 symbols_of skolems = map (λ (k : Skolem). k.symbol) skolems

@@ -13,8 +13,9 @@ use Rattle.kernel.proofs.Building.{by_line, by_imp_e}
 use Rattle.input_proofs.specs.Formulas.{formula_of}
 use Rattle.input_proofs.specs.Opened.{ShowsClause, StandFrom}
 use Rattle.input_proofs.specs.Wanted.{IsWanted, AreWanted}
-use Rattle.input_proofs.specs.code.Pending.{IsPending, IsPendingOn, cited}
+use Rattle.input_proofs.specs.code.Pending.{IsPending, cited}
 use Rattle.input_proofs.specs.declared.pending.Pending.{Pending}
+use Rattle.input_proofs.proofs.Passed.{IsPendingOn}
 
 pub wanted_append : {X : Type 0} (P : Clause → X → Type 0) (ws vs : List Bool) (cs ds : List Clause) (xs ys : List (Option X)) → AreWanted P ws cs xs → AreWanted P vs ds ys → AreWanted P (ws ++ vs) (cs ++ ds) (xs ++ ys)
 wanted_append P [] vs [] ds [] ys h g = g
