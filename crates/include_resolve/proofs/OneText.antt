@@ -126,6 +126,6 @@ module _ (number : ℕ) (text : Text) where
     ]
     | inr h ↦ elim (fault_kind g second) [
       | inl k ↦ absurd (no_tokens h.tokens g h.has k)
-      | inr k ↦ h.is ∙ ap Grammar (one_unread h.fault k.fault h.some k.some (parsing.one h.tokens.items h.tokens.end (Err h.fault) (Err k.fault) h.first (first_of h.tokens g h.has k))) ∙ sym k.is
+      | inr k ↦ h.is ∙ ap Grammar (one_unread h.fault k.fault h.some k.some (parsing.one h.tokens.style h.tokens.items h.tokens.end (Err h.fault) (Err k.fault) h.first (first_of h.tokens g h.has k))) ∙ sym k.is
     ]
   ]
