@@ -13,3 +13,5 @@ mod logs;
 mod names;
 #[cfg(test)]
 mod theories;
+#[cfg(test)]
+mod writers;
