@@ -12,4 +12,6 @@ mod logs;
 #[cfg(test)]
 mod names;
 #[cfg(test)]
+mod said;
+#[cfg(test)]
 mod theories;
