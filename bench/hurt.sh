@@ -1,17 +1,19 @@
 #!/bin/sh
-# Runs `tptp` on texts that are made to hurt. Each line names a text, and has the status of its run, the seconds, the
-# growth of the time from half as large a text, the peak memory in MB, and the bytes of its files. What is wrong stands
-# behind: another status than the one that is wanted, or a peak over 2 GB. The last line counts what is wrong.
+# Runs `tptp` on texts that are made to hurt. Each line names a text, and has the number of its parts, the status of its
+# run, the processor's seconds, their growth from half as many parts, the peak memory in MB, the bytes of its files, and
+# the last line that was printed. What is wrong stands behind: another status than the one that is wanted, or a peak
+# over 2 GB. The last line counts what is wrong.
 #
 #     bench/hurt.sh [PROGRAM]
 #
-# The program is the one that LLVM makes, if none is named. SCALE divides the sizes, ONLY is the name of one text, and a
-# run that takes more than SECONDS, or more than MEMORY KB of addresses, is ended: by status 124, or 6 for memory.
+# The program is the one that LLVM makes, if none is named. SCALE divides the numbers of parts, and ONLY names the texts
+# that are tried. A run that takes more than WAIT seconds, or more than MEMORY KB of addresses, is ended: by status 124,
+# or 6 for memory. `docs/RULES.md` and `docs/USING.md` say what may take long, or much memory, and why.
 set -eu
 . "$(dirname "$0")/common.sh"
 tptp=$(realpath "${1:-$(program_of tptp_tool verify data/pq.p data/pq.s)}")
 cd "$folder"
-scale=${SCALE:-1} only=${ONLY:-} limit=${SECONDS_OF_RUN:-600} memory=${MEMORY:-8000000}
+scale=${SCALE:-1} only=${ONLY:-} limit=${WAIT:-600} memory=${MEMORY:-12000000}
 wrong=0
 
 # A text, so many times.
@@ -43,16 +45,17 @@ joined() {
     numbered "$1" "$2" | tr -d '\n'
 }
 
-# Runs the program on the words. The status is left in $status, the seconds in $time, and the KB of memory in $peak.
+# Runs the program on the words. The status is left in $status, the processor's seconds in $time, and the KB of memory
+# in $peak.
 run() {
     status=0
     (
         ulimit -c 0
         ulimit -v "$memory"
-        exec timeout "$limit" /usr/bin/time -f '%e %M' -o measured "$tptp" "$@" > answer 2> /dev/null
+        exec /usr/bin/time -f '%U %S %M' -o measured timeout "$limit" "$tptp" "$@" > answer 2> /dev/null
     ) || status=$?
     set -- $(tail -n 1 measured)
-    time=$1 peak=$2
+    time=$(awk "BEGIN { print $1 + $2 }") peak=$3
 }
 
 # Runs the program on the words behind the status that is wanted, on the text of this name of half so many parts, and
@@ -60,15 +63,15 @@ run() {
 hurt() {
     name=$1 parts=$(($2 / scale)) wanted=$3
     shift 3
-    test -z "$only" || test "$only" = "$name" || return 0
+    case " ${only:-$name} " in *" $name "*) ;; *) return 0 ;; esac
     rm -f x.*
     "$name" $((parts / 2))
     run "$@"
     half=$time
     rm -f x.*
     "$name" "$parts"
-    run "$@"
     bytes=$(cat x.* | wc -c)
+    run "$@"
     fault=
     test "$status" -eq "$wanted" || fault="  wanted $wanted"
     test "$peak" -le 2000000 || fault="$fault  over 2 GB"
@@ -84,7 +87,7 @@ one_quote() { (printf "'"; repeated a "$(($1 - 2))"; printf "'") > x.p; }
 open_quote() { (printf "'"; repeated a "$(($1 - 1))") > x.p; }
 one_comment() { (printf %%; repeated a "$(($1 - 1))") > x.p; }
 one_block() { (printf '/*'; repeated '*' "$(($1 - 3))"; printf /) > x.p; }
-open_block() { (printf '/*'; repeated '/*' "$((($1 - 2) / 2))") > x.p; }
+open_block() { (printf '/*'; repeated '*' "$(($1 - 2))") > x.p; }
 line_feeds() { repeated '\n' "$1" > x.p; }
 long_name() { (printf 'cnf('; repeated a "$1"; echo ',axiom,p).') > x.p; }
 long_symbol() { (printf 'cnf(a,axiom,'; repeated p "$1"; echo ').') > x.p; }
@@ -223,7 +226,7 @@ images() {
 }
 large_parent() {
     (printf 'cnf(a,axiom,'; repeated 'p|' "$1"; echo 'p).') > x.p
-    numbered 'cnf(l@,plain,q,inference(r,[],[a])).' "$1" > x.s
+    numbered 'cnf(l@,plain,p,inference(r,[],[a])).' "$1" > x.s
 }
 growing_terms() {
     echo 'cnf(u,axiom,p(c)).' > x.p

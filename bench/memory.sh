@@ -1,9 +1,10 @@
 #!/bin/sh
 # Refuses memory to `tptp` at each request in turn, on runs of each command, a search and a split among them. A run must
-# end with status 6, and then the output and the log hold heads of what the whole run writes to them. Where no request
-# was refused, it must end as the whole run. Each line names a run, and how many requests it makes; what differs stands
-# before it. The last line counts what differs. The program is the one that LLVM makes; a name on the command line is
-# that of another. A C compiler makes the library that refuses, from which the program must take `malloc` and `realloc`.
+# end with status 6, and then the output and the log hold heads of what the whole run writes to them. Or it ends as the
+# whole run, since it could do without what it asked for, as where a list is to give back what it does not use. Each
+# line names a run, how many requests it makes, and how many of these it could be spared; what is wrong stands before
+# it. The last line counts what is wrong. The program is the one that LLVM makes; a name on the command line is that of
+# another. A C compiler makes the library that refuses, from which the program must take `malloc` and `realloc`.
 set -eu
 . "$(dirname "$0")/common.sh"
 tptp=$(realpath "${1:-$(program_of tptp_tool verify data/pq.p data/pq.s)}")
@@ -49,9 +50,19 @@ is_head() {
     cmp -s -n "$(wc -c < "$2")" "$1" "$2"
 }
 
+# Whether the run has ended as the whole one.
+is_whole() {
+    test $status -eq $whole && cmp -s whole.out out && cmp -s whole.log x.log
+}
+
+# Whether the run has ended for want of memory.
+is_cut() {
+    test $status -eq 6 && is_head whole.out out && is_head whole.log x.log
+}
+
 # Refuses each request in turn of the run of this name on the words behind it.
 refuse() {
-    name=$1 request=0
+    name=$1 request=0 spared=0
     shift
     run 0 "$@"
     whole=$status
@@ -59,16 +70,18 @@ refuse() {
     mv x.log whole.log
     while run $((request + 1)) "$@" && test -e refused; do
         request=$((request + 1))
-        if test $status -ne 6 || ! is_head whole.out out || ! is_head whole.log x.log; then
+        if is_whole; then
+            spared=$((spared + 1))
+        elif ! is_cut; then
             wrong=$((wrong + 1))
             echo "$name, request $request: status $status, $(wc -c < out) bytes of output, $(wc -c < x.log) of the log"
         fi
     done
-    if test $request -eq 0 || test $status -ne $whole || ! cmp -s whole.out out || ! cmp -s whole.log x.log; then
+    if test $request -eq 0 || ! is_whole; then
         wrong=$((wrong + 1))
         echo "$name: without a refusal it ends with status $status, and not as before"
     fi
-    echo "$name: status $whole, $request requests"
+    echo "$name: status $whole, $request requests, $spared spared"
 }
 
 cat > top.p <<'P'
@@ -115,5 +128,5 @@ refuse "a clause is split, and each case is refuted" verify sp.p sp.s x.log
 refuse "a line with a new function" verify sk.p sk.s x.log
 refuse "a log of one entry" check pq.p pq.log
 refuse "the log of a usual proof" check soc.p soc.log
-echo "$wrong differ"
+echo "$wrong are wrong"
 test "$wrong" -eq 0
