@@ -1,19 +1,20 @@
 #!/bin/sh
 # Runs `tptp` on texts that are made to hurt. Each line names a text, and has the number of its parts, the status of its
 # run, the processor's seconds, their growth from half as many parts, the peak memory in MB, the bytes of its files, and
-# the last line that was printed. What is wrong stands behind: another status than the one that is wanted, or a peak
-# over 2 GB. The last line counts what is wrong.
+# the last line that was printed. Behind it stands whether the peak is over 2 GB, and the status that is wanted, if
+# another one came. The last line counts those.
 #
 #     bench/hurt.sh [PROGRAM]
 #
 # The program is the one that LLVM makes, if none is named. SCALE divides the numbers of parts, and ONLY names the texts
-# that are tried. A run that takes more than WAIT seconds, or more than MEMORY KB of addresses, is ended: by status 124,
-# or 6 for memory. `docs/RULES.md` and `docs/USING.md` say what may take long, or much memory, and why.
+# that are tried. A run that takes more than WAIT of the processor's seconds is ended, with status 152, and it gets no
+# more than MEMORY KB of addresses, which is status 6. docs/RULES.md, docs/LOG.md and docs/USING.md say what may take
+# long, or much memory, and why.
 set -eu
 . "$(dirname "$0")/common.sh"
 tptp=$(realpath "${1:-$(program_of tptp_tool verify data/pq.p data/pq.s)}")
 cd "$folder"
-scale=${SCALE:-1} only=${ONLY:-} limit=${WAIT:-600} memory=${MEMORY:-12000000}
+scale=${SCALE:-1} only=${ONLY:-} limit=${WAIT:-600} memory=${MEMORY:-16000000}
 wrong=0
 
 # A text, so many times.
@@ -52,7 +53,8 @@ run() {
     (
         ulimit -c 0
         ulimit -v "$memory"
-        exec /usr/bin/time -f '%U %S %M' -o measured timeout "$limit" "$tptp" "$@" > answer 2> /dev/null
+        ulimit -t "$limit"
+        exec /usr/bin/time -f '%U %S %M' -o measured "$tptp" "$@" > answer 2> /dev/null
     ) || status=$?
     set -- $(tail -n 1 measured)
     time=$(awk "BEGIN { print $1 + $2 }") peak=$3
@@ -73,9 +75,8 @@ hurt() {
     bytes=$(cat x.* | wc -c)
     run "$@"
     fault=
-    test "$status" -eq "$wanted" || fault="  wanted $wanted"
-    test "$peak" -le 2000000 || fault="$fault  over 2 GB"
-    test -z "$fault" || wrong=$((wrong + 1))
+    test "$peak" -le 2000000 || fault="  over 2 GB"
+    test "$status" -eq "$wanted" || { fault="$fault  wanted $wanted" && wrong=$((wrong + 1)); }
     printf '%-20s %9d  %3d %8.2f s  x%4.1f %6d MB %9d bytes  %s%s\n' "$name" "$parts" "$status" "$time" \
         "$(calculate "$time / ($half + 0.001)")" $((peak / 1000)) "$bytes" "$(tail -n 1 answer | cut -c 1-60)" "$fault"
 }
