@@ -87,5 +87,21 @@ for way in grow anew; do
     kill $!
     wait $! 2> /dev/null || true
 done
+# Where there is `strace`, each call of the system by which a file is read, and each by which one is written, fails in
+# turn: four of each, and a fifth that is not made.
+fail() {
+    call=$1 time=$2
+    status=0
+    strace -o /dev/null -e inject="$call:error=EIO:when=$time" "$tptp" verify pq.p pq.s x.log > out || status=$?
+    say "$call $time fails" "$3" "$4"
+}
+if command -v strace > /dev/null; then
+    for time in 1 2 3 4; do
+        fail lseek $time 4 0
+        fail write $time 5 0
+    done
+    fail lseek 5 0 99
+    fail write 5 0 99
+fi
 echo "$wrong runs differ"
 test "$wrong" -eq 0
