@@ -4,9 +4,10 @@ ghost use Rattle.std.specs.Prelude.{None};
 use std::alloc::{AllocError, Global};
 use std::io;
 use std::io::Write;
+use std::process::Abort;
 use std::test::Fail;
 use tptp_base::{
-    List, RealSink, Sink, SinkFault, SteadySink, SteadyStore, Store, StoreFault, Text,
+    List, Memory, RealSink, Sink, SinkFault, SteadySink, SteadyStore, Store, StoreFault, Text,
 };
 use tptp_run::run_tptp;
 
@@ -57,55 +58,121 @@ impl Write for Idle {
     }
 }
 
-fn text(alloc: Global, text: &str) -> Result<Text, AllocError> {
-    Text::from_slice(alloc, text.as_bytes())
+// A problem, and a derivation of falsehood from it.
+fn files(alloc: Global) -> Result<SteadyStore, Memory> {
+    let mut files = List::new(alloc);
+    push_file(
+        alloc,
+        &mut files,
+        "d.p",
+        "cnf(a,axiom,p). cnf(b,axiom,~ p).",
+    )?;
+    push_file(
+        alloc,
+        &mut files,
+        "d.s",
+        "cnf(c,plain,$false,inference(r,[],[a,b])).",
+    )?;
+    SteadyStore::new(alloc, files)
 }
 
-// A problem, and a derivation of falsehood from it.
-fn files(alloc: Global) -> Result<SteadyStore, Fail> {
-    let mut files = List::new(alloc);
-    let problem = "cnf(a,axiom,p). cnf(b,axiom,~ p).";
-    files.push((text(alloc, "d.p")?, text(alloc, problem)?))?;
-    let derivation = "cnf(c,plain,$false,inference(r,[],[a,b])).";
-    files.push((text(alloc, "d.s")?, text(alloc, derivation)?))?;
-    Ok(SteadyStore::new(alloc, files)?)
+fn push_file(
+    alloc: Global,
+    files: &mut List<(Text, Text)>,
+    name: &str,
+    text: &str,
+) -> Result<(), AllocError> {
+    let name = Text::from_slice(alloc, name.as_bytes())?;
+    let text = Text::from_slice(alloc, text.as_bytes())?;
+    files.push((name, text))
+}
+
+fn words_of(alloc: Global) -> Result<Vec<String>, AllocError> {
+    let mut words = Vec::new(alloc);
+    for word in ["verify", "d.p", "d.s"] {
+        words.push(String::from_str(alloc, word)?)?;
+    }
+    Ok(words)
 }
 
 // The status of a run that verifies the derivation.
-fn verify<S: Store, O: Sink, L: Sink>(
+fn verified<S: Store, O: Sink, L: Sink>(
     alloc: Global,
     store: &mut S,
     out: &mut O,
     log: &mut L,
 ) -> Result<u8, AllocError> {
-    let mut words = Vec::new(alloc);
-    for word in ["verify", "d.p", "d.s"] {
-        words.push(String::from_str(alloc, word)?)?;
-    }
+    let words = words_of(alloc)?;
     Ok(run_tptp(alloc, &words, store, out, log))
 }
 
-#[test]
-fn a_writer_that_takes_nothing_fails_a_run(rt: HostRuntime) -> Result<(), Fail> {
-    let alloc = rt.alloc();
-    let mut idle = RealSink::new(Some(Idle));
-    let mut out = SteadySink::new(alloc);
-    let mut log = SteadySink::new(alloc);
-    assert_eq!(rt; verify(alloc, &mut files(alloc)?, &mut out, &mut idle)?, 5);
-    assert_eq!(rt; out.bytes(), b"".as_slice());
-    assert_eq!(rt; verify(alloc, &mut files(alloc)?, &mut idle, &mut log)?, 5);
+// The status, or 255 where something was printed.
+fn silent(status: u8, out: &SteadySink) -> u8 {
+    if out.bytes().is_empty() { status } else { 255 }
+}
+
+// The run must end with this status.
+fn ends<R: Abort>(rt: &R, found: Result<u8, Memory>, wanted: u8) -> Result<(), Fail> {
+    let found = found?;
+    assert_eq!(*rt; found, wanted);
     Ok(())
 }
 
 #[test]
-fn a_call_that_lacks_memory_ends_a_run(rt: HostRuntime) -> Result<(), Fail> {
-    let alloc = rt.alloc();
-    let mut out = SteadySink::new(alloc);
+fn an_output_that_takes_nothing_fails(rt: HostRuntime) -> Result<(), Fail> {
+    ends(&rt, idle_output(rt.alloc()), 5)
+}
+
+fn idle_output(alloc: Global) -> Result<u8, Memory> {
     let mut log = SteadySink::new(alloc);
-    assert_eq!(rt; verify(alloc, &mut Poor, &mut out, &mut log)?, 6);
-    assert_eq!(rt; log.bytes(), b"".as_slice());
-    assert_eq!(rt; verify(alloc, &mut files(alloc)?, &mut out, &mut Poor)?, 6);
-    assert_eq!(rt; out.bytes(), b"".as_slice());
-    assert_eq!(rt; verify(alloc, &mut files(alloc)?, &mut Poor, &mut log)?, 6);
-    Ok(())
+    let status = verified(alloc, &mut files(alloc)?, &mut idle_sink(), &mut log)?;
+    Ok(status)
+}
+
+fn idle_sink() -> RealSink<Idle> {
+    RealSink::new(Some(Idle))
+}
+
+#[test]
+fn a_log_that_takes_nothing_fails(rt: HostRuntime) -> Result<(), Fail> {
+    ends(&rt, idle_log(rt.alloc()), 5)
+}
+
+fn idle_log(alloc: Global) -> Result<u8, Memory> {
+    let mut out = SteadySink::new(alloc);
+    let status = verified(alloc, &mut files(alloc)?, &mut out, &mut idle_sink())?;
+    Ok(silent(status, &out))
+}
+
+#[test]
+fn a_store_that_lacks_memory_ends_a_run(rt: HostRuntime) -> Result<(), Fail> {
+    ends(&rt, poor_store(rt.alloc()), 6)
+}
+
+fn poor_store(alloc: Global) -> Result<u8, Memory> {
+    let mut out = SteadySink::new(alloc);
+    let status = verified(alloc, &mut Poor, &mut out, &mut idle_sink())?;
+    Ok(silent(status, &out))
+}
+
+#[test]
+fn a_log_that_lacks_memory_ends_a_run(rt: HostRuntime) -> Result<(), Fail> {
+    ends(&rt, poor_log(rt.alloc()), 6)
+}
+
+fn poor_log(alloc: Global) -> Result<u8, Memory> {
+    let mut out = SteadySink::new(alloc);
+    let status = verified(alloc, &mut files(alloc)?, &mut out, &mut Poor)?;
+    Ok(silent(status, &out))
+}
+
+#[test]
+fn an_output_that_lacks_memory_ends_a_run(rt: HostRuntime) -> Result<(), Fail> {
+    ends(&rt, poor_output(rt.alloc()), 6)
+}
+
+fn poor_output(alloc: Global) -> Result<u8, Memory> {
+    let mut log = SteadySink::new(alloc);
+    let status = verified(alloc, &mut files(alloc)?, &mut Poor, &mut log)?;
+    Ok(status)
 }
