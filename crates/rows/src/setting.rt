@@ -2,7 +2,7 @@
 use crate::bytes::append_line;
 use crate::fault::{LineFault, RowFault};
 use crate::line::{FileSetting, Setting};
-use crate::reading::Draft;
+use crate::reading::{Draft, SettingLine};
 use crate::row::{Calls, Given, Row, Source, WantedLog};
 use std::alloc::Global;
 
@@ -18,9 +18,14 @@ enum Part {
 /// The row that the lines of a draft make.
 pub fn row_of(alloc: Global, draft: &Draft<'_>) -> Result<Row, RowFault> {
     let mut row = Row::new(alloc);
+    set_all(alloc, &mut row, &draft.lines)?;
+    Ok(row)
+}
+
+fn set_all(alloc: Global, row: &mut Row, lines: &[SettingLine<'_>]) -> Result<(), RowFault> {
     let mut part = Part::Nothing;
-    for line in &draft.lines {
-        match set(alloc, &mut row, part, line.setting) {
+    for line in lines {
+        match set(alloc, row, part, line.setting) {
             Ok(next) => part = next,
             Err(fault) => {
                 let line = line.number;
@@ -28,55 +33,113 @@ pub fn row_of(alloc: Global, draft: &Draft<'_>) -> Result<Row, RowFault> {
             }
         }
     }
-    Ok(row)
+    Ok(())
 }
 
 // Sets what a line says in a row, and tells what the lines of text behind it belong to.
 fn set(alloc: Global, row: &mut Row, part: Part, setting: Setting<'_>) -> Result<Part, LineFault> {
     match setting {
-        Setting::Name(name) => row.name = name.to_string(alloc)?,
-        Setting::Words(words) => {
-            for word in words.split(' ') {
-                row.words.push(word.to_string(alloc)?)?;
-            }
+        Setting::Name(name) => no_text(set_name(alloc, row, name)),
+        Setting::Words(words) => no_text(add_words(alloc, row, words)),
+        Setting::Word(word) => no_text(add_word(alloc, row, word)),
+        Setting::File(file) => set_file(alloc, row, file),
+        Setting::StoreFails(calls) => no_text(add_calls(&mut row.failing_reads, calls)),
+        Setting::OutFails(calls) => no_text(add_calls(&mut row.failing_writes, calls)),
+        Setting::LogFails(calls) => no_text(add_calls(&mut row.failing_entries, calls)),
+        Setting::EachFails(counts) => no_text(set_each(alloc, row, counts)),
+        Setting::Status(status) => no_text(set_status(row, status)),
+        Setting::Plain => {
+            row.is_plain = true;
+            Ok(Part::Nothing)
         }
-        Setting::Word(word) => row.words.push(word.to_string(alloc)?)?,
-        Setting::File(file) => return set_file(alloc, row, file),
-        Setting::StoreFails(calls) => add_calls(&mut row.failing_reads, calls)?,
-        Setting::OutFails(calls) => add_calls(&mut row.failing_writes, calls)?,
-        Setting::LogFails(calls) => add_calls(&mut row.failing_entries, calls)?,
-        Setting::EachFails(counts) => row.each = Some(counts_of(alloc, counts)?),
-        Setting::Status(status) => row.status = status.parse().map_err(|_| LineFault::Number)?,
-        Setting::Plain => row.is_plain = true,
         Setting::Out => {
             row.out.clear();
-            return Ok(Part::Out);
+            Ok(Part::Out)
         }
-        Setting::Log => {
-            row.log = WantedLog::Text(Vec::new(alloc));
-            return Ok(Part::Log);
-        }
-        Setting::AnyLog => row.log = WantedLog::Any,
-        Setting::Text(line) => {
-            match text_of(row, part) {
-                Some(text) => append_line(text, line)?,
-                None => return Err(LineFault::StrayText),
-            }
-            return Ok(part);
-        }
+        Setting::Log => Ok(set_log(row, WantedLog::Text(Vec::new(alloc)), Part::Log)),
+        Setting::AnyLog => Ok(set_log(row, WantedLog::Any, Part::Nothing)),
+        Setting::Text(line) => add_text(row, part, line),
     }
+}
+
+// No line of text may follow what was set.
+fn no_text(done: Result<(), LineFault>) -> Result<Part, LineFault> {
+    done?;
     Ok(Part::Nothing)
+}
+
+fn set_name(alloc: Global, row: &mut Row, name: &str) -> Result<(), LineFault> {
+    row.name = name.to_string(alloc)?;
+    Ok(())
+}
+
+fn add_words(alloc: Global, row: &mut Row, words: &str) -> Result<(), LineFault> {
+    for word in words.split(' ') {
+        add_word(alloc, row, word)?;
+    }
+    Ok(())
+}
+
+fn add_word(alloc: Global, row: &mut Row, word: &str) -> Result<(), LineFault> {
+    let word = word.to_string(alloc)?;
+    Ok(row.words.push(word)?)
+}
+
+fn set_each(alloc: Global, row: &mut Row, counts: &str) -> Result<(), LineFault> {
+    row.each = Some(counts_of(alloc, counts)?);
+    Ok(())
+}
+
+fn set_status(row: &mut Row, status: &str) -> Result<(), LineFault> {
+    match status.parse() {
+        Ok(status) => {
+            row.status = status;
+            Ok(())
+        }
+        Err(_) => Err(LineFault::Number),
+    }
+}
+
+// Sets what the log must have taken, and hands on what the lines of text behind it belong to.
+fn set_log(row: &mut Row, log: WantedLog, part: Part) -> Part {
+    row.log = log;
+    part
+}
+
+fn add_text(row: &mut Row, part: Part, line: &str) -> Result<Part, LineFault> {
+    match text_of(row, part) {
+        Some(text) => append_line(text, line)?,
+        None => return Err(LineFault::StrayText),
+    }
+    Ok(part)
 }
 
 // Sets what a line says of a file.
 fn set_file(alloc: Global, row: &mut Row, file: FileSetting<'_>) -> Result<Part, LineFault> {
-    let empty = Vec::new(alloc);
     match file {
-        FileSetting::Text(name) => give(alloc, row, 1, name, Source::Text(empty)),
-        FileSetting::LastLog(name) => give(alloc, row, 1, name, Source::LastLog),
-        FileSetting::FromCall(rest) => give_from(alloc, row, rest, Source::Text(empty)),
-        FileSetting::GoneAt(rest) => give_from(alloc, row, rest, Source::Gone),
-        FileSetting::Endless(name) => give(alloc, row, 1, name, Source::Endless(empty)),
+        FileSetting::Text(name) => give(alloc, row, (1, name), Kind::Text),
+        FileSetting::LastLog(name) => give(alloc, row, (1, name), Kind::LastLog),
+        FileSetting::FromCall(rest) => give(alloc, row, from_call(rest)?, Kind::Text),
+        FileSetting::GoneAt(rest) => give(alloc, row, from_call(rest)?, Kind::Gone),
+        FileSetting::Endless(name) => give(alloc, row, (1, name), Kind::Endless),
+    }
+}
+
+// A source that has no text yet.
+#[derive(Clone, Copy)]
+enum Kind {
+    Text,
+    LastLog,
+    Endless,
+    Gone,
+}
+
+fn source_of(alloc: Global, kind: Kind) -> Source {
+    match kind {
+        Kind::Text => Source::Text(Vec::new(alloc)),
+        Kind::LastLog => Source::LastLog,
+        Kind::Endless => Source::Endless(Vec::new(alloc)),
+        Kind::Gone => Source::Gone,
     }
 }
 
@@ -84,20 +147,20 @@ fn set_file(alloc: Global, row: &mut Row, file: FileSetting<'_>) -> Result<Part,
 fn give(
     alloc: Global,
     row: &mut Row,
-    from: u64,
-    name: &str,
-    source: Source,
+    (from, name): (u64, &str),
+    kind: Kind,
 ) -> Result<Part, LineFault> {
     let name = name.to_string(alloc)?;
+    let source = source_of(alloc, kind);
     row.files.push(Given { name, from, source })?;
     Ok(Part::LastFile)
 }
 
-// Puts a file behind the others that is so from a call on: the number of the call stands before the first blank.
-fn give_from(alloc: Global, row: &mut Row, rest: &str, source: Source) -> Result<Part, LineFault> {
+// The call from which on a file is so, which stands before the first blank, and the name of the file.
+fn from_call(rest: &str) -> Result<(u64, &str), LineFault> {
     match rest.split_once(' ') {
         Some((call, name)) => match call.parse() {
-            Ok(from) => give(alloc, row, from, name, source),
+            Ok(from) => Ok((from, name)),
             Err(_) => Err(LineFault::Number),
         },
         None => Err(LineFault::Number),

@@ -23,27 +23,13 @@ pub fn wrong_stops<T: Toolchain>(
     calls: Calls,
 ) -> Result<String, Memory> {
     let mut said = String::new(trial.alloc);
-    say_part(
-        toolchain,
-        trial,
-        whole,
+    for part in [
         (Part::Store, calls.reads),
-        &mut said,
-    )?;
-    say_part(
-        toolchain,
-        trial,
-        whole,
         (Part::Out, calls.writes),
-        &mut said,
-    )?;
-    say_part(
-        toolchain,
-        trial,
-        whole,
         (Part::Log, calls.entries),
-        &mut said,
-    )?;
+    ] {
+        say_part(toolchain, trial, whole, part, &mut said)?;
+    }
     Ok(said)
 }
 
@@ -55,23 +41,48 @@ fn say_part<T: Toolchain>(
     (part, count): (Part, u64),
     said: &mut String,
 ) -> Result<(), Memory> {
-    let name = name_of(part);
     for before in 0..count {
         let call = before.saturating_add(1);
         let found = run_plainly(toolchain, trial, failing(part, &[call]))?;
-        if !is_stop(part, whole, &found) {
-            let status = found.status;
-            let out = found.out.len();
-            let log = found.log.len();
-            writeln!(
-                said,
-                "  call {call} of the {name} fails: status {status}, {out} bytes of output, {log} of the log"
-            )?;
-        }
+        say_stop(part, call, whole, &found, said)?;
     }
     let call = count.saturating_add(1);
     let found = run_plainly(toolchain, trial, failing(part, &[call]))?;
+    say_further(part, call, whole, &found, said)
+}
+
+// Says how a run stops whose call fails, where it stops in a wrong way.
+fn say_stop(
+    part: Part,
+    call: u64,
+    whole: &Ending,
+    found: &Ending,
+    said: &mut String,
+) -> Result<(), Memory> {
+    if is_stop(part, whole, found) {
+        return Ok(());
+    }
+    let name = name_of(part);
+    let status = found.status;
+    let out = found.out.len();
+    let log = found.log.len();
+    writeln!(
+        said,
+        "  call {call} of the {name} fails: status {status}, {out} bytes of output, {log} of the log"
+    )?;
+    Ok(())
+}
+
+// Says that a call is made behind the last one, where a run ends in another way than the whole one as it fails.
+fn say_further(
+    part: Part,
+    call: u64,
+    whole: &Ending,
+    found: &Ending,
+    said: &mut String,
+) -> Result<(), Memory> {
     if found.status != whole.status || found.out != whole.out || found.log != whole.log {
+        let name = name_of(part);
         writeln!(said, "  call {call} of the {name} is made")?;
     }
     Ok(())

@@ -41,26 +41,44 @@ pub fn run_plainly<T: Toolchain>(
     trial: Trial<'_>,
     failing: Failing<'_>,
 ) -> Result<Ending, Memory> {
-    let Trial {
-        alloc,
-        row,
-        last_log,
-    } = trial;
-    let mut out = MemorySink::new(alloc, List::from_slice(alloc, failing.writes)?);
-    let mut log = MemorySink::new(alloc, List::from_slice(alloc, failing.entries)?);
-    let status = if row.has_changing_files() {
-        let mut store = ChangingStore::new(&row.files, last_log, failing.reads);
-        toolchain.run(alloc, &row.words, &mut store, &mut out, &mut log)
-    } else {
-        let reads = List::from_slice(alloc, failing.reads)?;
-        let mut store = MemoryStore::new(alloc, files(trial)?, reads)?;
-        toolchain.run(alloc, &row.words, &mut store, &mut out, &mut log)
-    };
-    Ok(Ending {
-        status,
-        out: out.bytes().to_vec(alloc)?,
-        log: log.bytes().to_vec(alloc)?,
-    })
+    let mut out = sink_of(trial.alloc, failing.writes)?;
+    let mut log = sink_of(trial.alloc, failing.entries)?;
+    let status = run_over(toolchain, trial, failing.reads, &mut out, &mut log)?;
+    ending_of(trial.alloc, status, out.bytes(), log.bytes())
+}
+
+// A sink in memory of which these calls fail.
+fn sink_of(alloc: Global, calls: &[u64]) -> Result<MemorySink, Memory> {
+    Ok(MemorySink::new(alloc, List::from_slice(alloc, calls)?))
+}
+
+// Runs a row over a store of which these calls fail.
+fn run_over<T: Toolchain>(
+    toolchain: &T,
+    trial: Trial<'_>,
+    calls: &[u64],
+    out: &mut MemorySink,
+    log: &mut MemorySink,
+) -> Result<u8, Memory> {
+    let row = trial.row;
+    if row.has_changing_files() {
+        let mut store = ChangingStore::new(&row.files, trial.last_log, calls);
+        return Ok(toolchain.run(trial.alloc, &row.words, &mut store, out, log));
+    }
+    let mut store = store_of(trial, calls)?;
+    Ok(toolchain.run(trial.alloc, &row.words, &mut store, out, log))
+}
+
+fn store_of(trial: Trial<'_>, calls: &[u64]) -> Result<MemoryStore, Memory> {
+    let calls = List::from_slice(trial.alloc, calls)?;
+    MemoryStore::new(trial.alloc, files(trial)?, calls)
+}
+
+// What a run has come to, where the sinks have taken these bytes.
+fn ending_of(alloc: Global, status: u8, out: &[u8], log: &[u8]) -> Result<Ending, Memory> {
+    let out = out.to_vec(alloc)?;
+    let log = log.to_vec(alloc)?;
+    Ok(Ending { status, out, log })
 }
 
 /// Runs a row over a store that gives, and sinks that take, a byte at a time.
@@ -70,11 +88,7 @@ pub fn run_slowly<T: Toolchain>(toolchain: &T, trial: Trial<'_>) -> Result<Endin
     let mut out = SlowSink::new(alloc);
     let mut log = SlowSink::new(alloc);
     let status = toolchain.run(alloc, &trial.row.words, &mut store, &mut out, &mut log);
-    Ok(Ending {
-        status,
-        out: out.bytes().to_vec(alloc)?,
-        log: log.bytes().to_vec(alloc)?,
-    })
+    ending_of(alloc, status, out.bytes(), log.bytes())
 }
 
 // The files of a row that do not change, the last one first, since a store gives the first one of a name.
@@ -91,8 +105,14 @@ fn files(trial: Trial<'_>) -> Result<List<(Text, Text)>, Memory> {
             Source::LastLog => last_log,
             Source::Endless(_) | Source::Gone => continue,
         };
-        let name = Text::from_slice(alloc, file.name.as_bytes())?;
-        files.push((name, Text::from_slice(alloc, bytes)?))?;
+        let file = file_of(alloc, file.name.as_bytes(), bytes)?;
+        files.push(file)?;
     }
     Ok(files)
+}
+
+fn file_of(alloc: Global, name: &[u8], bytes: &[u8]) -> Result<(Text, Text), Memory> {
+    let name = Text::from_slice(alloc, name)?;
+    let text = Text::from_slice(alloc, bytes)?;
+    Ok((name, text))
 }

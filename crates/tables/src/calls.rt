@@ -43,12 +43,24 @@ fn found(alloc: Global, signature: &mut Signature, line: &Line<'_>) -> Result<St
             texts::found(alloc, line)
         }
         "graph" => graphs::found(alloc, line),
+        _ => of_formulas(alloc, signature, line),
+    }
+}
+
+fn of_formulas(alloc: Global, signature: &mut Signature, line: &Line<'_>) -> Result<String> {
+    match line.call {
         "size" | "clauses" | "literals" | "trivial" | "symbols" | "weight" => {
             forms::found(alloc, signature, line)
         }
         "conjunction" => forms::conjunction(alloc, line),
         "unify" | "agree" | "solve" | "circle" => unifiers::found(alloc, signature, line),
         "step" => steps::found(alloc, signature, line),
+        _ => of_clauses(alloc, signature, line),
+    }
+}
+
+fn of_clauses(alloc: Global, signature: &mut Signature, line: &Line<'_>) -> Result<String> {
+    match line.call {
         "order" | "sides" | "clash" | "weighs" | "eligible" | "partners" | "blind" | "subsumes" =>
             searches::found(alloc, signature, line),
         "search" | "members" | "blindly" => saturating::found(alloc, signature, line),

@@ -1,12 +1,12 @@
 // Normal forms, clauses, sizes and symbols of formulas.
 use crate::calls::Answer;
 use crate::line::Line;
-use crate::reading::{formula, logged};
-use anyhow::{Context, Result, bail};
+use crate::reading::{clause_in, copied, formula, logged};
+use anyhow::{Result, bail};
 use clause_form::{FormFault, as_clause, clause_count, close, is_trivial, norm, norm_size, strip};
 use fof_terms::{Form, Signature, Term, occurs, symbols_of, weight};
 use std::alloc::{AllocError, Global};
-use tptp_base::List;
+use tptp_base::{Boxed, List};
 
 /// The answer of a call that makes a formula of a formula, which is wanted as another formula or as `none`:
 ///
@@ -22,17 +22,25 @@ pub fn changed(alloc: Global, signature: &mut Signature, line: &Line<'_>) -> Res
 
 fn made(alloc: Global, signature: &mut Signature, line: &Line<'_>) -> Result<String> {
     let form = formula(alloc, signature, line.part(0)?)?;
-    made_of(alloc, line.call, &form)
+    made_of(alloc, line.call, form.get())
 }
 
 fn made_of(alloc: Global, call: &str, form: &Form) -> Result<String> {
     match call {
-        "norm" => logged(alloc, norm(alloc, form)?),
-        "strip" => logged(alloc, strip(alloc, form)?),
+        "norm" => normed(alloc, form),
+        "strip" => stripped(alloc, form),
         "clause" => closed_again(alloc, form),
-        "copy" => logged(alloc, form.copy(alloc)?),
+        "copy" => logged(alloc, copied(alloc, form)?.into_inner()),
         _ => bail!("no such call"),
     }
+}
+
+fn normed(alloc: Global, form: &Form) -> Result<String> {
+    logged(alloc, norm(alloc, form)?)
+}
+
+fn stripped(alloc: Global, form: &Form) -> Result<String> {
+    logged(alloc, strip(alloc, form)?)
 }
 
 fn closed_again(alloc: Global, form: &Form) -> Result<String> {
@@ -46,7 +54,7 @@ fn closed_again(alloc: Global, form: &Form) -> Result<String> {
 fn wanted(alloc: Global, signature: &mut Signature, text: &str) -> Result<String> {
     match text {
         "none" => none(alloc),
-        _ => logged(alloc, formula(alloc, signature, text)?),
+        _ => logged(alloc, formula(alloc, signature, text)?.into_inner()),
     }
 }
 
@@ -63,28 +71,36 @@ pub fn none(alloc: Global) -> Result<String> {
 /// - `weight`: how many symbols and variables the right side has of an equation
 pub fn found(alloc: Global, signature: &mut Signature, line: &Line<'_>) -> Result<String> {
     let form = formula(alloc, signature, line.part(0)?)?;
-    told(alloc, line.call, &form)
+    told(alloc, line.call, form.get())
 }
 
 fn told(alloc: Global, call: &str, form: &Form) -> Result<String> {
     match call {
-        "size" => Ok(norm_size(form).to_string(alloc)?),
-        "clauses" => Ok(clause_count(form).to_string(alloc)?),
+        "size" => number(alloc, norm_size(form)),
+        "clauses" => number(alloc, clause_count(form)),
         "literals" => literals(alloc, form),
         "trivial" => trivial(alloc, form),
         "symbols" => symbols(alloc, form),
-        "weight" => Ok(weight(right_side(form)?).to_string(alloc)?),
+        "weight" => weighed(alloc, form),
         _ => bail!("no such call"),
     }
 }
 
+fn number(alloc: Global, number: u128) -> Result<String> {
+    Ok(number.to_string(alloc)?)
+}
+
+fn weighed(alloc: Global, form: &Form) -> Result<String> {
+    number(alloc, u128::from(weight(right_side(form)?)))
+}
+
 fn literals(alloc: Global, form: &Form) -> Result<String> {
-    let clause = as_clause(alloc, form)?.context("no clause")?;
+    let clause = clause_in(alloc, form)?;
     Ok(clause.lits.len().to_string(alloc)?)
 }
 
 fn trivial(alloc: Global, form: &Form) -> Result<String> {
-    let clause = as_clause(alloc, form)?.context("no clause")?;
+    let clause = clause_in(alloc, form)?;
     Ok(is_trivial(&clause).to_string(alloc)?)
 }
 
@@ -100,13 +116,18 @@ fn right_side(form: &Form) -> Result<&Term> {
 fn symbols(alloc: Global, form: &Form) -> Result<String> {
     let mut out = String::new(alloc);
     push_symbols(alloc, &mut out, form)?;
+    push_occurring(&mut out, form)?;
+    Ok(out)
+}
+
+fn push_occurring(out: &mut String, form: &Form) -> Result<()> {
     out.push_str("occur")?;
     for symbol in 0..10u32 {
         if occurs(symbol, form) {
             write!(out, " {symbol}")?;
         }
     }
-    Ok(out)
+    Ok(())
 }
 
 fn push_symbols(alloc: Global, out: &mut String, form: &Form) -> Result<()> {
@@ -121,7 +142,7 @@ fn push_symbols(alloc: Global, out: &mut String, form: &Form) -> Result<()> {
 /// The answer of the call `conjunction`: whether a conjunction of so many atoms has a normal form.
 pub fn conjunction(alloc: Global, line: &Line<'_>) -> Result<String> {
     let form = atoms(alloc, line.part(0)?.parse()?)?;
-    kind_of_norm(alloc, &form)
+    kind_of_norm(alloc, form.get())
 }
 
 fn kind_of_norm(alloc: Global, form: &Form) -> Result<String> {
@@ -133,10 +154,10 @@ fn kind_of_norm(alloc: Global, form: &Form) -> Result<String> {
 }
 
 // A conjunction of so many atoms.
-fn atoms(alloc: Global, count: u32) -> Result<Form, AllocError> {
+fn atoms(alloc: Global, count: u32) -> Result<Boxed<Form>, AllocError> {
     let mut members = List::new(alloc);
     for _ in 0..count {
         members.push(Form::Atom(0, List::new(alloc)))?;
     }
-    Ok(Form::And(members))
+    Boxed::new(alloc, Form::And(members))
 }

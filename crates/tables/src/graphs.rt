@@ -3,34 +3,51 @@ use crate::line::Line;
 use crate::reading::items_of;
 use anyhow::{Result, bail};
 use std::alloc::{AllocError, Global};
-use tptp_base::{List, Name, Text};
+use tptp_base::{Item, List, Name, Text};
 use tstp_graph::{Graph, Node, Ref, graph};
 
 /// The answer of the call `graph`, over the given formulas a, b and b: each line as a leaf or a step, with what it is
 /// from, and at last the order of checking. Lines are told by their numbers, from 0, and so are given formulas, behind
 /// `given`. A part is `NAME`, `NAME from SOURCE` or `NAME type`, a type line.
 pub fn found(alloc: Global, line: &Line<'_>) -> Result<String> {
+    let derivation = derivation(alloc, line.parts.as_slice())?;
+    let items = items_of(alloc, derivation.as_str())?;
+    over_items(alloc, items.as_slice())
+}
+
+fn derivation(alloc: Global, parts: &[String]) -> Result<String, AllocError> {
     let mut derivation = String::new(alloc);
-    for part in line.parts.iter() {
+    for part in parts {
         push_line(&mut derivation, part.as_str())?;
     }
-    let items = items_of(alloc, derivation.as_str())?;
+    Ok(derivation)
+}
+
+fn over_items(alloc: Global, items: &[Item]) -> Result<String> {
     let given = given(alloc)?;
+    over_given(alloc, items, given.as_slice())
+}
+
+fn over_given(alloc: Global, items: &[Item], given: &[Name]) -> Result<String> {
     if items.len() > 1000 || given.len() > 1000 {
         bail!("too many items");
     }
-    let graph = graph(alloc, items.as_slice(), given.as_slice())?;
+    let graph = graph(alloc, items, given)?;
     Ok(shown(alloc, &graph)?)
 }
 
 fn push_line(out: &mut String, part: &str) -> Result<(), AllocError> {
-    if let Some((name, source)) = part.split_once(" from ") {
-        return write!(out, "cnf({name},plain,p,{source}).");
+    match part.split_once(" from ") {
+        Some((name, source)) => write!(out, "cnf({name},plain,p,{source})."),
+        None => push_leaf(out, part),
     }
-    if let Some(name) = part.strip_suffix(" type") {
-        return write!(out, "tff({name},type,{name}: $i).");
+}
+
+fn push_leaf(out: &mut String, part: &str) -> Result<(), AllocError> {
+    match part.strip_suffix(" type") {
+        Some(name) => write!(out, "tff({name},type,{name}: $i)."),
+        None => write!(out, "cnf({part},plain,p)."),
     }
-    write!(out, "cnf({part},plain,p).")
 }
 
 fn given(alloc: Global) -> Result<List<Name>> {
@@ -46,11 +63,16 @@ fn shown(alloc: Global, graph: &Graph) -> Result<String, AllocError> {
     for node in graph.nodes.as_slice() {
         push_node(&mut out, node)?;
     }
+    push_order(&mut out, graph)?;
+    Ok(out)
+}
+
+fn push_order(out: &mut String, graph: &Graph) -> Result<(), AllocError> {
     out.push_str("order")?;
     for number in graph.order.as_slice() {
         write!(out, " {number}")?;
     }
-    Ok(out)
+    Ok(())
 }
 
 fn push_node(out: &mut String, node: &Node) -> Result<(), AllocError> {
@@ -59,10 +81,14 @@ fn push_node(out: &mut String, node: &Node) -> Result<(), AllocError> {
         out.push_str(" cited")?;
     }
     for parent in node.parents.as_slice() {
-        match parent {
-            Ref::Line(number) => write!(out, " {number}")?,
-            Ref::Given(number) => write!(out, " given {number}")?,
-        }
+        push_parent(out, parent)?;
     }
     out.push_str("; ")
+}
+
+fn push_parent(out: &mut String, parent: &Ref) -> Result<(), AllocError> {
+    match parent {
+        Ref::Line(number) => write!(out, " {number}"),
+        Ref::Given(number) => write!(out, " given {number}"),
+    }
 }

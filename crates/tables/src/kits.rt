@@ -6,7 +6,7 @@ ghost use Rattle.norm_proofs.specs.Placed.{SortedSomewhere};
 use crate::calls::Answer;
 use crate::forms::none;
 use crate::line::Line;
-use crate::reading::{formula, logged, signature_of};
+use crate::reading::{copied, formula, logged, signature_of};
 use anyhow::{Context, Result, bail};
 use clause_form::{Path, clause_of_path, norm_size};
 use derive_kit::Part;
@@ -22,7 +22,7 @@ use tptp_base::{Boxed, List, Memory};
 /// - `path`: from the formula to the clause that a path reaches, where the path fits
 pub fn proved(alloc: Global, signature: &mut Signature, line: &Line<'_>) -> Result<Answer> {
     let form = formula(alloc, signature, line.part(0)?)?;
-    answer_of(alloc, signature, &form, line)
+    answer_of(alloc, signature, form.get(), line)
 }
 
 fn answer_of(
@@ -44,18 +44,20 @@ fn wanted(
     line: &Line<'_>,
 ) -> Result<String> {
     let wanted = line.wanted.as_str();
+    if wanted == "none" {
+        return none(alloc);
+    }
+    let wanted = formula(alloc, signature, wanted)?;
     match line.call {
-        _ if wanted == "none" => none(alloc),
-        "back" => implied(alloc, formula(alloc, signature, wanted)?, form.copy(alloc)?),
-        _ => implied(alloc, form.copy(alloc)?, formula(alloc, signature, wanted)?),
+        "back" => implied(alloc, wanted.get(), form),
+        _ => implied(alloc, form, wanted.get()),
     }
 }
 
-fn implied(alloc: Global, left: Form, right: Form) -> Result<String> {
-    logged(
-        alloc,
-        Form::Imp(Boxed::new(alloc, left)?, Boxed::new(alloc, right)?),
-    )
+fn implied(alloc: Global, left: &Form, right: &Form) -> Result<String> {
+    let left = copied(alloc, left)?;
+    let right = copied(alloc, right)?;
+    logged(alloc, Form::Imp(left, right))
 }
 
 // The text of what the kernel concludes by the proof, in the theory without formulas, or `none` where none is built.
@@ -71,8 +73,9 @@ fn theory_of(alloc: Global, line: &Line<'_>) -> Result<Theory> {
 }
 
 fn symbols_of(alloc: Global, line: &Line<'_>) -> Result<Signature> {
+    let text = line.part(0)?;
     let mut signature = signature_of(alloc, line)?;
-    let _form = formula(alloc, &mut signature, line.part(0)?)?;
+    let _form = formula(alloc, &mut signature, text)?;
     Ok(signature)
 }
 
@@ -84,8 +87,8 @@ fn found_in(alloc: Global, theory: &mut Theory, form: &Form, line: &Line<'_>) ->
 }
 
 fn concluded(alloc: Global, theory: &mut Theory, proof: Part) -> Result<String> {
-    let lemma = Entry::Lemma(proof.into_inner());
-    conclusion(alloc, theory, &lemma)
+    let lemma = Boxed::new(alloc, Entry::Lemma(proof.into_inner()))?;
+    conclusion(alloc, theory, lemma.get())
 }
 
 fn conclusion(alloc: Global, theory: &mut Theory, lemma: &Entry) -> Result<String> {
@@ -108,9 +111,19 @@ fn proof(
         bail!("the formula is not well-sorted, or too large");
     }
     match line.call {
-        "forth" => Ok(Some(norm_forth(alloc, form)?)),
-        "back" => Ok(Some(norm_back(alloc, form)?)),
-        _ => along(alloc, form, line.part(1)?),
+        "path" => along(alloc, form, line.part(1)?),
+        call => Ok(Some(normed(alloc, call, form)?)),
+    }
+}
+
+// The proof of the normal form, or back from it.
+fn normed(alloc: Global, call: &str, form: &Form) -> Result<Part, Memory>
+    requires size { norm_size_of form.now ≤ 100000 }
+    requires sorted { SortedSomewhere form.now }
+{
+    match call {
+        "forth" => norm_forth(alloc, form),
+        _ => norm_back(alloc, form),
     }
 }
 
@@ -145,24 +158,44 @@ fn along_path(alloc: Global, form: &Form, path: &Path) -> Result<Option<Part>, M
 fn path(alloc: Global, text: &str) -> Result<Boxed<Path>> {
     let mut paths = List::new(alloc);
     for word in text.rsplit(' ') {
-        let next = match word {
-            "leaf" => Path::Leaf,
-            "under" => Path::Under(last(&mut paths)?),
-            "both" => both(alloc, &mut paths)?,
-            number => Path::Pick(number.parse()?, last(&mut paths)?),
-        };
-        paths.push(Boxed::new(alloc, next)?)?;
+        let next = step(alloc, &mut paths, word)?;
+        paths.push(next)?;
     }
     last(&mut paths)
+}
+
+// The path of a word and of those behind it.
+fn step(alloc: Global, paths: &mut List<Boxed<Path>>, word: &str) -> Result<Boxed<Path>> {
+    match word {
+        "leaf" => Ok(Boxed::new(alloc, Path::Leaf)?),
+        "under" => under(alloc, paths),
+        "both" => both(alloc, paths),
+        number => pick(alloc, paths, number.parse()?),
+    }
+}
+
+fn under(alloc: Global, paths: &mut List<Boxed<Path>>) -> Result<Boxed<Path>> {
+    let next = last(paths)?;
+    Ok(Boxed::new(alloc, Path::Under(next))?)
+}
+
+fn pick(alloc: Global, paths: &mut List<Boxed<Path>>, number: u32) -> Result<Boxed<Path>> {
+    let next = last(paths)?;
+    Ok(Boxed::new(alloc, Path::Pick(number, next))?)
 }
 
 fn last(paths: &mut List<Boxed<Path>>) -> Result<Boxed<Path>> {
     paths.pop().context("a path has no end")
 }
 
-fn both(alloc: Global, paths: &mut List<Boxed<Path>>) -> Result<Path> {
+fn both(alloc: Global, paths: &mut List<Boxed<Path>>) -> Result<Boxed<Path>> {
     let mut ways = List::new(alloc);
-    ways.push(last(paths)?.into_inner())?;
-    ways.push(last(paths)?.into_inner())?;
-    Ok(Path::Each(ways))
+    push_way(paths, &mut ways)?;
+    push_way(paths, &mut ways)?;
+    Ok(Boxed::new(alloc, Path::Each(ways))?)
+}
+
+fn push_way(paths: &mut List<Boxed<Path>>, ways: &mut List<Path>) -> Result<()> {
+    let way = last(paths)?;
+    Ok(ways.push(way.into_inner())?)
 }

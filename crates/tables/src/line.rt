@@ -22,10 +22,7 @@ impl<'a> Line<'a> {
     /// There is no call, or no answer is wanted of it.
     pub fn read(alloc: Global, given: &'a str, text: &'a str) -> Result<Line<'a>> {
         let (call, rest) = text.split_once(" # ").context("no call")?;
-        let mut parts = Vec::new(alloc);
-        for part in rest.split(" # ") {
-            parts.push(unescaped(alloc, part)?)?;
-        }
+        let mut parts = parts_of(alloc, rest)?;
         let wanted = parts.pop().context("no answer is wanted")?;
         Ok(Line {
             given,
@@ -52,6 +49,14 @@ pub fn push_word(out: &mut String, word: &str) -> Result<(), AllocError> {
         out.push(' ')?;
     }
     out.push_str(word)
+}
+
+fn parts_of(alloc: Global, text: &str) -> Result<Vec<String>, AllocError> {
+    let mut parts = Vec::new(alloc);
+    for part in text.split(" # ") {
+        parts.push(unescaped(alloc, part)?)?;
+    }
+    Ok(parts)
 }
 
 fn unescaped(alloc: Global, text: &str) -> Result<String, AllocError> {

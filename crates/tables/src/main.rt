@@ -14,7 +14,6 @@ mod problems;
 mod reading;
 mod saturating;
 mod searches;
-mod sorts;
 mod steps;
 mod texts;
 mod tokens;
@@ -40,12 +39,16 @@ fn main(rt: HostRuntime) -> Result<ExitCode> {
 fn try_all<R: Env + Files + Print + AllocGlobal>(rt: &R) -> Result<bool> {
     let mut is_right = true;
     for name in env::args(rt)?.skip(1) {
-        let table = fs::read_to_string(rt, name.as_str())?;
-        let (count, differ) = try_table(rt, name.as_str(), table.as_str())?;
-        println!(rt; "{name}: {count} lines, {differ} differ")?;
-        is_right = is_right && count > 0 && differ == 0;
+        is_right = try_file(rt, name.as_str())? && is_right;
     }
     Ok(is_right)
+}
+
+fn try_file<R: Files + Print + AllocGlobal>(rt: &R, name: &str) -> Result<bool> {
+    let table = fs::read_to_string(rt, name)?;
+    let (count, differ) = try_table(rt, name, table.as_str())?;
+    println!(rt; "{name}: {count} lines, {differ} differ")?;
+    Ok(count > 0 && differ == 0)
 }
 
 // How many lines a table has, and how many of them differ. The text of a line `given # TEXT` stands before the formulas
@@ -55,33 +58,66 @@ fn try_table<R: Print + AllocGlobal>(rt: &R, name: &str, table: &str) -> Result<
     let mut count = 0u64;
     let mut differ = 0u64;
     for (number, text) in table.lines().enumerate() {
-        if text.is_empty() || text.starts_with('#') {
-            continue;
-        }
-        if let Some(more) = text.strip_prefix("given # ") {
-            given.push_str(more)?;
+        if is_no_call(&mut given, text)? {
             continue;
         }
         count = count.saturating_add(1);
-        if let Some(said) = difference(rt.alloc(), given.as_str(), text)? {
+        if differs(rt, given.as_str(), text, (name, number))? {
             differ = differ.saturating_add(1);
-            println!(rt; "{name}:{}: {text}\n{said}", number.saturating_add(1))?;
         }
     }
     Ok((count, differ))
 }
 
+// Whether a line of a table is no call. A text that it gives is appended to that which is given.
+fn is_no_call(given: &mut String, text: &str) -> Result<bool> {
+    if text.is_empty() || text.starts_with('#') {
+        return Ok(true);
+    }
+    match text.strip_prefix("given # ") {
+        Some(more) => {
+            given.push_str(more)?;
+            Ok(true)
+        }
+        None => Ok(false),
+    }
+}
+
+// Prints what differs of a line.
+fn differs<R: Print + AllocGlobal>(
+    rt: &R,
+    given: &str,
+    text: &str,
+    place: (&str, usize),
+) -> Result<bool> {
+    match difference(rt.alloc(), given, text)? {
+        Some(said) => {
+            print(rt, place, text, said.as_str())?;
+            Ok(true)
+        }
+        None => Ok(false),
+    }
+}
+
+fn print<R: Print>(rt: &R, (name, number): (&str, usize), text: &str, said: &str) -> Result<()> {
+    println!(rt; "{name}:{}: {text}\n{said}", number.saturating_add(1))?;
+    Ok(())
+}
+
 // What is wanted of a line and what is found, where they differ, or why the line has no answer.
 fn difference(alloc: Global, given: &str, text: &str) -> Result<Option<String>> {
     match answer_of(alloc, given, text) {
-        Ok(Answer { wanted, found }) => {
-            if wanted.as_str() == found.as_str() {
-                return Ok(None);
-            }
-            Ok(Some(format!(in alloc; "    wanted: {wanted}\n    found:  {found}")?))
-        }
+        Ok(answer) => compared(alloc, &answer),
         Err(error) => Ok(Some(format!(in alloc; "    no answer: {error}")?)),
     }
+}
+
+fn compared(alloc: Global, answer: &Answer) -> Result<Option<String>> {
+    let Answer { wanted, found } = answer;
+    if wanted.as_str() == found.as_str() {
+        return Ok(None);
+    }
+    Ok(Some(format!(in alloc; "    wanted: {wanted}\n    found:  {found}")?))
 }
 
 fn answer_of(alloc: Global, given: &str, text: &str) -> Result<Answer> {

@@ -43,14 +43,22 @@ fn inside<'a>(form: &'a Form, scope: &mut Scope) -> Result<&'a Form> {
 pub fn pairs_of(alloc: Global, form: &Form) -> Result<List<Pair>> {
     let mut pairs = List::new(alloc);
     match form {
-        Form::And(members) => {
-            for member in members.as_slice() {
-                pairs.push(pair_of(alloc, member)?)?;
-            }
-        }
-        _ => pairs.push(pair_of(alloc, form)?)?,
+        Form::And(members) => push_pairs(alloc, &mut pairs, members.as_slice())?,
+        _ => push_pair(alloc, &mut pairs, form)?,
     }
     Ok(pairs)
+}
+
+fn push_pairs(alloc: Global, pairs: &mut List<Pair>, forms: &[Form]) -> Result<()> {
+    for form in forms {
+        push_pair(alloc, pairs, form)?;
+    }
+    Ok(())
+}
+
+fn push_pair(alloc: Global, pairs: &mut List<Pair>, form: &Form) -> Result<()> {
+    let pair = pair_of(alloc, form)?;
+    Ok(pairs.push(pair)?)
 }
 
 /// The sides of an equation.

@@ -5,15 +5,14 @@ ghost use Rattle.clause_order.specs.Weights.{clause_weight};
 ghost use Rattle.superpose.specs.Drafts.{IsClause};
 
 use crate::line::Line;
-use crate::reading::formula;
-use crate::sorts::{are_clauses, are_light};
-use anyhow::{Context, Result, bail};
-use clause_form::{Clause, as_clause};
+use crate::reading::{clause_in, formula};
+use anyhow::{Result, bail};
+use clause_form::Clause;
 use clause_index::BlindIndex;
 use fof_terms::{Form, Signature};
-use saturation::{Outcome, Superposition, search, search_by};
+use saturation::{Outcome, Superposition, are_searchable, search, search_by};
 use std::alloc::Global;
-use tptp_base::{List, Memory};
+use tptp_base::{Boxed, List, Memory};
 
 /// The answer of a search under a limit over a clause, or over each clause of a conjunction:
 ///
@@ -23,7 +22,7 @@ use tptp_base::{List, Memory};
 pub fn found(alloc: Global, signature: &mut Signature, line: &Line<'_>) -> Result<String> {
     let limit = line.part(0)?.parse()?;
     let form = formula(alloc, signature, line.part(1)?)?;
-    over(alloc, signature, line.call, limit, &form)
+    over(alloc, signature, line.call, limit, form.get())
 }
 
 fn over(
@@ -34,15 +33,55 @@ fn over(
     form: &Form,
 ) -> Result<String> {
     let inputs = clauses_in(alloc, form)?;
-    let inputs = inputs.as_slice();
-    if !are_clauses(signature, inputs) || !are_light(inputs) {
+    over_clauses(alloc, signature, call, limit, inputs.as_slice())
+}
+
+fn over_clauses(
+    alloc: Global,
+    signature: &Signature,
+    call: &str,
+    limit: u32,
+    inputs: &[Clause],
+) -> Result<String> {
+    if !are_searchable(signature, inputs) {
         bail!("a clause is not well-sorted, or too heavy");
     }
+    Ok(ended(alloc, signature, call, limit, inputs)?)
+}
+
+fn ended(
+    alloc: Global,
+    signature: &Signature,
+    call: &str,
+    limit: u32,
+    inputs: &[Clause],
+) -> Result<String, Memory>
+    requires clauses { Each (IsClause signature.now) inputs.now }
+    requires light { Each (λ c. clause_weight c ≤ 100000000) inputs.now }
+{
+    let outcome = outcome(alloc, signature, call, limit, inputs)?;
+    end(alloc, outcome.get(), call != "search")
+}
+
+fn outcome(
+    alloc: Global,
+    signature: &Signature,
+    call: &str,
+    limit: u32,
+    inputs: &[Clause],
+) -> Result<Boxed<Outcome>, Memory>
+    requires clauses { Each (IsClause signature.now) inputs.now }
+    requires light { Each (λ c. clause_weight c ≤ 100000000) inputs.now }
+{
     match call {
-        "search" => end(alloc, &search(alloc, signature, inputs, limit)?, false),
-        "members" => end(alloc, &search(alloc, signature, inputs, limit)?, true),
-        _ => end(alloc, &blindly(alloc, signature, inputs, limit)?, true),
+        "blindly" => boxed(alloc, blindly(alloc, signature, inputs, limit)),
+        _ => boxed(alloc, search(alloc, signature, inputs, limit)),
     }
+}
+
+// A box is dropped by a call, and an outcome variant by variant.
+fn boxed(alloc: Global, outcome: Result<Outcome, Memory>) -> Result<Boxed<Outcome>, Memory> {
+    Ok(Boxed::new(alloc, outcome?)?)
 }
 
 fn blindly(
@@ -71,18 +110,26 @@ fn blindly(
 fn clauses_in(alloc: Global, form: &Form) -> Result<List<Clause>> {
     let mut clauses = List::new(alloc);
     match form {
-        Form::And(members) => {
-            for member in members.as_slice() {
-                clauses.push(as_clause(alloc, member)?.context("no clause")?)?;
-            }
-        }
-        _ => clauses.push(as_clause(alloc, form)?.context("no clause")?)?,
+        Form::And(members) => push_clauses(alloc, &mut clauses, members.as_slice())?,
+        _ => push_clause(alloc, &mut clauses, form)?,
     }
     Ok(clauses)
 }
 
+fn push_clauses(alloc: Global, clauses: &mut List<Clause>, forms: &[Form]) -> Result<()> {
+    for form in forms {
+        push_clause(alloc, clauses, form)?;
+    }
+    Ok(())
+}
+
+fn push_clause(alloc: Global, clauses: &mut List<Clause>, form: &Form) -> Result<()> {
+    let clause = clause_in(alloc, form)?;
+    Ok(clauses.push(clause)?)
+}
+
 // The word of the end and, if they are wanted, the number of members.
-fn end(alloc: Global, outcome: &Outcome, numbered: bool) -> Result<String> {
+fn end(alloc: Global, outcome: &Outcome, numbered: bool) -> Result<String, Memory> {
     let (word, members) = match outcome {
         Outcome::Refuted(members, _) => ("refuted", members),
         Outcome::Dry(members) => ("dry", members),

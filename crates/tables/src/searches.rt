@@ -1,14 +1,16 @@
 // The order of terms and literals, keys, and clauses that subsume others.
+ghost use Rattle.superpose.specs.Drafts.{IsClause};
+
 use crate::line::{Line, push_word};
-use crate::reading::formula;
-use crate::sorts::are_sorted_lits;
+use crate::reading::{clause_in, formula};
 use anyhow::{Context, Result, bail};
-use clause_form::{AtomOf, Clause, Lit, as_clause};
+use clause_form::{AtomOf, Clause, Lit};
 use clause_index::{BlindIndex, Index, Partners, do_clash, keys_of};
 use clause_order::{Compare, clause_weight_of, eligible, kbo_compare, sides_not_less};
 use fof_terms::{Form, Signature, Term, copy_terms};
 use std::alloc::{AllocError, Global};
 use subsumption::subsumes;
+use superpose::is_clause;
 use tptp_base::{List, Memory};
 
 /// The answer of a call of the search's parts:
@@ -23,9 +25,9 @@ use tptp_base::{List, Memory};
 pub fn found(alloc: Global, signature: &mut Signature, line: &Line<'_>) -> Result<String> {
     let first = formula(alloc, signature, line.part(0)?)?;
     match line.call {
-        "order" | "sides" | "clash" => of_sides(alloc, line.call, &first),
-        "weighs" | "eligible" => of_clause(alloc, line.call, &first),
-        _ => with_second(alloc, signature, line, &first),
+        "order" | "sides" | "clash" => of_sides(alloc, line.call, first.get()),
+        "weighs" | "eligible" => of_clause(alloc, line.call, first.get()),
+        _ => with_second(alloc, signature, line, first.get()),
     }
 }
 
@@ -36,7 +38,7 @@ fn with_second(
     first: &Form,
 ) -> Result<String> {
     let second = formula(alloc, signature, line.part(1)?)?;
-    of_two(alloc, signature, line.call, first, &second)
+    of_two(alloc, signature, line.call, first, second.get())
 }
 
 /// The sides of an equation.
@@ -89,7 +91,7 @@ fn answer(is_so: bool) -> &'static str {
 }
 
 fn of_clause(alloc: Global, call: &str, form: &Form) -> Result<String> {
-    let clause = as_clause(alloc, form)?.context("no clause")?;
+    let clause = clause_in(alloc, form)?;
     match call {
         "weighs" => Ok(clause_weight_of(&clause).to_string(alloc)?),
         _ => Ok(eligible_places(alloc, &clause)?),
@@ -102,13 +104,18 @@ fn eligible_places(alloc: Global, clause: &Clause) -> Result<String, AllocError>
     let count = clause.lits.len() as u64;
     for place in 0..u32::MAX {
         if eligible(clause, place) {
-            push_word(&mut out, place.to_string(alloc)?.as_str())?;
+            push_number(alloc, &mut out, place)?;
         }
         if u64::from(place) >= count {
             break;
         }
     }
     or_none(out)
+}
+
+fn push_number(alloc: Global, out: &mut String, number: u32) -> Result<(), AllocError> {
+    let number = number.to_string(alloc)?;
+    push_word(out, number.as_str())
 }
 
 fn or_none(mut out: String) -> Result<String, AllocError> {
@@ -125,14 +132,29 @@ fn of_two(
     first: &Form,
     second: &Form,
 ) -> Result<String> {
-    let clause = as_clause(alloc, first)?.context("no clause")?;
-    let other = as_clause(alloc, second)?.context("no clause")?;
+    let clause = clause_in(alloc, first)?;
+    let other = clause_in(alloc, second)?;
+    of_clauses(alloc, signature, call, &clause, &other)
+}
+
+fn of_clauses(
+    alloc: Global,
+    signature: &Signature,
+    call: &str,
+    clause: &Clause,
+    other: &Clause,
+) -> Result<String> {
     match call {
-        "partners" => partners(alloc, &mut Index::new(alloc), &clause, &other),
-        "blind" => partners(alloc, &mut BlindIndex::new(), &clause, &other),
-        "subsumes" => subsumed(alloc, signature, &clause, &other),
+        "partners" => seen(alloc, clause, other),
+        "blind" => partners(alloc, &mut BlindIndex::new(), clause, other),
+        "subsumes" => subsumed(alloc, signature, clause, other),
         _ => bail!("no such call"),
     }
+}
+
+fn seen(alloc: Global, clause: &Clause, other: &Clause) -> Result<String> {
+    let mut index = Index::new(alloc);
+    partners(alloc, &mut index, clause, other)
 }
 
 // The places that the index tells for the first literal of the other clause, once it has those of the clause.
@@ -144,18 +166,27 @@ fn partners<I: Partners>(
 ) -> Result<String> {
     let mut place = 0u32;
     for lit in clause.lits.as_slice() {
-        index.add(place, lit.positive, &term_of(alloc, lit)?)?;
+        add(alloc, index, place, lit)?;
         place = place.saturating_add(1);
     }
-    let asked = other.lits.get(0).context("no literal")?;
-    let places = index.candidates(alloc, asked.positive, &term_of(alloc, asked)?)?;
+    asked(alloc, index, other.lits.get(0).context("no literal")?)
+}
+
+fn add<I: Partners>(alloc: Global, index: &mut I, place: u32, lit: &Lit) -> Result<()> {
+    let term = term_of(alloc, lit)?;
+    Ok(index.add(place, lit.positive, &term)?)
+}
+
+fn asked<I: Partners>(alloc: Global, index: &mut I, lit: &Lit) -> Result<String> {
+    let term = term_of(alloc, lit)?;
+    let places = index.candidates(alloc, lit.positive, &term)?;
     Ok(listed(alloc, places.as_slice())?)
 }
 
 fn listed(alloc: Global, places: &[u32]) -> Result<String, AllocError> {
     let mut out = String::new(alloc);
     for place in places {
-        push_word(&mut out, place.to_string(alloc)?.as_str())?;
+        push_number(alloc, &mut out, *place)?;
     }
     or_none(out)
 }
@@ -174,9 +205,21 @@ fn subsumed(
     member: &Clause,
     clause: &Clause,
 ) -> Result<String> {
-    if !are_sorted_lits(signature, member) || !are_sorted_lits(signature, clause) {
+    if !is_clause(signature, member) || !is_clause(signature, clause) {
         bail!("a clause is not well-sorted");
     }
-    let word = answer(subsumes(alloc, signature, member, clause)?);
+    let word = answer(is_subsumed(alloc, signature, member, clause)?);
     Ok(String::from_str(alloc, word)?)
+}
+
+fn is_subsumed(
+    alloc: Global,
+    signature: &Signature,
+    member: &Clause,
+    clause: &Clause,
+) -> Result<bool, Memory>
+    requires member { IsClause signature.now member.now }
+    requires clause { IsClause signature.now clause.now }
+{
+    subsumes(alloc, signature, member, clause)
 }

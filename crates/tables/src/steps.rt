@@ -2,7 +2,7 @@
 ghost use Rattle.clause_rules.specs.Steps.{IsReady, AreReady};
 
 use crate::line::{Line, push_word};
-use crate::reading::formula;
+use crate::reading::parents_of;
 use anyhow::{Context, Result, bail};
 use clause_form::Parent;
 use clause_rules::{Just, are_ready, is_ready};
@@ -11,24 +11,14 @@ use rule_steps::{
     cover_step, eqfactor_step, norm_step, paramodulation_step, recognise, resolution_step,
     rewrite_step, tautology_step,
 };
-use std::alloc::{AllocError, Global};
-use tptp_base::{List, Memory};
+use std::alloc::Global;
+use tptp_base::Memory;
 
 /// The answer of the call `step`: the names of all rules by which the last formula follows from the others, the first
 /// of which must be the one that is recognised.
 pub fn found(alloc: Global, signature: &mut Signature, line: &Line<'_>) -> Result<String> {
-    let forms = forms_of(alloc, signature, line)?;
+    let forms = parents_of(alloc, signature, line.parts.as_slice())?;
     told(alloc, signature, forms.as_slice())
-}
-
-// The formulas of the line's parts.
-fn forms_of(alloc: Global, signature: &mut Signature, line: &Line<'_>) -> Result<List<Parent>> {
-    let mut forms = List::new(alloc);
-    for text in line.parts.iter() {
-        let form = formula(alloc, signature, text.as_str())?;
-        forms.push(Parent { number: 0, form })?;
-    }
-    Ok(forms)
 }
 
 // The rules by which the last formula follows from those before it, and the rule that is recognised in place of the
@@ -38,8 +28,24 @@ fn told(alloc: Global, signature: &Signature, forms: &[Parent]) -> Result<String
     if !is_ready(signature, &line.form) || !are_ready(signature, parents) {
         bail!("a formula is not closed and well-sorted");
     }
-    let mut rules = rules(alloc, signature, parents, &line.form)?;
-    let recognised = recognised(alloc, signature, parents, &line.form)?;
+    Ok(all_told(alloc, signature, parents, &line.form)?)
+}
+
+fn all_told(
+    alloc: Global,
+    signature: &Signature,
+    parents: &[Parent],
+    line: &Form,
+) -> Result<String, Memory>
+    requires line { IsReady signature.now line.now }
+    requires parents { AreReady signature.now parents.now }
+{
+    let recognised = recognised(alloc, signature, parents, line)?;
+    let rules = rules(alloc, signature, parents, line)?;
+    told_beside(rules, recognised)
+}
+
+fn told_beside(mut rules: String, recognised: &str) -> Result<String, Memory> {
     if !rules.starts_with(recognised) {
         write!(rules, " but recognised is {recognised}")?;
     }
@@ -73,26 +79,51 @@ fn rules(
     requires parents { AreReady signature.now parents.now }
 {
     let mut out = String::new(alloc);
-    push_rule(&mut out, norm_step(alloc, signature, parents, line)?)?;
-    push_rule(&mut out, cover_step(alloc, signature, parents, line)?)?;
-    push_rule(&mut out, tautology_step(alloc, signature, parents, line)?)?;
-    push_rule(&mut out, resolution_step(alloc, signature, parents, line)?)?;
-    push_rule(
-        &mut out,
-        paramodulation_step(alloc, signature, parents, line)?,
-    )?;
-    push_rule(&mut out, eqfactor_step(alloc, signature, parents, line)?)?;
-    push_rule(&mut out, rewrite_step(alloc, signature, parents, line)?)?;
+    push_formula_rules(alloc, signature, parents, line, &mut out)?;
+    push_clause_rules(alloc, signature, parents, line, &mut out)?;
     if out.is_empty() {
         out.push_str("none")?;
     }
     Ok(out)
 }
 
+// Appends the names of the rules of formulas by which a line follows.
+fn push_formula_rules(
+    alloc: Global,
+    signature: &Signature,
+    parents: &[Parent],
+    line: &Form,
+    out: &mut String,
+) -> Result<(), Memory>
+    requires line { IsReady signature.now line.now }
+    requires parents { AreReady signature.now parents.now }
+{
+    push_rule(out, norm_step(alloc, signature, parents, line))?;
+    push_rule(out, cover_step(alloc, signature, parents, line))?;
+    push_rule(out, tautology_step(alloc, signature, parents, line))
+}
+
+// Appends the names of the rules of clauses by which a line follows.
+fn push_clause_rules(
+    alloc: Global,
+    signature: &Signature,
+    parents: &[Parent],
+    line: &Form,
+    out: &mut String,
+) -> Result<(), Memory>
+    requires line { IsReady signature.now line.now }
+    requires parents { AreReady signature.now parents.now }
+{
+    push_rule(out, resolution_step(alloc, signature, parents, line))?;
+    push_rule(out, paramodulation_step(alloc, signature, parents, line))?;
+    push_rule(out, eqfactor_step(alloc, signature, parents, line))?;
+    push_rule(out, rewrite_step(alloc, signature, parents, line))
+}
+
 // Appends the name of the rule that a step is by, if there is a step.
-fn push_rule(out: &mut String, step: Option<Just>) -> Result<(), AllocError> {
-    match step {
-        Some(just) => push_word(out, name(&just)),
+fn push_rule(out: &mut String, step: Result<Option<Just>, Memory>) -> Result<(), Memory> {
+    match step? {
+        Some(just) => Ok(push_word(out, name(&just))?),
         None => Ok(()),
     }
 }

@@ -7,7 +7,7 @@ use crate::tokens::{listed, placed, push_place};
 use anyhow::{Context, Result, bail};
 use canon_print::{print_formula, print_general};
 use std::alloc::{AllocError, Global};
-use tptp_base::{Annotated, Body, Item, Region, Text, place_at};
+use tptp_base::{Annotated, Body, Item, List, Region, Text, place_at};
 use tptp_grammar::{GrammarFault, parse};
 use tptp_lexer::{Style, tokens};
 
@@ -24,7 +24,7 @@ pub fn found(alloc: Global, line: &Line<'_>) -> Result<String> {
     match line.call {
         "tokens" => tokens_of(alloc, text, Style::Problem),
         "derivation" => tokens_of(alloc, text, Style::Derivation),
-        "part" => places_in(alloc, text, line.part(1)?, line.part(2)?),
+        "part" => places_of(alloc, line),
         "place" => place(alloc, text, line.part(1)?),
         "cuts" => cuts(alloc, text),
         "formula" => formula(alloc, text),
@@ -40,6 +40,10 @@ fn tokens_of(alloc: Global, text: &str, style: Style) -> Result<String> {
         end: bytes.len() as u64,
     };
     Ok(listed(alloc, tokens(alloc, 0, bytes, whole, style))?)
+}
+
+fn places_of(alloc: Global, line: &Line<'_>) -> Result<String> {
+    places_in(alloc, line.part(0)?, line.part(1)?, line.part(2)?)
 }
 
 fn places_in(alloc: Global, before: &str, part: &str, behind: &str) -> Result<String> {
@@ -85,21 +89,46 @@ fn push_cut(alloc: Global, out: &mut String, text: &[u8], end: usize) -> Result<
 {
     let end = end as u64;
     let tokens = tokens(alloc, 0, text, Region { start: 0, end }, Style::Problem)?;
-    match parse(alloc, &tokens) {
-        Ok(items) => push_word(
-            out,
-            format!(in alloc; "{end}: {} items", items.len())?.as_str(),
-        )?,
-        Err(GrammarFault::End(place)) if place.offset == end => (),
-        Err(fault) => push_word(out, format!(in alloc; "{end}: {fault}")?.as_str())?,
+    let answer = parse(alloc, &tokens);
+    Ok(push_answer(alloc, out, end, answer)?)
+}
+
+fn push_answer(
+    alloc: Global,
+    out: &mut String,
+    end: u64,
+    answer: Result<List<Item>, GrammarFault>,
+) -> Result<(), AllocError> {
+    match answer {
+        Ok(items) => push_count(alloc, out, end, items.len()),
+        Err(GrammarFault::End(place)) if place.offset == end => Ok(()),
+        Err(fault) => push_fault(alloc, out, end, fault),
     }
-    Ok(())
+}
+
+fn push_count(alloc: Global, out: &mut String, end: u64, count: usize) -> Result<(), AllocError> {
+    let said = format!(in alloc; "{end}: {count} items")?;
+    push_word(out, said.as_str())
+}
+
+fn push_fault(
+    alloc: Global,
+    out: &mut String,
+    end: u64,
+    fault: GrammarFault,
+) -> Result<(), AllocError> {
+    let said = format!(in alloc; "{end}: {fault}")?;
+    push_word(out, said.as_str())
 }
 
 fn formula(alloc: Global, text: &str) -> Result<String> {
     let source = format!(in alloc; "tff(a,plain,{text}).")?;
     let items = items_of(alloc, source.as_str())?;
-    match &first(items.as_slice())?.body {
+    formula_in(alloc, items.as_slice())
+}
+
+fn formula_in(alloc: Global, items: &[Item]) -> Result<String> {
+    match &first(items)?.body {
         Body::Logic(logic) => Ok(string_of(alloc, print_formula(alloc, logic)?)?),
         Body::Typing(_) => bail!("no formula"),
     }
@@ -108,10 +137,11 @@ fn formula(alloc: Global, text: &str) -> Result<String> {
 fn general(alloc: Global, text: &str) -> Result<String> {
     let source = format!(in alloc; "tff(a,plain,p,{text}).")?;
     let items = items_of(alloc, source.as_str())?;
-    let source = first(items.as_slice())?
-        .source
-        .as_ref()
-        .context("no source")?;
+    general_in(alloc, items.as_slice())
+}
+
+fn general_in(alloc: Global, items: &[Item]) -> Result<String> {
+    let source = first(items)?.source.as_ref().context("no source")?;
     Ok(string_of(alloc, print_general(alloc, source)?)?)
 }
 

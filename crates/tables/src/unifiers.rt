@@ -3,9 +3,9 @@ use crate::line::{Line, push_word};
 use crate::problems::{Problem, goal_of, opened, pairs_of};
 use crate::reading::formula;
 use anyhow::{Result, bail};
-use fof_terms::{Signature, Term, equal_term};
+use fof_terms::{Form, Signature, Term, equal_term};
 use std::alloc::{AllocError, Global};
-use tptp_base::Memory;
+use tptp_base::{Boxed, Memory};
 use unify_terms::{Goal, Pair, Scope, Subst, apply, are_sorted, is_sorted_goal, solve, unify};
 
 /// The answer of a call on a formula that is quantified outside and has equations inside. Its variables that `!` binds
@@ -28,7 +28,8 @@ pub fn found(alloc: Global, signature: &mut Signature, line: &Line<'_>) -> Resul
 
 fn told(alloc: Global, signature: &mut Signature, call: &str, text: &str) -> Result<String> {
     let form = formula(alloc, signature, text)?;
-    told_of(alloc, signature, call, &opened(alloc, &form)?)
+    let problem = opened(alloc, form.get())?;
+    told_of(alloc, signature, call, &problem)
 }
 
 fn told_of(
@@ -39,10 +40,7 @@ fn told_of(
 ) -> Result<String> {
     match call {
         "unify" => unified(alloc, signature, problem),
-        "solve" => {
-            let goal = goal_of(problem.body, alloc)?;
-            solved(alloc, signature, &problem.scope, &goal)
-        }
+        "solve" => solved(alloc, signature, problem, goal_of(problem.body, alloc)?),
         "circle" => in_circle(alloc, signature, problem),
         _ => bail!("no such call"),
     }
@@ -84,12 +82,13 @@ fn kinds(alloc: Global, subst: &Subst) -> Result<String, AllocError> {
 fn agreed(alloc: Global, signature: &mut Signature, line: &Line<'_>) -> Result<String> {
     let form = formula(alloc, signature, line.part(0)?)?;
     let other = formula(alloc, signature, line.part(1)?)?;
-    agreed_by(
-        alloc,
-        signature,
-        &opened(alloc, &form)?,
-        &opened(alloc, &other)?,
-    )
+    agreed_of(alloc, signature, form.get(), other.get())
+}
+
+fn agreed_of(alloc: Global, signature: &Signature, form: &Form, other: &Form) -> Result<String> {
+    let problem = opened(alloc, form)?;
+    let other = opened(alloc, other)?;
+    agreed_by(alloc, signature, &problem, &other)
 }
 
 fn agreed_by(
@@ -106,11 +105,17 @@ fn agreed_by(
 }
 
 fn all_agree(alloc: Global, subst: &Subst, problem: &Problem<'_>) -> Result<String> {
+    let pairs = pairs_of(alloc, problem.body)?;
+    let is_same = do_agree(alloc, subst, pairs.as_slice())?;
+    Ok(is_same.to_string(alloc)?)
+}
+
+fn do_agree(alloc: Global, subst: &Subst, pairs: &[Pair]) -> Result<bool, Memory> {
     let mut is_same = true;
-    for pair in pairs_of(alloc, problem.body)?.as_slice() {
+    for pair in pairs {
         is_same = agree(alloc, subst, pair)? && is_same;
     }
-    Ok(is_same.to_string(alloc)?)
+    Ok(is_same)
 }
 
 fn agree(alloc: Global, subst: &Subst, pair: &Pair) -> Result<bool, Memory> {
@@ -120,15 +125,29 @@ fn agree(alloc: Global, subst: &Subst, pair: &Pair) -> Result<bool, Memory> {
 }
 
 // The choices under which a goal is met.
-fn solved(alloc: Global, signature: &Signature, scope: &Scope, goal: &Goal) -> Result<String> {
+fn solved(
+    alloc: Global,
+    signature: &Signature,
+    problem: &Problem<'_>,
+    goal: Goal,
+) -> Result<String> {
+    let goal = Boxed::new(alloc, goal)?;
+    solved_in(alloc, signature, &problem.scope, goal.get())
+}
+
+fn solved_in(alloc: Global, signature: &Signature, scope: &Scope, goal: &Goal) -> Result<String> {
     if scope.sorts.len() > 1000 || !is_sorted_goal(alloc, signature, scope, goal)? {
         bail!("the goal is not well-sorted");
     }
-    let Some(solution) = solve(alloc, signature, scope, goal)? else {
-        return Ok(String::from_str(alloc, "no")?);
-    };
+    match solve(alloc, signature, scope, goal)? {
+        Some(solution) => met(alloc, solution.choices.as_slice()),
+        None => Ok(String::from_str(alloc, "no")?),
+    }
+}
+
+fn met(alloc: Global, choices: &[usize]) -> Result<String> {
     let mut out = String::from_str(alloc, "met")?;
-    for choice in solution.choices.as_slice() {
+    for choice in choices {
         write!(out, " {choice}")?;
     }
     Ok(out)
@@ -136,9 +155,13 @@ fn solved(alloc: Global, signature: &Signature, scope: &Scope, goal: &Goal) -> R
 
 fn in_circle(alloc: Global, signature: &Signature, problem: &Problem<'_>) -> Result<String> {
     let unified = unified(alloc, signature, problem)?;
-    let goal = Goal::Same(pairs_of(alloc, problem.body)?);
-    let solved = solved(alloc, signature, &problem.scope, &goal)?;
+    let solved = solved_pairs(alloc, signature, problem)?;
     Ok(format!(in alloc; "{unified} {solved}")?)
+}
+
+fn solved_pairs(alloc: Global, signature: &Signature, problem: &Problem<'_>) -> Result<String> {
+    let goal = Goal::Same(pairs_of(alloc, problem.body)?);
+    solved(alloc, signature, problem, goal)
 }
 
 // Variable k is g(variable k + 1, variable k + 1) for each k below `count`, and the last one is f(variable 0). The
@@ -149,9 +172,14 @@ fn circle(alloc: Global, count: u32) -> Result<String, AllocError> {
         text.push_str("! 0 ")?;
     }
     write!(text, "& {} = v {count} f 0 1 v 0", count.saturating_add(1))?;
+    push_equations(&mut text, count)?;
+    Ok(text)
+}
+
+fn push_equations(text: &mut String, count: u32) -> Result<(), AllocError> {
     for variable in 0..count {
         let next = variable.saturating_add(1);
         write!(text, " = v {variable} f 1 2 v {next} v {next}")?;
     }
-    Ok(text)
+    Ok(())
 }

@@ -1,121 +1,197 @@
 // Proofs that are built of parts.
-use super::theories::theory;
+use super::theories::{admit_log, start};
 use derive_kit::{Part, and_e, cases, cut_under, hyp, imp_i, instance_of, or_i, rewrite_in};
 use fof_terms::{Form, Term, equal};
-use kernel::Entry;
+use kernel::{Entry, Proof, Theory};
 use proof_log::read_log;
-use std::alloc::Global;
+use std::alloc::{AllocError, Global};
+use std::process::Abort;
 use std::test::Fail;
-use tptp_base::{Boxed, List};
+use tptp_base::{Boxed, List, Memory};
 
 // The predicates p and q, the predicate r of one argument, and the constants c and d, in this order.
 const SYMBOLS: &str = "tptp-log 1\nD p 'p' 0\nD p 'q' 0\nD p 'r' 1 0\nD f 'c' 0 0\nD f 'd' 0 0\n";
 
 // The formula of a text as logs have it.
 fn form(alloc: Global, text: &str) -> Result<Form, Fail> {
+    let entries = entries_of(alloc, text)?;
+    named(alloc, entries.as_slice())
+}
+
+fn entries_of(alloc: Global, text: &str) -> Result<List<Entry>, Fail> {
     let log = format!(in alloc; "tptp-log 1\nN 0 {text}\n")?;
-    let entries = read_log(alloc, log.as_bytes())?;
-    match entries.get(0) {
-        Some(Entry::Name(_, form)) => Ok(form.copy(alloc)?),
+    Ok(read_log(alloc, log.as_bytes())?)
+}
+
+fn named(alloc: Global, entries: &[Entry]) -> Result<Form, Fail> {
+    match entries {
+        [Entry::Name(_, form)] => Ok(form.copy(alloc)?),
         _ => Err(Fail::from("no formula")),
     }
 }
 
-// The members of a disjunction.
-fn members(alloc: Global, text: &str) -> Result<List<Form>, Fail> {
-    match form(alloc, text)? {
-        Form::Or(members) => Ok(members),
-        _ => Err(Fail::from("no disjunction")),
+fn push_form(alloc: Global, forms: &mut List<Form>, text: &str) -> Result<(), Fail> {
+    let form = form(alloc, text)?;
+    Ok(forms.push(form)?)
+}
+
+// The kernel must conclude that the premise implies the conclusion, where the proof shows the conclusion under the
+// premise.
+fn shows<R: Abort + AllocGlobal>(
+    rt: &R,
+    premise: &str,
+    conclusion: &str,
+    proof: Result<Part, Fail>,
+) -> Result<(), Fail> {
+    let is_shown = is_shown(rt.alloc(), premise, conclusion, proof?)?;
+    assert!(*rt; is_shown, "{premise} {conclusion}");
+    Ok(())
+}
+
+fn is_shown(alloc: Global, premise: &str, conclusion: &str, proof: Part) -> Result<bool, Fail> {
+    let lemma = lemma(alloc, premise, proof)?;
+    let wanted = format!(in alloc; "> {premise} {conclusion}")?;
+    is_concluded(alloc, lemma.get(), wanted.as_str())
+}
+
+fn lemma(alloc: Global, premise: &str, proof: Part) -> Result<Boxed<Entry>, Fail> {
+    let whole = imp_i(alloc, form(alloc, premise)?, proof)?;
+    Ok(Boxed::new(alloc, Entry::Lemma(whole.into_inner()))?)
+}
+
+fn is_concluded(alloc: Global, lemma: &Entry, wanted: &str) -> Result<bool, Fail> {
+    let wanted = Boxed::new(alloc, form(alloc, wanted)?)?;
+    is_concluded_at_start(alloc, lemma, wanted.get())
+}
+
+fn is_concluded_at_start(alloc: Global, lemma: &Entry, wanted: &Form) -> Result<bool, Fail> {
+    let mut theory = start(alloc)?;
+    is_concluded_in(alloc, &mut theory, lemma, wanted)
+}
+
+fn is_concluded_in(
+    alloc: Global,
+    theory: &mut Theory,
+    lemma: &Entry,
+    wanted: &Form,
+) -> Result<bool, Fail> {
+    admit_log(alloc, theory, SYMBOLS)?;
+    theory.admit(lemma)?;
+    Ok(is_first(theory, wanted))
+}
+
+fn is_first(theory: &Theory, wanted: &Form) -> bool {
+    match theory.formula(0) {
+        Some(found) => equal(found, wanted),
+        None => false,
     }
 }
 
-// Whether the kernel concludes that the premise implies the conclusion, where the proof shows the conclusion under the
-// premise.
-fn shows(alloc: Global, premise: &str, conclusion: &str, proof: Part) -> Result<bool, Fail> {
-    let mut theory = theory(alloc, SYMBOLS)?;
-    let whole = imp_i(alloc, form(alloc, premise)?, proof)?;
-    let entry = Boxed::new(alloc, Entry::Lemma(whole.into_inner()))?;
-    theory.admit(entry.get())?;
-    let text = format!(in alloc; "> {premise} {conclusion}")?;
-    let want = form(alloc, text.as_str())?;
-    Ok(match theory.formula(0) {
-        Some(found) => equal(found, &want),
-        None => false,
-    })
+// A member of a hypothesis.
+fn member(alloc: Global, number: u32, hypothesis: u32) -> Result<Part, Memory> {
+    and_e(alloc, number, hyp(alloc, hypothesis)?)
 }
 
 // By each of two members the disjunction the other way round, and by each of two equal members that member.
 #[test]
 fn cases_of_disjunctions(rt: HostRuntime) -> Result<(), Fail> {
-    let alloc = rt.alloc();
-    let turned = "| 2 a 1 0 a 0 0";
+    let turned = turned(rt.alloc());
+    shows(&rt, "| 2 a 0 0 a 1 0", "| 2 a 1 0 a 0 0", turned)?;
+    let same = same(rt.alloc());
+    shows(&rt, "| 2 a 0 0 a 0 0", "a 0 0", same)
+}
+
+fn turned(alloc: Global) -> Result<Part, Fail> {
     let mut arms = List::new(alloc);
-    for place in [1, 0] {
-        let arm = or_i(alloc, members(alloc, turned)?, place, hyp(alloc, 0)?)?;
-        arms.push(arm.into_inner())?;
-    }
-    let made = cases(alloc, hyp(alloc, 0)?, arms, form(alloc, turned)?)?;
-    assert!(rt; shows(alloc, "| 2 a 0 0 a 1 0", turned, made)?);
+    push_turned(alloc, &mut arms, 1)?;
+    push_turned(alloc, &mut arms, 0)?;
+    by_cases(alloc, arms, "| 2 a 1 0 a 0 0")
+}
+
+// Appends the disjunction the other way round, by its member of this number.
+fn push_turned(alloc: Global, arms: &mut List<Proof>, number: u32) -> Result<(), Fail> {
+    let members = members(alloc)?;
+    let arm = or_i(alloc, members, number, hyp(alloc, 0)?)?;
+    Ok(arms.push(arm.into_inner())?)
+}
+
+// The members of the disjunction the other way round.
+fn members(alloc: Global) -> Result<List<Form>, Fail> {
+    let mut members = List::new(alloc);
+    push_form(alloc, &mut members, "a 1 0")?;
+    push_form(alloc, &mut members, "a 0 0")?;
+    Ok(members)
+}
+
+fn by_cases(alloc: Global, arms: List<Proof>, goal: &str) -> Result<Part, Fail> {
+    let choice = hyp(alloc, 0)?;
+    Ok(cases(alloc, choice, arms, form(alloc, goal)?)?)
+}
+
+fn same(alloc: Global) -> Result<Part, Fail> {
     let mut arms = List::new(alloc);
-    for _ in 0..2u8 {
-        arms.push(hyp(alloc, 0)?.into_inner())?;
-    }
-    let made = cases(alloc, hyp(alloc, 0)?, arms, form(alloc, "a 0 0")?)?;
-    assert!(rt; shows(alloc, "| 2 a 0 0 a 0 0", "a 0 0", made)?);
-    Ok(())
+    push_hyp(alloc, &mut arms)?;
+    push_hyp(alloc, &mut arms)?;
+    by_cases(alloc, arms, "a 0 0")
+}
+
+fn push_hyp(alloc: Global, arms: &mut List<Proof>) -> Result<(), Memory> {
+    let arm = hyp(alloc, 0)?;
+    Ok(arms.push(arm.into_inner())?)
 }
 
 // The second member of the hypothesis is cut in, and then it, or the first member, is shown.
 #[test]
 fn facts_that_are_cut_in(rt: HostRuntime) -> Result<(), Fail> {
     let alloc = rt.alloc();
-    let both = "& 2 a 0 0 a 1 0";
-    let second = and_e(alloc, 1, hyp(alloc, 0)?)?;
-    let made = cut_under(alloc, second, form(alloc, "a 1 0")?, hyp(alloc, 0)?)?;
-    assert!(rt; shows(alloc, both, "a 1 0", made)?);
-    let second = and_e(alloc, 1, hyp(alloc, 0)?)?;
-    let first = and_e(alloc, 0, hyp(alloc, 1)?)?;
-    let made = cut_under(alloc, second, form(alloc, "a 1 0")?, first)?;
-    assert!(rt; shows(alloc, both, "a 0 0", made)?);
-    Ok(())
+    let second = cut_in(alloc, hyp(alloc, 0));
+    shows(&rt, "& 2 a 0 0 a 1 0", "a 1 0", second)?;
+    let first = cut_in(alloc, member(alloc, 0, 1));
+    shows(&rt, "& 2 a 0 0 a 1 0", "a 0 0", first)
 }
 
-// The instance of the hypothesis for constants of these numbers.
-fn instance(alloc: Global, constants: &[u32]) -> Result<Part, Fail> {
-    let mut terms = List::new(alloc);
-    for constant in constants {
-        terms.push(Term::App(*constant, List::new(alloc)))?;
-    }
-    Ok(instance_of(alloc, hyp(alloc, 0)?, terms)?)
+fn cut_in(alloc: Global, rest: Result<Part, Memory>) -> Result<Part, Fail> {
+    let rest = rest?;
+    let second = member(alloc, 1, 0)?;
+    Ok(cut_under(alloc, second, form(alloc, "a 1 0")?, rest)?)
 }
 
 #[test]
 fn instances(rt: HostRuntime) -> Result<(), Fail> {
-    let alloc = rt.alloc();
-    let made = instance(alloc, &[3])?;
-    assert!(rt; shows(alloc, "! 0 a 2 1 v 0", "a 2 1 f 3 0", made)?);
-    let made = instance(alloc, &[3, 4])?;
+    let one = instance(rt.alloc(), &[3]);
+    shows(&rt, "! 0 a 2 1 v 0", "a 2 1 f 3 0", one)?;
+    let two = instance(rt.alloc(), &[3, 4]);
     let premise = "! 0 ! 0 & 2 a 2 1 v 1 a 2 1 v 0";
-    assert!(rt; shows(alloc, premise, "& 2 a 2 1 f 3 0 a 2 1 f 4 0", made)?);
-    Ok(())
+    shows(&rt, premise, "& 2 a 2 1 f 3 0 a 2 1 f 4 0", two)
+}
+
+// The instance of the hypothesis for constants of these numbers.
+fn instance(alloc: Global, constants: &[u32]) -> Result<Part, Fail> {
+    let terms = constants_of(alloc, constants)?;
+    Ok(instance_of(alloc, hyp(alloc, 0)?, terms)?)
+}
+
+fn constants_of(alloc: Global, numbers: &[u32]) -> Result<List<Term>, AllocError> {
+    let mut terms = List::new(alloc);
+    for number in numbers {
+        terms.push(Term::App(*number, List::new(alloc)))?;
+    }
+    Ok(terms)
 }
 
 // In the second member of the hypothesis the right side of its first, an equation, takes the place of the left.
 #[test]
 fn sides_of_equations(rt: HostRuntime) -> Result<(), Fail> {
-    let alloc = rt.alloc();
-    for (hole, premise, conclusion) in [
-        ("a 2 1 v 0", "& 2 = f 3 0 f 4 0 a 2 1 f 3 0", "a 2 1 f 4 0"),
-        (
-            "| 2 a 2 1 v 0 a 0 0",
-            "& 2 = f 3 0 f 4 0 | 2 a 2 1 f 3 0 a 0 0",
-            "| 2 a 2 1 f 4 0 a 0 0",
-        ),
-    ] {
-        let equation = and_e(alloc, 0, hyp(alloc, 0)?)?;
-        let fact = and_e(alloc, 1, hyp(alloc, 0)?)?;
-        let made = rewrite_in(alloc, 0, form(alloc, hole)?, equation, fact)?;
-        assert!(rt; shows(alloc, premise, conclusion, made)?, "{conclusion}");
-    }
-    Ok(())
+    let whole = rewritten(rt.alloc(), "a 2 1 v 0");
+    let premise = "& 2 = f 3 0 f 4 0 a 2 1 f 3 0";
+    shows(&rt, premise, "a 2 1 f 4 0", whole)?;
+    let inside = rewritten(rt.alloc(), "| 2 a 2 1 v 0 a 0 0");
+    let premise = "& 2 = f 3 0 f 4 0 | 2 a 2 1 f 3 0 a 0 0";
+    shows(&rt, premise, "| 2 a 2 1 f 4 0 a 0 0", inside)
+}
+
+fn rewritten(alloc: Global, hole: &str) -> Result<Part, Fail> {
+    let equation = member(alloc, 0, 0)?;
+    let fact = member(alloc, 1, 0)?;
+    Ok(rewrite_in(alloc, 0, form(alloc, hole)?, equation, fact)?)
 }

@@ -1,112 +1,214 @@
 // Files and sinks, in memory and real, and what of them is included.
-use include_resolve::resolve;
+use crate::said::{failing_sink, is, push_bytes, taken};
+use include_resolve::{Problem, resolve};
 use std::alloc::{AllocError, Global};
 use std::fs;
 use std::test::Fail;
 use tptp_base::{
-    Item, LimitName, List, MemorySink, MemoryStore, ReadFault, RealSink, RealStore, SinkFault,
-    SteadyStore, Store, Text, put_all, read_whole,
+    Item, LimitName, List, Memory, MemorySink, MemoryStore, ReadFault, RealSink, RealStore, Sink,
+    SinkFault, SteadyStore, Store, Text, put_all, read_whole,
 };
 
 // Files of these names and texts.
 fn files(alloc: Global, rows: &[(&str, &str)]) -> Result<List<(Text, Text)>, AllocError> {
     let mut files = List::new(alloc);
     for (name, text) in rows {
-        let name = Text::from_slice(alloc, name.as_bytes())?;
-        files.push((name, Text::from_slice(alloc, text.as_bytes())?))?;
+        push_file(alloc, &mut files, name, text)?;
     }
     Ok(files)
 }
 
+fn push_file(
+    alloc: Global,
+    files: &mut List<(Text, Text)>,
+    name: &str,
+    text: &str,
+) -> Result<(), AllocError> {
+    let name = Text::from_slice(alloc, name.as_bytes())?;
+    let text = Text::from_slice(alloc, text.as_bytes())?;
+    files.push((name, text))
+}
+
+// Two files of one name.
+fn known(alloc: Global) -> Result<List<(Text, Text)>, AllocError> {
+    files(alloc, &[("a", "hello"), ("a", "other")])
+}
+
+fn slow_store(alloc: Global) -> Result<SteadyStore, Memory> {
+    SteadyStore::slow(alloc, known(alloc)?)
+}
+
+fn steady_store(alloc: Global) -> Result<SteadyStore, Memory> {
+    SteadyStore::new(alloc, known(alloc)?)
+}
+
+// What is read of each of these files under its limit, or why it is not read.
+fn reads<S: Store>(alloc: Global, store: &mut S, calls: &[(&str, u64)]) -> Result<String, Fail> {
+    let mut out = String::new(alloc);
+    for (name, limit) in calls {
+        push_read(alloc, store, &mut out, (name, *limit))?;
+    }
+    Ok(out)
+}
+
+fn push_read<S: Store>(
+    alloc: Global,
+    store: &mut S,
+    out: &mut String,
+    (name, limit): (&str, u64),
+) -> Result<(), AllocError> {
+    match read_whole(alloc, store, name, limit) {
+        Ok(text) => push_bytes(out, text.as_slice())?,
+        Err(fault) => out.push_str(fault_name(fault))?,
+    }
+    out.push(';')
+}
+
+fn fault_name(fault: ReadFault) -> &'static str {
+    match fault {
+        ReadFault::Absent => "ABSENT",
+        ReadFault::Failed => "FAILED",
+        ReadFault::Limit(LimitName::TotalSize) => "TOTAL SIZE",
+        _ => "ANOTHER FAULT",
+    }
+}
+
 #[test]
 fn whole_files_are_read_a_byte_at_a_time(rt: HostRuntime) -> Result<(), Fail> {
-    let alloc = rt.alloc();
-    let mut store = SteadyStore::slow(alloc, files(alloc, &[("a", "hello"), ("a", "other")])?)?;
-    let text = read_whole(alloc, &mut store, "a", 5)?;
-    assert_eq!(rt; text.as_slice(), b"hello".as_slice());
-    let absent = read_whole(alloc, &mut store, "b", 5).err();
-    assert_eq!(rt; absent, Some(ReadFault::Absent));
-    let over = read_whole(alloc, &mut store, "a", 4).err();
-    assert_eq!(rt; over, Some(ReadFault::Limit(LimitName::TotalSize)));
-    Ok(())
+    is(&rt, read_slowly(rt.alloc()), "hello;ABSENT;TOTAL SIZE;")
+}
+
+fn read_slowly(alloc: Global) -> Result<String, Fail> {
+    let mut store = slow_store(alloc)?;
+    reads(alloc, &mut store, &[("a", 5), ("b", 5), ("a", 4)])
 }
 
 #[test]
 fn a_slow_read_gives_one_byte(rt: HostRuntime) -> Result<(), Fail> {
-    let alloc = rt.alloc();
-    let known = [("a", "hello"), ("a", "other")];
+    is(&rt, slow_piece(rt.alloc()), "1 e\0\0\0")?;
+    is(&rt, steady_piece(rt.alloc()), "4 ello")
+}
+
+fn slow_piece(alloc: Global) -> Result<String, Fail> {
+    let mut store = slow_store(alloc)?;
+    piece(alloc, &mut store)
+}
+
+fn steady_piece(alloc: Global) -> Result<String, Fail> {
+    let mut store = steady_store(alloc)?;
+    piece(alloc, &mut store)
+}
+
+// How many bytes a read gives from the second one on, and the four bytes that it was to fill.
+fn piece(alloc: Global, store: &mut SteadyStore) -> Result<String, Fail> {
     let mut piece = [0; 4];
-    let mut slow = SteadyStore::slow(alloc, files(alloc, &known)?)?;
-    assert_eq!(rt; slow.read_at("a", 1, &mut piece), Ok(1));
-    assert_eq!(rt; piece[0], b'e');
-    let mut steady = SteadyStore::new(alloc, files(alloc, &known)?)?;
-    assert_eq!(rt; steady.read_at("a", 1, &mut piece), Ok(4));
-    assert_eq!(rt; piece, *b"ello");
-    Ok(())
+    let count = store.read_at("a", 1, &mut piece)?;
+    counted(alloc, count, &piece)
+}
+
+fn counted(alloc: Global, count: usize, piece: &[u8]) -> Result<String, Fail> {
+    let mut out = count.to_string(alloc)?;
+    out.push(' ')?;
+    push_bytes(&mut out, piece)?;
+    Ok(out)
 }
 
 // A call fails by its number, and the call behind it does not.
 #[test]
 fn a_call_fails_by_its_number(rt: HostRuntime) -> Result<(), Fail> {
-    let alloc = rt.alloc();
-    let known = files(alloc, &[("a", "hello")])?;
-    let mut store = MemoryStore::new(alloc, known, List::from_slice(alloc, &[2])?)?;
-    let failed = read_whole(alloc, &mut store, "a", 5).err();
-    assert_eq!(rt; failed, Some(ReadFault::Failed));
-    let mut sink = MemorySink::new(alloc, List::from_slice(alloc, &[1])?);
-    assert_eq!(rt; put_all(&mut sink, b"ab"), Err(SinkFault::Failed));
-    put_all(&mut sink, b"cd")?;
-    assert_eq!(rt; sink.bytes(), b"cd".as_slice());
-    Ok(())
+    is(&rt, read_with_a_fault(rt.alloc()), "FAILED;")?;
+    is(&rt, written_with_a_fault(rt.alloc()), "failed: cd")
+}
+
+fn read_with_a_fault(alloc: Global) -> Result<String, Fail> {
+    let mut store = failing_store(alloc)?;
+    reads(alloc, &mut store, &[("a", 5)])
+}
+
+fn failing_store(alloc: Global) -> Result<MemoryStore, Memory> {
+    let files = files(alloc, &[("a", "hello")])?;
+    MemoryStore::new(alloc, files, List::from_slice(alloc, &[2])?)
+}
+
+fn written_with_a_fault(alloc: Global) -> Result<String, Fail> {
+    let mut sink = failing_sink(alloc, 1)?;
+    written_twice(alloc, &mut sink)
+}
+
+fn written_twice(alloc: Global, sink: &mut MemorySink) -> Result<String, Fail> {
+    let failed = put_all(sink, b"ab");
+    put_all(sink, b"cd")?;
+    taken(alloc, failed, sink)
 }
 
 #[test]
 fn a_real_file_is_read(rt: HostRuntime) -> Result<(), Fail> {
-    fs::write(&rt, "a.txt", "hello")?;
-    let mut store = RealStore::new(&rt);
-    let text = read_whole(rt.alloc(), &mut store, "a.txt", 5)?;
-    assert_eq!(rt; text.as_slice(), b"hello".as_slice());
-    let absent = read_whole(rt.alloc(), &mut store, "b.txt", 5).err();
-    assert_eq!(rt; absent, Some(ReadFault::Absent));
-    let failed = read_whole(rt.alloc(), &mut store, ".", 5).err();
-    assert_eq!(rt; failed, Some(ReadFault::Failed));
-    Ok(())
+    is(&rt, read_real(&rt), "hello;ABSENT;FAILED;")
+}
+
+fn read_real(rt: &HostRuntime) -> Result<String, Fail> {
+    fs::write(rt, "a.txt", "hello")?;
+    let mut store = RealStore::new(rt);
+    let calls = [("a.txt", 5), ("b.txt", 5), (".", 5)];
+    reads(rt.alloc(), &mut store, &calls)
 }
 
 #[test]
 fn a_real_file_is_written(rt: HostRuntime) -> Result<(), Fail> {
-    let mut sink = RealSink::new(Some(fs::create(&rt, "a.log")?));
-    put_all(&mut sink, b"one\n")?;
-    put_all(&mut sink, b"two\n")?;
-    let text = fs::read_to_string(&rt, "a.log")?;
-    assert_eq!(rt; text.as_str(), "one\ntwo\n");
-    Ok(())
+    write_real(&rt)?;
+    is(&rt, text_of(&rt, "a.log"), "one\ntwo\n")
 }
 
-// The items of `top.p`, in which `mid.ax` is included: c for a comment, f for a formula and i for an include.
-fn kinds(alloc: Global, top: &str) -> Result<String, Fail> {
-    let mid = ("mid.ax", "% one\nfof(a,axiom,a).\n% two\nfof(b,axiom,b).\n");
-    let mut store = SteadyStore::new(alloc, files(alloc, &[("top.p", top), mid])?)?;
-    let problem = resolve(alloc, &mut store, "top.p", None)?;
-    let mut kinds = String::new(alloc);
-    for item in problem.items.as_slice() {
-        match item {
-            Item::Comment(_) => kinds.push('c')?,
-            Item::Formula(_) => kinds.push('f')?,
-            Item::Include(_) => kinds.push('i')?,
-        }
-    }
-    Ok(kinds)
+fn write_real(rt: &HostRuntime) -> Result<(), Fail> {
+    let mut sink = RealSink::new(Some(fs::create(rt, "a.log")?));
+    Ok(put_lines(&mut sink)?)
+}
+
+fn put_lines<K: Sink>(sink: &mut K) -> Result<(), SinkFault> {
+    put_all(sink, b"one\n")?;
+    put_all(sink, b"two\n")
+}
+
+fn text_of(rt: &HostRuntime, name: &str) -> Result<String, Fail> {
+    Ok(fs::read_to_string(rt, name)?)
 }
 
 #[test]
 fn a_selection_drops_comments(rt: HostRuntime) -> Result<(), Fail> {
-    for (top, want) in [
-        ("include('mid.ax').", "cfcf"),
-        ("include('mid.ax',[b]).", "f"),
-        ("% top\ninclude('mid.ax',[b,a]).", "cff"),
-    ] {
-        assert_eq!(rt; kinds(rt.alloc(), top)?.as_str(), want, "{top}");
+    let alloc = rt.alloc();
+    is(&rt, kinds(alloc, "include('mid.ax')."), "cfcf")?;
+    is(&rt, kinds(alloc, "include('mid.ax',[b])."), "f")?;
+    is(&rt, kinds(alloc, "% top\ninclude('mid.ax',[b,a])."), "cff")
+}
+
+// The items of `top.p`, in which `mid.ax` is included: c for a comment, f for a formula and i for an include.
+fn kinds(alloc: Global, top: &str) -> Result<String, Fail> {
+    let problem = resolved(alloc, top)?;
+    kinds_of(alloc, problem.items.as_slice())
+}
+
+fn resolved(alloc: Global, top: &str) -> Result<Problem, Fail> {
+    let mut store = including_store(alloc, top)?;
+    Ok(resolve(alloc, &mut store, "top.p", None)?)
+}
+
+fn including_store(alloc: Global, top: &str) -> Result<SteadyStore, Memory> {
+    let mid = "% one\nfof(a,axiom,a).\n% two\nfof(b,axiom,b).\n";
+    SteadyStore::new(alloc, files(alloc, &[("top.p", top), ("mid.ax", mid)])?)
+}
+
+fn kinds_of(alloc: Global, items: &[Item]) -> Result<String, Fail> {
+    let mut kinds = String::new(alloc);
+    for item in items {
+        kinds.push(kind(item))?;
     }
-    Ok(())
+    Ok(kinds)
+}
+
+fn kind(item: &Item) -> char {
+    match item {
+        Item::Comment(_) => 'c',
+        Item::Formula(_) => 'f',
+        Item::Include(_) => 'i',
+    }
 }

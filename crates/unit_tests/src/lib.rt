@@ -12,4 +12,8 @@ mod logs;
 #[cfg(test)]
 mod names;
 #[cfg(test)]
+mod said;
+#[cfg(test)]
 mod theories;
+#[cfg(test)]
+mod writers;

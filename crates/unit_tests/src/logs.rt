@@ -1,10 +1,12 @@
 // Logs, read and written.
+use crate::said::{failing_sink, is, shown, taken};
 use kernel::{Entry, Proof};
-use proof_log::{read_log, write_entry, write_header};
+use proof_log::{LogFault, read_log, write_entry, write_header};
+use std::alloc::{AllocError, Global};
 use std::test::Fail;
-use tptp_base::{Boxed, List, MemorySink, SinkFault, SteadySink};
+use tptp_base::{Boxed, MemorySink, Sink, SinkFault, SteadySink};
 
-const LOG: &[u8] = b"tptp-log 1
+const LOG: &str = "tptp-log 1
 D s 'it\\'s \\\\'
 D f 'g' 2 0 1 1
 D p 'it\\'s' 2 0 0
@@ -15,26 +17,92 @@ C 7 | 0
 
 #[test]
 fn a_log_is_read_and_written_again(rt: HostRuntime) -> Result<(), Fail> {
-    let alloc = rt.alloc();
-    let entries = read_log(alloc, LOG)?;
+    is(&rt, written_again(rt.alloc()), LOG)
+}
+
+fn written_again(alloc: Global) -> Result<String, Fail> {
+    let entries = read_log(alloc, LOG.as_bytes())?;
+    written(alloc, entries.as_slice())
+}
+
+fn written(alloc: Global, entries: &[Entry]) -> Result<String, Fail> {
     let mut log = SteadySink::new(alloc);
-    write_header(&mut log)?;
-    for entry in entries.as_slice() {
-        write_entry(alloc, entry, &mut log)?;
+    write_log(alloc, entries, &mut log)?;
+    shown(alloc, log.bytes())
+}
+
+fn write_log<K: Sink>(alloc: Global, entries: &[Entry], log: &mut K) -> Result<(), SinkFault> {
+    write_header(log)?;
+    for entry in entries {
+        write_entry(alloc, entry, log)?;
     }
-    assert_eq!(rt; log.bytes(), LOG);
     Ok(())
 }
 
 #[test]
 fn a_log_goes_on_behind_a_fault(rt: HostRuntime) -> Result<(), Fail> {
-    let alloc = rt.alloc();
-    let mut log = MemorySink::new(alloc, List::from_slice(alloc, &[2])?);
+    let wanted = "failed: tptp-log 1\nL line 12\n";
+    is(&rt, written_on(rt.alloc()), wanted)
+}
+
+fn written_on(alloc: Global) -> Result<String, Fail> {
+    let mut log = failing_sink(alloc, 2)?;
     write_header(&mut log)?;
-    let entry = Boxed::new(alloc, Entry::Lemma(Proof::Line(12)))?;
-    let failed = write_entry(alloc, entry.get(), &mut log);
-    assert_eq!(rt; failed, Err(SinkFault::Failed));
-    write_entry(alloc, entry.get(), &mut log)?;
-    assert_eq!(rt; log.bytes(), b"tptp-log 1\nL line 12\n".as_slice());
+    entry_twice(alloc, &mut log)
+}
+
+fn entry_twice(alloc: Global, log: &mut MemorySink) -> Result<String, Fail> {
+    let entry = line(alloc)?;
+    let failed = write_entry(alloc, entry.get(), log);
+    write_entry(alloc, entry.get(), log)?;
+    taken(alloc, failed, log)
+}
+
+fn line(alloc: Global) -> Result<Boxed<Entry>, AllocError> {
+    Boxed::new(alloc, Entry::Lemma(Proof::Line(12)))
+}
+
+// The 4,001st tree would begin where the text of 4,000 ends.
+#[test]
+fn a_log_that_nests_too_deep_is_told_from_one_that_is_cut(rt: HostRuntime) -> Result<(), Fail> {
+    is(
+        &rt,
+        both_faults(rt.alloc()),
+        "deep at 20013; text at 20013; ",
+    )
+}
+
+fn both_faults(alloc: Global) -> Result<String, Fail> {
+    let mut out = String::new(alloc);
+    push_fault(alloc, &mut out, 4001)?;
+    push_fault(alloc, &mut out, 4000)?;
+    Ok(out)
+}
+
+fn push_fault(alloc: Global, out: &mut String, times: u16) -> Result<(), Fail> {
+    let log = contradictions(alloc, times)?;
+    say_fault(out, fault_of(alloc, log.as_str()))?;
     Ok(())
+}
+
+// A log whose one entry begins with so many contradictions, and ends behind them.
+fn contradictions(alloc: Global, times: u16) -> Result<String, AllocError> {
+    let mut log = String::from_str(alloc, "tptp-log 1\nL ")?;
+    for _ in 0..times {
+        log.push_str("note ")?;
+    }
+    Ok(log)
+}
+
+// What is said of a log, and where.
+fn fault_of(alloc: Global, log: &str) -> (&'static str, u64) {
+    match read_log(alloc, log.as_bytes()) {
+        Err(LogFault::Deep(offset)) => ("deep", offset),
+        Err(LogFault::Text(offset)) => ("text", offset),
+        _ => ("no fault of the text", 0),
+    }
+}
+
+fn say_fault(out: &mut String, (name, offset): (&'static str, u64)) -> Result<(), AllocError> {
+    write!(out, "{name} at {offset}; ")
 }

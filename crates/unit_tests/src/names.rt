@@ -1,26 +1,49 @@
 // Names and reasons, written.
+use crate::said::{failing_sink, is, shown, taken};
 use canon_print::write_name;
+use std::alloc::Global;
 use std::test::Fail;
 use szs_report::{LineAnswer, write_line};
-use tptp_base::{List, MemorySink, Name, SinkFault, SteadySink, Text};
+use tptp_base::{Memory, MemorySink, Name, SteadySink, Text};
 
 #[test]
 fn a_prefix_of_a_name_is_written(rt: HostRuntime) -> Result<(), Fail> {
-    let alloc = rt.alloc();
+    is(&rt, prefix(rt.alloc()), "failed: 'it")
+}
+
+fn prefix(alloc: Global) -> Result<String, Fail> {
+    let mut sink = failing_sink(alloc, 3)?;
+    prefix_in(alloc, &mut sink)
+}
+
+fn prefix_in(alloc: Global, sink: &mut MemorySink) -> Result<String, Fail> {
     let name = Name::Word(Text::from_slice(alloc, b"it's")?);
-    let mut faulty = MemorySink::new(alloc, List::from_slice(alloc, &[3])?);
-    assert_eq!(rt; write_name(&name, &mut faulty), Err(SinkFault::Failed));
-    assert_eq!(rt; faulty.bytes(), b"'it".as_slice());
-    Ok(())
+    let failed = write_name(&name, sink);
+    taken(alloc, failed, sink)
 }
 
 #[test]
 fn a_copied_name_and_a_reason_are_written(rt: HostRuntime) -> Result<(), Fail> {
-    let alloc = rt.alloc();
-    let name = Name::Integer(Text::from_slice(alloc, b"007")?).copy(alloc)?;
+    is(&rt, reason(rt.alloc()), "007 unverified dry\n")
+}
+
+fn reason(alloc: Global) -> Result<String, Fail> {
+    let name = copied_name(alloc)?;
+    reason_of(alloc, &name)
+}
+
+fn copied_name(alloc: Global) -> Result<Name, Memory> {
+    let name = Name::Integer(Text::from_slice(alloc, b"007")?);
+    name.copy(alloc)
+}
+
+fn reason_of(alloc: Global, name: &Name) -> Result<String, Fail> {
     let reason = LineAnswer::Unverified(Text::from_slice(alloc, b"dry")?);
+    line_of(alloc, name, &reason)
+}
+
+fn line_of(alloc: Global, name: &Name, reason: &LineAnswer) -> Result<String, Fail> {
     let mut out = SteadySink::new(alloc);
-    write_line(alloc, &name, &reason, &mut out)?;
-    assert_eq!(rt; out.bytes(), b"007 unverified dry\n".as_slice());
-    Ok(())
+    write_line(alloc, name, reason, &mut out)?;
+    shown(alloc, out.bytes())
 }

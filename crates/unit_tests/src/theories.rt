@@ -1,38 +1,70 @@
 // Theories and their signatures.
+use crate::said::is;
 use fof_terms::{Kind, Signature};
 use kernel::{Entry, Proof, Theory};
 use proof_log::read_log;
-use std::alloc::Global;
+use std::alloc::{AllocError, Global};
 use std::test::Fail;
-use tptp_base::{Boxed, List};
+use tptp_base::{Boxed, List, Memory};
 
-/// A theory to which the entries of a log were admitted, at first without formulas and over the sort of individuals
-/// alone.
-pub fn theory(alloc: Global, log: &str) -> Result<Theory, Fail> {
-    let mut theory = Theory::start(alloc, Signature::new(alloc)?, List::new(alloc))?;
-    for entry in read_log(alloc, log.as_bytes())?.as_slice() {
+/// A theory without formulas, over the sort of individuals alone.
+pub fn start(alloc: Global) -> Result<Theory, Memory> {
+    Theory::start(alloc, Signature::new(alloc)?, List::new(alloc))
+}
+
+/// Admits the entries of a log.
+pub fn admit_log(alloc: Global, theory: &mut Theory, log: &str) -> Result<(), Fail> {
+    let entries = read_log(alloc, log.as_bytes())?;
+    admit_all(theory, entries.as_slice())
+}
+
+fn admit_all(theory: &mut Theory, entries: &[Entry]) -> Result<(), Fail> {
+    for entry in entries {
         theory.admit(entry)?;
     }
-    Ok(theory)
+    Ok(())
 }
 
 #[test]
 fn a_refused_entry_adds_nothing(rt: HostRuntime) -> Result<(), Fail> {
+    is(&rt, refused(rt.alloc()), "refused: 1 2 false")
+}
+
+// Whether an entry is refused, the formulas and sorts that there are then, and whether falsehood is among them.
+fn refused(alloc: Global) -> Result<String, Fail> {
+    let mut theory = start(alloc)?;
+    refused_by(alloc, &mut theory)
+}
+
+fn refused_by(alloc: Global, theory: &mut Theory) -> Result<String, Fail> {
     // The conjunction without members is truth.
-    let mut theory = theory(rt.alloc(), "tptp-log 1\nD s 's'\nL andi 0\n")?;
-    let entry = Boxed::new(rt.alloc(), Entry::Lemma(Proof::Line(1)))?;
-    let refused = theory.admit(entry.get());
-    assert!(rt; refused.is_err());
-    assert_eq!(rt; theory.len(), 1);
-    assert_eq!(rt; theory.signature().sort_count(), 2);
-    assert!(rt; !theory.refuted());
-    Ok(())
+    admit_log(alloc, theory, "tptp-log 1\nD s 's'\nL andi 0\n")?;
+    let entry = line(alloc)?;
+    let ending = match theory.admit(entry.get()) {
+        Ok(()) => "taken",
+        Err(_) => "refused",
+    };
+    counts(alloc, ending, theory)
+}
+
+fn line(alloc: Global) -> Result<Boxed<Entry>, AllocError> {
+    Boxed::new(alloc, Entry::Lemma(Proof::Line(1)))
+}
+
+fn counts(alloc: Global, ending: &str, theory: &Theory) -> Result<String, Fail> {
+    let formulas = theory.len();
+    let sorts = theory.signature().sort_count();
+    let refuted = theory.refuted();
+    Ok(format!(in alloc; "{ending}: {formulas} {sorts} {refuted}")?)
 }
 
 // Of symbols with one name the first with that kind and arity is found.
 #[test]
 fn symbols_are_found_by_name_kind_and_arity(rt: HostRuntime) -> Result<(), Fail> {
-    let log = "tptp-log 1
+    is(&rt, symbols(rt.alloc()), "0 1 2 4 none none ")
+}
+
+const SYMBOLS: &str = "tptp-log 1
 D f 'f' 1 0 0
 D p 'f' 1 0
 D f 'f' 2 0 0 0
@@ -40,28 +72,51 @@ D f 'f' 1 0 0
 D f 'g' 1 0 0
 D p 'f' 1 0
 ";
-    let theory = theory(rt.alloc(), log)?;
-    for (name, kind, arity, want) in [
-        ("f", Kind::Function, 1, Some(0)),
-        ("f", Kind::Predicate, 1, Some(1)),
-        ("f", Kind::Function, 2, Some(2)),
-        ("g", Kind::Function, 1, Some(4)),
-        ("f", Kind::Predicate, 2, None),
-        ("h", Kind::Function, 1, None),
+
+fn symbols(alloc: Global) -> Result<String, Fail> {
+    let mut theory = start(alloc)?;
+    admit_log(alloc, &mut theory, SYMBOLS)?;
+    symbols_in(alloc, theory.signature())
+}
+
+fn symbols_in(alloc: Global, signature: &Signature) -> Result<String, Fail> {
+    let mut out = String::new(alloc);
+    for (name, kind, arity) in [
+        ("f", Kind::Function, 1),
+        ("f", Kind::Predicate, 1),
+        ("f", Kind::Function, 2),
+        ("g", Kind::Function, 1),
+        ("f", Kind::Predicate, 2),
+        ("h", Kind::Function, 1),
     ] {
-        let found = theory.signature().find(name.as_bytes(), kind, arity);
-        assert_eq!(rt; found, want, "{name} {arity}");
+        push_number(&mut out, signature.find(name.as_bytes(), kind, arity))?;
     }
-    Ok(())
+    Ok(out)
+}
+
+fn push_number(out: &mut String, number: Option<u32>) -> Result<(), AllocError> {
+    match number {
+        Some(number) => write!(out, "{number} "),
+        None => out.push_str("none "),
+    }
 }
 
 #[test]
 fn sorts_are_found_by_name(rt: HostRuntime) -> Result<(), Fail> {
+    is(&rt, sorts(rt.alloc()), "1 2 4 none ")
+}
+
+fn sorts(alloc: Global) -> Result<String, Fail> {
+    let mut theory = start(alloc)?;
     let log = "tptp-log 1\nD s 's'\nD s 't'\nD s 's'\nD s '$i'\n";
-    let theory = theory(rt.alloc(), log)?;
-    for (name, want) in [("s", Some(1)), ("t", Some(2)), ("$i", Some(4)), ("u", None)] {
-        let found = theory.signature().find_sort(name.as_bytes());
-        assert_eq!(rt; found, want, "{name}");
+    admit_log(alloc, &mut theory, log)?;
+    sorts_in(alloc, theory.signature())
+}
+
+fn sorts_in(alloc: Global, signature: &Signature) -> Result<String, Fail> {
+    let mut out = String::new(alloc);
+    for name in ["s", "t", "$i", "u"] {
+        push_number(&mut out, signature.find_sort(name.as_bytes()))?;
     }
-    Ok(())
+    Ok(out)
 }

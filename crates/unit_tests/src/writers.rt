@@ -1,0 +1,49 @@
+// A sink of the program over a writer that takes nothing, and over none.
+use crate::said::is;
+use std::alloc::Global;
+use std::io;
+use std::io::Write;
+use std::test::Fail;
+use tptp_base::{RealSink, SinkFault, put_all};
+
+// It takes nothing of a piece.
+#[derive(Drop)]
+struct Idle;
+
+impl Write for Idle {
+    fn write(&mut self, _buf: &[u8]) -> io::Result<usize> {
+        Ok(0)
+    }
+
+    fn flush(&mut self) -> io::Result<()> {
+        Ok(())
+    }
+}
+
+#[test]
+fn a_piece_that_is_not_taken_is_a_fault(rt: HostRuntime) -> Result<(), Fail> {
+    is(&rt, said_of(rt.alloc(), Some(Idle), b"ab"), "failed")
+}
+
+#[test]
+fn a_piece_without_bytes_is_taken(rt: HostRuntime) -> Result<(), Fail> {
+    is(&rt, said_of(rt.alloc(), Some(Idle), b""), "taken")
+}
+
+#[test]
+fn without_a_writer_a_piece_is_not_taken(rt: HostRuntime) -> Result<(), Fail> {
+    is(&rt, said_of(rt.alloc(), None, b"ab"), "failed")
+}
+
+fn said_of(alloc: Global, writer: Option<Idle>, piece: &[u8]) -> Result<String, Fail> {
+    let mut sink = RealSink::new(writer);
+    Ok(String::from_str(alloc, name_of(put_all(&mut sink, piece)))?)
+}
+
+fn name_of(outcome: Result<(), SinkFault>) -> &'static str {
+    match outcome {
+        Ok(()) => "taken",
+        Err(SinkFault::Failed) => "failed",
+        Err(SinkFault::Memory) => "out of memory",
+    }
+}
