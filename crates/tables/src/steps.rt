@@ -62,10 +62,7 @@ fn recognised(
     requires line { IsReady signature.now line.now }
     requires parents { AreReady signature.now parents.now }
 {
-    match recognise(alloc, signature, parents, line)? {
-        Some(just) => Ok(name(&just)),
-        None => Ok("none"),
-    }
+    rule_of(recognise(alloc, signature, parents, line))
 }
 
 // The names of the rules by which a line follows, or `none`.
@@ -122,9 +119,18 @@ fn push_clause_rules(
 
 // Appends the name of the rule that a step is by, if there is a step.
 fn push_rule(out: &mut String, step: Result<Option<Just>, Memory>) -> Result<(), Memory> {
+    match rule_of(step)? {
+        "none" => Ok(()),
+        rule => Ok(push_word(out, rule)?),
+    }
+}
+
+// The name of the rule that a step is by, or `none`. A step is dropped here alone, since that is done variant by
+// variant.
+fn rule_of(step: Result<Option<Just>, Memory>) -> Result<&'static str, Memory> {
     match step? {
-        Some(just) => Ok(push_word(out, name(&just))?),
-        None => Ok(()),
+        Some(just) => Ok(name(&just)),
+        None => Ok("none"),
     }
 }
 
