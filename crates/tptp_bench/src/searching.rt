@@ -1,4 +1,9 @@
 //! The search for the empty clause, among the clauses of a text.
+ghost use Rattle.std.specs.Prelude.{◌≤◌};
+ghost use Rattle.std.specs.List.{All as Each};
+ghost use Rattle.clause_order.specs.Weights.{clause_weight};
+ghost use Rattle.superpose.specs.Drafts.{IsClause};
+
 use crate::counted::Counted;
 use crate::lexing::cut;
 use anyhow::{Context, Result, bail};
@@ -9,7 +14,7 @@ use fof_terms::Signature;
 use saturation::{Member, Outcome, are_searchable, search_by};
 use sort_check::{Line, TextKind, denote};
 use std::alloc::Global;
-use tptp_base::{Item, List, Text};
+use tptp_base::{Item, List, Memory, Text};
 use tptp_grammar::parse;
 use tptp_lexer::Tokens;
 
@@ -58,18 +63,32 @@ fn of_clauses(
         bail!("a clause is not well-sorted, or too heavy");
     }
     let rules = Counted::new();
+    let outcome = searched(alloc, &rules, signature, inputs, limit)?;
+    told(alloc, &outcome, rules.count())
+}
+
+// How the search ends, over two new indexes.
+fn searched(
+    alloc: Global,
+    rules: &Counted,
+    signature: &Signature,
+    inputs: &[Clause],
+    limit: u32,
+) -> Result<Outcome, Memory>
+    requires clauses { Each (IsClause signature.now) inputs.now }
+    requires light { Each (λ c. clause_weight c ≤ 100000000) inputs.now }
+{
     let mut literals = Index::new(alloc);
     let mut terms = Index::new(alloc);
-    let outcome = search_by(
+    search_by(
         alloc,
-        &rules,
+        rules,
         signature,
         inputs,
         limit,
         &mut literals,
         &mut terms,
-    )?;
-    told(alloc, &outcome, rules.count())
+    )
 }
 
 // The word of the end, and the numbers.
