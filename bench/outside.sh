@@ -69,10 +69,10 @@ status=0
 say "an output that is closed" 5 0
 status=0
 "$tptp" verify soc.p soc.s soc.log >&- || status=$?
-say "an output that is closed, and a log" "0 5" 0
+say "an output that is closed, and a log" 5 0
 status=0
 "$tptp" check soc.p soc.log > out || status=$?
-say "that log, which may be cut" "0 1" 99
+say "that log, which is cut" 1 99
 
 # A file that grows while it is read, and one that is cut and written anew.
 change() {
