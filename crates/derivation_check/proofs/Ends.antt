@@ -88,6 +88,7 @@ module _ (asked : Asked) (t : Statements) (d : Derivation) (w : Vocabulary) (out
         report_is = closed.text;
         log_is = refl;
       },
+      closed.counts,
     )
 
     pub all_joined : (r : Result Report RunFault) → IfOk r (λ report. Closed asked d outcome.answers outcome.numbers report mid new) → IfOk r (λ report. ChecksWithLog asked t d w report old new)

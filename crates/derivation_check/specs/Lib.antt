@@ -1,5 +1,6 @@
 pub mod Cases
 pub mod Checks
+pub mod Counts
 pub mod GoodCases
 pub mod Logs
 pub mod code

@@ -10,15 +10,16 @@ use Rattle.proof_log.specs.Entries.{log_text}
 use Rattle.derivation_text.specs.declared.derivation.Derivation.{Derivation}
 use Rattle.derivation_check.specs.Cases.{Asked}
 use Rattle.derivation_check.specs.Checks.{Checks, Stops}
+use Rattle.derivation_check.specs.Counts.{Counts}
 use Rattle.derivation_check.specs.declared.checking.Report.{Report}
 
 -- nothing was taken, or a prefix of a log whose entries are legal in turn from the theory
 abbrev pub TakesSomeOfLog : Statements → Option (List ℕ) → Option (List ℕ) → Type 0
 TakesSomeOfLog t old new = (new ≡ old) ⊎ ((entries : List Entry) × (u : Statements) × Admits t entries u × TakesPrefix old new (log_text entries))
 
--- the report and what the log took are those of a check
+-- the report and what the log took are those of a check, and the report counts its answers
 abbrev pub ChecksWithLog : Asked → Statements → Derivation → Vocabulary → Report → Option (List ℕ) → Option (List ℕ) → Type 0
-ChecksWithLog asked t d w report old new = (log : List ℕ) × Takes old new log × Checks asked t d w report.verified report.text log
+ChecksWithLog asked t d w report old new = (log : List ℕ) × Takes old new log × (checks : Checks asked t d w report.verified report.text log) × Counts report checks.answers
 
 -- the check stops at this place, and the log took what it has then
 abbrev pub StopsWithLog : Asked → Statements → Derivation → Vocabulary → Option (List ℕ) → Option (List ℕ) → ℕ → Type 0

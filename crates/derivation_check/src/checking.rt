@@ -15,6 +15,7 @@ ghost use Rattle.derivation_check.specs.Logs.{ChecksWithLog, StopsWithLog, Takes
 ghost use Rattle.derivation_check.specs.code.Logs.{Closed};
 
 use crate::claiming::claim_on;
+use crate::counting::{norm_count, resolution_count};
 use crate::reporting::{is_verified, report_of};
 use crate::running::run_derivation;
 use derivation_text::Derivation;
@@ -40,11 +41,15 @@ pub struct Asked<'a> {
     pub limit: u32,
 }
 
-/// What is printed of a derivation, and whether all is verified.
+/// What is printed of a derivation, whether all is verified, and how many lines there are, and are accepted by norm and
+/// by resolution.
 #[derive(Drop)]
 pub struct Report {
     pub verified: bool,
     pub text: Text,
+    pub lines: usize,
+    pub norms: usize,
+    pub resolutions: usize,
 }
 
 /// Checks a derivation in the theory of its given formulas: writes the log, with a last entry where all is verified,
@@ -112,6 +117,9 @@ fn close<K: Sink>(
     Ok(Report {
         verified: is_verified(&ending),
         text,
+        lines: answers.len(),
+        norms: norm_count(answers),
+        resolutions: resolution_count(answers),
     })
 }
 

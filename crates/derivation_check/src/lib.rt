@@ -3,6 +3,7 @@
 
 mod checking;
 mod claiming;
+mod counting;
 mod laws;
 mod reporting;
 mod running;

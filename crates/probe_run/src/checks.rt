@@ -76,7 +76,13 @@ impl Checking for Control {
             ..*asked
         };
         match check_derivation(alloc, &same, derivation, signature, theory, log) {
-            Ok(Report { verified, text }) => Ok(Report { verified, text }),
+            Ok(report) => Ok(Report {
+                verified: report.verified,
+                text: report.text,
+                lines: report.lines,
+                norms: report.norms,
+                resolutions: report.resolutions,
+            }),
             Err(RunFault::Sink) => Err(RunFault::Sink),
             Err(RunFault::Memory) => Err(RunFault::Memory),
             Err(RunFault::Room(place)) => Err(RunFault::Room(place)),

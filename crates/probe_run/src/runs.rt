@@ -1,12 +1,13 @@
 // A whole run.
-ghost use Rattle.std.specs.Prelude.{◌≡◌, ◌⊎◌, ◌≤◌, ℕ, List, IfSome};
+ghost use Rattle.std.specs.Prelude.{◌≡◌, ◌⊎◌, ◌≤◌, ℕ, List, None, IfSome};
 ghost use Rattle.std.specs.declared.option.Option.{Option};
 ghost use Rattle.tptp_base.specs.Count.{Rose};
 ghost use Rattle.tptp_run.specs.Complete.{MeetsNoFault};
 ghost use Rattle.tptp_run.specs.GoodRuns.{AreGood};
+ghost use Rattle.tptp_run.specs.Made.{files, problem_name};
 ghost use Rattle.tptp_run.specs.OtherFaults.{TakesOtherFault};
 ghost use Rattle.tptp_run.specs.Outcome.{IsAnswer, IsOutcome, IsRefutation, SaysMissing};
-ghost use Rattle.tptp_run.specs.Words.{texts, Verify, Request, IsForm};
+ghost use Rattle.tptp_run.specs.Words.{texts, Verify, Make, Request, IsForm};
 
 use crate::{Control, Probe};
 use std::alloc::Global;
@@ -32,6 +33,12 @@ pub trait Commanding {
             → IfSome (S.files store.old) (λ files. (request : Request) → IsForm (texts words.now) request
             → (problem derivation : List ℕ) (named : Option (List ℕ)) → request.task ≡ Verify problem derivation named
             → IsRefutation files request.root problem (L.taken log.old) (L.taken log.new)) }
+
+        // So is the log of a success of `make`, from what the made problem gives.
+        ensures made { result ≡ 0
+            → IfSome (S.files store.old) (λ _. (request : Request) → IsForm (texts words.now) request
+            → (count : ℕ) → request.task ≡ Make count
+            → IsRefutation (files count) None problem_name (L.taken log.old) (L.taken log.new)) }
 
         // An answer to a good derivation is that it is verified.
         ensures good { IsAnswer result

@@ -39,6 +39,7 @@ impl Asking for Control {
             Job::Format(file) => Job::Format(file),
             Job::Parse(file) => Job::Parse(file),
             Job::Check(problem, log) => Job::Check(problem, log),
+            Job::Make(count) => Job::Make(count),
         };
         Some(Command { root, limit, job })
     }

@@ -25,7 +25,7 @@ use Rattle.tptp_run.specs.code.Sources.{IsSource}
 use Rattle.tptp_run.specs.Sources.{given_names}
 use Rattle.tptp_run.specs.Spelled.{IsTextRefusal}
 use Rattle.tptp_run.specs.code.Stop.{IfAnswer, IfRefused}
-use Rattle.tptp_run.specs.Words.{Task, Verify, Format, Parse, Check, Request, IsForm}
+use Rattle.tptp_run.specs.Words.{Task, Verify, Format, Parse, Check, Make, Request, IsForm}
 use Rattle.tptp_run.specs.declared.sources.Source.{Source}
 use Rattle.tptp_run.specs.declared.stop.Answer.{Answer}
 use Rattle.tptp_run.specs.declared.stop.Halt.{Halt}
@@ -160,6 +160,7 @@ no_task_fault files root (Verify problem derivation log) ending (inr said) lacks
 no_task_fault files root (Format file) ending (text, has, refused) none = no_text files file text has none
 no_task_fault files root (Parse file) ending said lacks = no_problem_fault files root file ending said lacks
 no_task_fault files root (Check problem log) ending said lacks = no_fault_of_other files root problem ending log said lacks
+no_task_fault files root (Make count) ending said lacks = lacks
 
 -- ---- the words that ask for the task
 

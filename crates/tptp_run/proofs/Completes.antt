@@ -18,7 +18,7 @@ use Rattle.tptp_run.specs.Formatted.{EndsFormat}
 use Rattle.tptp_run.specs.Outcome.{IsAnswer}
 use Rattle.tptp_run.specs.Parsed.{EndsParse}
 use Rattle.tptp_run.specs.Refuted.{HasRefutation}
-use Rattle.tptp_run.specs.Words.{Task, Verify, Format, Parse, Check, Request, IsForm}
+use Rattle.tptp_run.specs.Words.{Task, Verify, Format, Parse, Check, Make, Request, IsForm}
 use Rattle.tptp_run.specs.declared.run.TheConstants.{TOTAL_SIZE}
 use Rattle.tptp_run.specs.declared.stop.Answer.{Answer}
 use Rattle.tptp_run.proofs.Exact.{log_exact}
@@ -67,6 +67,7 @@ task_complete files root limit (Verify problem derivation named) ending h ends =
 task_complete files root limit (Format file) ending h ends = format_complete files file ending h ends
 task_complete files root limit (Parse file) ending h ends = parse_complete files root file ending h ends
 task_complete files root limit (Check problem log) ending h ends = check_complete files root problem log ending h ends
+task_complete files root limit (Make count) ending h ends = ends.status
 
 ends_complete : (files : Files) (words : List (List ℕ)) (request : Request) (ending : Ending) → Ends files words ending → IsForm words request → MeetsNoFault files request.root request.limit request.task → ending.status ≡ 0
 ends_complete files words request ending (inl none) form h = absurd (none.0 request form)

@@ -1,5 +1,5 @@
 -- A run that ends with status 0 has logged a refutation of its problem.
-use Rattle.std.proofs.Common.{◌≡◌, inl, inr, ℕ, suc, ◌-◌, Bool, true, false, List, Option, None, Some, IfSome, refl, sym, ◌∙◌, ap, subst, arith}
+use Rattle.std.proofs.Common.{◌≡◌, inl, inr, ℕ, suc, ◌-◌, Bool, true, false, List, [], codes, Option, None, Some, IfSome, refl, sym, ◌∙◌, ap, subst, arith}
 use Rattle.std.specs.Io.KnownBytes.{append_known}
 use Rattle.tptp_base.specs.Sink.{Takes}
 use Rattle.tptp_base.specs.Store.{Files, file_at}
@@ -33,11 +33,13 @@ use Rattle.tptp_run.specs.Denoted.{SaysIncludeFault, SaysTextFault, SaysSortFaul
 use Rattle.tptp_run.specs.Derived.{SaysDerivationFault, SaysGraphFault, SaysLineFault}
 use Rattle.tptp_run.specs.Ending.{Ending, says, AfterFile}
 use Rattle.tptp_run.specs.Ends.{EndsTask, Ends}
+use Rattle.tptp_run.specs.Made as made
+use Rattle.tptp_run.specs.Making.{EndsMake}
 use Rattle.tptp_run.specs.Outcome.{IsRefutation}
 use Rattle.tptp_run.specs.Spelled.{SaysLexFault, SaysGrammarFault}
 use Rattle.tptp_run.specs.Sources.{given_names, conjecture_marks, has_conjecture}
-use Rattle.tptp_run.specs.Verifying.{EndsChecked, EndsVerify, SaysDerivation, status_of}
-use Rattle.tptp_run.specs.Words.{Task, Verify, Format, Parse, Check, Request, IsForm}
+use Rattle.tptp_run.specs.Verifying.{EndsChecked, EndsVerify, SaysDerivation, asked_by, status_of}
+use Rattle.tptp_run.specs.Words.{Task, Verify, Format, Parse, Check, Make, Request, IsForm}
 use Rattle.tptp_run.specs.declared.run.TheConstants.{TOTAL_SIZE}
 use Rattle.tptp_run.specs.declared.stop.Answer.{Answer}
 use Rattle.tptp_run.proofs.Requests.{one_request}
@@ -152,11 +154,15 @@ parse_no_verify file problem derivation log e = cc
 check_no_verify : (own other problem derivation : List ℕ) (log : Option (List ℕ)) → Check own other ≡ Verify problem derivation log → ⊥
 check_no_verify own other problem derivation log e = cc
 
+make_no_verify : (count : ℕ) (problem derivation : List ℕ) (log : Option (List ℕ)) → Make count ≡ Verify problem derivation log → ⊥
+make_no_verify count problem derivation log e = cc
+
 abbrev problem_of : Task → List ℕ
 problem_of (Verify problem derivation log) = problem
 problem_of (Format file) = file
 problem_of (Parse file) = file
 problem_of (Check problem log) = problem
+problem_of (Make count) = []
 
 task_refutes : (files : Files) (root : Option (List ℕ)) (limit : ℕ) (task : Task) (problem derivation : List ℕ) (named : Option (List ℕ)) (ending : Ending) (old new : Option (List ℕ)) → ending.status ≡ 0 → Takes old new ending.log → EndsTask files root limit task ending
     → task ≡ Verify problem derivation named → IsRefutation files root problem old new
@@ -165,6 +171,7 @@ task_refutes files root limit (Verify own other log) problem derivation named en
 task_refutes files root limit (Format file) problem derivation named ending old new zero taken ends is = absurd (format_no_verify file problem derivation named is)
 task_refutes files root limit (Parse file) problem derivation named ending old new zero taken ends is = absurd (parse_no_verify file problem derivation named is)
 task_refutes files root limit (Check own other) problem derivation named ending old new zero taken ends is = absurd (check_no_verify own other problem derivation named is)
+task_refutes files root limit (Make count) problem derivation named ending old new zero taken ends is = absurd (make_no_verify count problem derivation named is)
 
 ends_refutes : (files : Files) (words : List (List ℕ)) (request : Request) (problem derivation : List ℕ) (named : Option (List ℕ)) (ending : Ending) (old new : Option (List ℕ)) → ending.status ≡ 0 → Takes old new ending.log → Ends files words ending
     → IsForm words request → request.task ≡ Verify problem derivation named → IsRefutation files request.root problem old new
@@ -180,3 +187,26 @@ success_refutes told words answer old new ends zero =
     if_map told (λ files. IsAnswerWithLog (Ends files words) answer old new)
     (λ files. (request : Request) → IsForm words request → (problem derivation : List ℕ) (named : Option (List ℕ)) → request.task ≡ Verify problem derivation named → IsRefutation files request.root problem old new) ends
     (λ files is request form problem derivation named asked. ends_refutes files words request problem derivation named (with_log answer is.0) old new zero is.1 is.2 form asked)
+
+-- ---- the made problem
+
+make_refutes : (count limit : ℕ) (ending : Ending) (old new : Option (List ℕ)) → Takes old new ending.log → EndsMake count limit ending → IsRefutation (made.files count) None made.problem_name old new
+make_refutes count limit ending old new taken ends =
+    checked_refutes (made.files count) None limit made.problem_name (codes "make.s") (record { status = 0; out = ends.report; log = ending.log }) old new refl taken
+    (asked_by made.problem_name (made.derivation count) (conjecture_marks ends.lines) (has_conjecture ends.lines) limit) (given_theory ends.lines ends.v) ends.whole.read ends.d ends.w
+    (ends.whole, ends.resolves, (ends.lines, ends.v, ends.denotes, refl), refl) (derivation_brings (made.derivation count) (given_names ends.lines) ends.v ends.d ends.w ends.is) (record { verified = true; status = refl; checks = ends.checks })
+
+makes_refute : (files : Files) (words : List (List ℕ)) (request : Request) (count : ℕ) (ending : Ending) (old new : Option (List ℕ)) → Takes old new ending.log → Ends files words ending → IsForm words request → request.task ≡ Make count
+    → IsRefutation (made.files count) None made.problem_name old new
+makes_refute files words request count ending old new taken (inl none) form is = absurd (none.0 request form)
+makes_refute files words request count ending old new taken (inr (other, found, ends)) form is =
+    let asks : Task → Type 0 = λ task. EndsTask files other.root other.limit task ending in
+    make_refutes count other.limit ending old new taken (subst asks (ap (λ (r : Request). r.task) (one_request words other request found form) ∙ is) ends)
+
+-- the headline of `make`
+pub success_makes : (told : Option Files) (words : List (List ℕ)) (answer : Answer) (old new : Option (List ℕ)) → IfSome told (λ files. IsAnswerWithLog (Ends files words) answer old new) → answer.status ≡ 0
+    → IfSome told (λ files. (request : Request) → IsForm words request → (count : ℕ) → request.task ≡ Make count → IsRefutation (made.files count) None made.problem_name old new)
+success_makes told words answer old new ends zero =
+    if_map told (λ files. IsAnswerWithLog (Ends files words) answer old new)
+    (λ files. (request : Request) → IsForm words request → (count : ℕ) → request.task ≡ Make count → IsRefutation (made.files count) None made.problem_name old new) ends
+    (λ files is request form count asked. makes_refute files words request count (with_log answer is.0) old new is.1 is.2 form asked)

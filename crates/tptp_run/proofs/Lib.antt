@@ -9,6 +9,7 @@ pub mod Formats
 pub mod FormulaCounts
 pub mod GoodEnds
 pub mod Headline
+pub mod Makes
 pub mod MarksFit
 pub mod OneEnding
 pub mod OneFormat

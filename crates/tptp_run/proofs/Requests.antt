@@ -4,7 +4,7 @@ use Rattle.std.specs.Prelude.{decimal}
 use Rattle.std.specs.Str.Parse.{ParsesUnsigned}
 use Rattle.std.proofs.lemmas.Fmt.{parse-decimal, decimal_injective}
 use Rattle.tptp_run.specs.code.Options.{BeginOtherwise, NameRoot, NameNoRoot, NameLimit, NameNoLimit, NameNoTask}
-use Rattle.tptp_run.specs.Words.{Task, Verify, Format, Parse, Check, Request, IsFileName, IsLimit, HasNames, IsForm, HaveNoForm, root_words, limit_words, limit_of, task_words}
+use Rattle.tptp_run.specs.Words.{Task, Verify, Format, Parse, Check, Make, Request, IsFileName, IsLimit, HasNames, IsForm, HaveNoForm, root_words, limit_words, limit_of, task_words}
 
 abbrev Words : Type 0
 Words = List (List ℕ)
@@ -42,6 +42,7 @@ task_no_root (Verify problem derivation (Some log)) rest e = let bytes : 118 ≡
 task_no_root (Format file) rest e = let bytes : 102 ≡ 45 = ap first_byte e in omega (arith, bytes)
 task_no_root (Parse file) rest e = let bytes : 112 ≡ 45 = ap first_byte e in omega (arith, bytes)
 task_no_root (Check problem log) rest e = let bytes : 99 ≡ 45 = ap first_byte e in omega (arith, bytes)
+task_no_root (Make count) rest e = let bytes : 109 ≡ 45 = ap first_byte e in omega (arith, bytes)
 
 task_no_limit : (task : Task) → BeginOtherwise (codes "--limit") (task_words task)
 task_no_limit (Verify problem derivation None) rest e = let bytes : 118 ≡ 45 = ap first_byte e in omega (arith, bytes)
@@ -49,6 +50,7 @@ task_no_limit (Verify problem derivation (Some log)) rest e = let bytes : 118 �
 task_no_limit (Format file) rest e = let bytes : 102 ≡ 45 = ap first_byte e in omega (arith, bytes)
 task_no_limit (Parse file) rest e = let bytes : 112 ≡ 45 = ap first_byte e in omega (arith, bytes)
 task_no_limit (Check problem log) rest e = let bytes : 99 ≡ 45 = ap first_byte e in omega (arith, bytes)
+task_no_limit (Make count) rest e = let bytes : 109 ≡ 45 = ap first_byte e in omega (arith, bytes)
 
 limit_no_root : (limit : Option ℕ) (task : Task) → BeginOtherwise (codes "--root") (limit_words limit ++ task_words task)
 limit_no_root None task = task_no_root task
@@ -120,32 +122,43 @@ limit_as_named : (limit : Option ℕ) (task : Task) → IfSome limit IsLimit →
 limit_as_named None task number = record { words_are = refl; number = number; otherwise = λ none. task_no_limit task }
 limit_as_named (Some limit) task number = record { words_are = refl; number = number; otherwise = λ none. none_some _ none }
 
-one_task_words : (first second : Task) → task_words first ≡ task_words second → first ≡ second
-one_task_words (Verify a b None) (Verify c d None) e = verify_is a b c d None None (ap second e) (ap third e) refl
-one_task_words (Verify a b (Some l)) (Verify c d (Some m)) e = verify_is a b c d (Some l) (Some m) (ap second e) (ap third e) (ap (λ (ws : Words). Some (fourth ws)) e)
-one_task_words (Format a) (Format b) e = ap (λ (ws : Words). Format (second ws)) e
-one_task_words (Check a b) (Check c d) e = check_is a b c d (ap second e) (ap third e)
-one_task_words (Check a b) (Verify c d None) e = let bytes : 99 ≡ 118 = ap first_byte e in absurd (omega (arith, bytes))
-one_task_words (Check a b) (Verify c d (Some m)) e = let lengths : 3 ≡ 4 = ap length e in absurd (omega (arith, lengths))
-one_task_words (Check a b) (Format c) e = let lengths : 3 ≡ 2 = ap length e in absurd (omega (arith, lengths))
-one_task_words (Check a b) (Parse c) e = let lengths : 3 ≡ 2 = ap length e in absurd (omega (arith, lengths))
-one_task_words (Verify a b None) (Check c d) e = let bytes : 118 ≡ 99 = ap first_byte e in absurd (omega (arith, bytes))
-one_task_words (Verify a b (Some l)) (Check c d) e = let lengths : 4 ≡ 3 = ap length e in absurd (omega (arith, lengths))
-one_task_words (Format a) (Check c d) e = let lengths : 2 ≡ 3 = ap length e in absurd (omega (arith, lengths))
-one_task_words (Parse a) (Check c d) e = let lengths : 2 ≡ 3 = ap length e in absurd (omega (arith, lengths))
-one_task_words (Parse a) (Parse b) e = ap (λ (ws : Words). Parse (second ws)) e
-one_task_words (Format a) (Parse b) e = let bytes : 102 ≡ 112 = ap first_byte e in absurd (omega (arith, bytes))
-one_task_words (Parse a) (Format b) e = let bytes : 112 ≡ 102 = ap first_byte e in absurd (omega (arith, bytes))
-one_task_words (Verify a b None) (Parse c) e = let lengths : 3 ≡ 2 = ap length e in absurd (omega (arith, lengths))
-one_task_words (Verify a b (Some l)) (Parse c) e = let lengths : 4 ≡ 2 = ap length e in absurd (omega (arith, lengths))
-one_task_words (Parse a) (Verify c d None) e = let lengths : 2 ≡ 3 = ap length e in absurd (omega (arith, lengths))
-one_task_words (Parse a) (Verify c d (Some m)) e = let lengths : 2 ≡ 4 = ap length e in absurd (omega (arith, lengths))
-one_task_words (Verify a b None) (Verify c d (Some m)) e = let lengths : 3 ≡ 4 = ap length e in absurd (omega (arith, lengths))
-one_task_words (Verify a b (Some l)) (Verify c d None) e = let lengths : 4 ≡ 3 = ap length e in absurd (omega (arith, lengths))
-one_task_words (Verify a b None) (Format c) e = let lengths : 3 ≡ 2 = ap length e in absurd (omega (arith, lengths))
-one_task_words (Verify a b (Some l)) (Format c) e = let lengths : 4 ≡ 2 = ap length e in absurd (omega (arith, lengths))
-one_task_words (Format a) (Verify c d None) e = let lengths : 2 ≡ 3 = ap length e in absurd (omega (arith, lengths))
-one_task_words (Format a) (Verify c d (Some m)) e = let lengths : 2 ≡ 4 = ap length e in absurd (omega (arith, lengths))
+one_task_words : (first second : Task) → HasNames first → HasNames second → task_words first ≡ task_words second → first ≡ second
+one_task_words (Verify a b None) (Verify c d None) h k e = verify_is a b c d None None (ap second e) (ap third e) refl
+one_task_words (Verify a b (Some l)) (Verify c d (Some m)) h k e = verify_is a b c d (Some l) (Some m) (ap second e) (ap third e) (ap (λ (ws : Words). Some (fourth ws)) e)
+one_task_words (Format a) (Format b) h k e = ap (λ (ws : Words). Format (second ws)) e
+one_task_words (Make m) (Make n) h k e = ap (λ (count : ℕ). Make count) (decimal_injective m n (omega (arith, h.1)) (omega (arith, k.1)) (ap second e))
+one_task_words (Make n) (Verify a b None) h k e = let lengths : 2 ≡ 3 = ap length e in absurd (omega (arith, lengths))
+one_task_words (Verify a b None) (Make n) h k e = let lengths : 3 ≡ 2 = ap length e in absurd (omega (arith, lengths))
+one_task_words (Make n) (Verify a b (Some l)) h k e = let lengths : 2 ≡ 4 = ap length e in absurd (omega (arith, lengths))
+one_task_words (Verify a b (Some l)) (Make n) h k e = let lengths : 4 ≡ 2 = ap length e in absurd (omega (arith, lengths))
+one_task_words (Make n) (Format a) h k e = let bytes : 109 ≡ 102 = ap first_byte e in absurd (omega (arith, bytes))
+one_task_words (Format a) (Make n) h k e = let bytes : 102 ≡ 109 = ap first_byte e in absurd (omega (arith, bytes))
+one_task_words (Make n) (Parse a) h k e = let bytes : 109 ≡ 112 = ap first_byte e in absurd (omega (arith, bytes))
+one_task_words (Parse a) (Make n) h k e = let bytes : 112 ≡ 109 = ap first_byte e in absurd (omega (arith, bytes))
+one_task_words (Make n) (Check a b) h k e = let lengths : 2 ≡ 3 = ap length e in absurd (omega (arith, lengths))
+one_task_words (Check a b) (Make n) h k e = let lengths : 3 ≡ 2 = ap length e in absurd (omega (arith, lengths))
+one_task_words (Check a b) (Check c d) h k e = check_is a b c d (ap second e) (ap third e)
+one_task_words (Check a b) (Verify c d None) h k e = let bytes : 99 ≡ 118 = ap first_byte e in absurd (omega (arith, bytes))
+one_task_words (Check a b) (Verify c d (Some m)) h k e = let lengths : 3 ≡ 4 = ap length e in absurd (omega (arith, lengths))
+one_task_words (Check a b) (Format c) h k e = let lengths : 3 ≡ 2 = ap length e in absurd (omega (arith, lengths))
+one_task_words (Check a b) (Parse c) h k e = let lengths : 3 ≡ 2 = ap length e in absurd (omega (arith, lengths))
+one_task_words (Verify a b None) (Check c d) h k e = let bytes : 118 ≡ 99 = ap first_byte e in absurd (omega (arith, bytes))
+one_task_words (Verify a b (Some l)) (Check c d) h k e = let lengths : 4 ≡ 3 = ap length e in absurd (omega (arith, lengths))
+one_task_words (Format a) (Check c d) h k e = let lengths : 2 ≡ 3 = ap length e in absurd (omega (arith, lengths))
+one_task_words (Parse a) (Check c d) h k e = let lengths : 2 ≡ 3 = ap length e in absurd (omega (arith, lengths))
+one_task_words (Parse a) (Parse b) h k e = ap (λ (ws : Words). Parse (second ws)) e
+one_task_words (Format a) (Parse b) h k e = let bytes : 102 ≡ 112 = ap first_byte e in absurd (omega (arith, bytes))
+one_task_words (Parse a) (Format b) h k e = let bytes : 112 ≡ 102 = ap first_byte e in absurd (omega (arith, bytes))
+one_task_words (Verify a b None) (Parse c) h k e = let lengths : 3 ≡ 2 = ap length e in absurd (omega (arith, lengths))
+one_task_words (Verify a b (Some l)) (Parse c) h k e = let lengths : 4 ≡ 2 = ap length e in absurd (omega (arith, lengths))
+one_task_words (Parse a) (Verify c d None) h k e = let lengths : 2 ≡ 3 = ap length e in absurd (omega (arith, lengths))
+one_task_words (Parse a) (Verify c d (Some m)) h k e = let lengths : 2 ≡ 4 = ap length e in absurd (omega (arith, lengths))
+one_task_words (Verify a b None) (Verify c d (Some m)) h k e = let lengths : 3 ≡ 4 = ap length e in absurd (omega (arith, lengths))
+one_task_words (Verify a b (Some l)) (Verify c d None) h k e = let lengths : 4 ≡ 3 = ap length e in absurd (omega (arith, lengths))
+one_task_words (Verify a b None) (Format c) h k e = let lengths : 3 ≡ 2 = ap length e in absurd (omega (arith, lengths))
+one_task_words (Verify a b (Some l)) (Format c) h k e = let lengths : 4 ≡ 2 = ap length e in absurd (omega (arith, lengths))
+one_task_words (Format a) (Verify c d None) h k e = let lengths : 2 ≡ 3 = ap length e in absurd (omega (arith, lengths))
+one_task_words (Format a) (Verify c d (Some m)) h k e = let lengths : 2 ≡ 4 = ap length e in absurd (omega (arith, lengths))
 
 -- the words name one root at most
 pub one_root : (words : Words) (first second : Request) → IsForm words first → IsForm words second → first.root ≡ second.root
@@ -156,7 +169,7 @@ one_root words first second form other =
 pub one_task : (words : Words) (first second : Request) → IsForm words first → IsForm words second → first.task ≡ second.task
 one_task words first second form other =
     let rests = behind_root first.root words (limit_words other.named_limit ++ task_words second.task) (limit_words form.named_limit ++ task_words first.task) second.root (as_named words first form) other.words_are (limit_no_root other.named_limit second.task) in
-    one_task_words first.task second.task
+    one_task_words first.task second.task form.names other.names
     (behind_limit form.named_limit (limit_words form.named_limit ++ task_words first.task) (task_words second.task) (task_words first.task) other.named_limit (limit_as_named form.named_limit first.task form.limit) (sym rests.1) (task_no_limit second.task))
 
 -- ---- what the code meets in turn

@@ -43,7 +43,7 @@ use Rattle.tptp_run.proofs.Stages.{after_read, after_refused, if_told, if_map}
 module _ (asked : Asked) (file : List ℕ) (t : Statements) (d : Derivation) (w : Vocabulary) (answer : Answer) (old new : Option (List ℕ)) where
   -- the report of a check ends the command
   pub report_ends : (report : Report) → ChecksWithLog asked t d w report old new → answer.status ≡ status_of report.verified → answer.text ≡ report.text → IsAnswerWithLog (EndsRun asked file t d w) answer old new
-  report_ends report (log, taken, checks) status text =
+  report_ends report (log, taken, checks, counts) status text =
       (log, taken, inl (record { verified = report.verified; status = status; checks = subst (λ (out : List ℕ). Checks asked t d w report.verified out log) (sym text) checks }))
 
   -- or a line for which there is no room

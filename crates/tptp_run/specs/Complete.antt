@@ -1,5 +1,5 @@
 -- Tasks that meet no fault in the files, and so succeed.
-use Rattle.std.specs.Prelude.{◌≡◌, ℕ, List, length, Some}
+use Rattle.std.specs.Prelude.{⊤, ◌≡◌, ℕ, List, length, Some}
 use Rattle.std.specs.declared.option.Option.{Option}
 use Rattle.tptp_base.specs.declared.item.Item.{Item}
 use Rattle.tptp_base.specs.Store.{Files, file_at}
@@ -8,7 +8,7 @@ use Rattle.tptp_run.specs.CheckedLog.{IsGiven}
 use Rattle.tptp_run.specs.GoodRuns.{AreGood}
 use Rattle.tptp_run.specs.Refuted.{IsInBudget, HasRefutation}
 use Rattle.tptp_run.specs.Spelled.{SpellsItems}
-use Rattle.tptp_run.specs.Words.{Task, Verify, Format, Parse, Check}
+use Rattle.tptp_run.specs.Words.{Task, Verify, Format, Parse, Check, Make}
 
 -- The file has a text within the limits that spells items.
 pub record IsWellSpelled (files : Files) (file : List ℕ) : Type 0 where
@@ -31,9 +31,10 @@ pub record IsRefutedByLog (files : Files) (root : Option (List ℕ)) (problem lo
   pub is : IsGiven (Some files) root problem theory read
   pub refuted : HasRefutation files log theory read
 
--- the files have no fault that the task could meet
+-- the files have no fault that the task could meet; `make` reads none of them
 abbrev pub MeetsNoFault : Files → Option (List ℕ) → ℕ → Task → Type 0
 MeetsNoFault files root limit (Verify problem derivation log) = AreGood files root limit problem derivation
 MeetsNoFault files root limit (Format file) = IsWellSpelled files file
 MeetsNoFault files root limit (Parse file) = IsWellSorted files root file
 MeetsNoFault files root limit (Check problem log) = IsRefutedByLog files root problem log
+MeetsNoFault files root limit (Make count) = ⊤

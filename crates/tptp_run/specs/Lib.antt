@@ -8,6 +8,8 @@ pub mod Ends
 pub mod Formatted
 pub mod GoodRuns
 pub mod LogName
+pub mod Made
+pub mod Making
 pub mod OtherFaults
 pub mod Outcome
 pub mod Parsed

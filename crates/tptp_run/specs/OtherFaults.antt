@@ -17,7 +17,7 @@ use Rattle.tptp_run.specs.Derived.{IsDerivationRefusal}
 use Rattle.tptp_run.specs.Ending.{Ending}
 use Rattle.tptp_run.specs.Sources.{given_names}
 use Rattle.tptp_run.specs.Spelled.{IsTextRefusal}
-use Rattle.tptp_run.specs.Words.{Task, Verify, Format, Parse, Check, Request, IsForm}
+use Rattle.tptp_run.specs.Words.{Task, Verify, Format, Parse, Check, Make, Request, IsForm}
 use Rattle.sort_check.specs.declared.line.TextKind.TheVariants as kind
 
 -- the first fault on the walk through the problem's files is another than a missing file, and it is said
@@ -47,6 +47,7 @@ SaysTaskFault told root (Verify problem derivation log) ending = SaysProblemFaul
 SaysTaskFault told root (Format file) ending = SaysFileFault told file ending
 SaysTaskFault told root (Parse file) ending = SaysProblemFault told root file ending
 SaysTaskFault told root (Check problem log) ending = SaysProblemFault told root problem ending
+SaysTaskFault told root (Make count) ending = ⊥
 
 -- the same of the task that the words ask for
 abbrev pub SaysOtherFault : Option Files → List (List ℕ) → Ending → Type 0

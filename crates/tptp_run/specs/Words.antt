@@ -13,12 +13,14 @@ abbrev pub texts : List (String Global) → List (List ℕ)
 texts words = map string_bytes words
 
 -- What the program can be asked to do: to verify a derivation against a problem, with a log where one is named, to
--- format a file, to parse a problem, and to check a log against a problem.
+-- format a file, to parse a problem, to check a log against a problem, and to make a problem of so many implications
+-- and verify its refutation.
 pub data Task : Type 0 where
   Verify : List ℕ → List ℕ → Option (List ℕ) → Task
   Format : List ℕ → Task
   Parse : List ℕ → Task
   Check : List ℕ → List ℕ → Task
+  Make : ℕ → Task
 
 -- the words of each task
 abbrev pub task_words : Task → List (List ℕ)
@@ -27,18 +29,24 @@ task_words (Verify problem derivation (Some log)) = codes "verify" ∷ problem �
 task_words (Format file) = codes "format" ∷ file ∷ []
 task_words (Parse file) = codes "parse" ∷ file ∷ []
 task_words (Check problem log) = codes "check" ∷ problem ∷ log ∷ []
+task_words (Make count) = codes "make" ∷ decimal count ∷ []
 
 -- a name has at least one byte
 abbrev pub IsFileName : List ℕ → Type 0
 IsFileName name = 0 < length name
 
--- its names are names
+-- a limit of a search, or a count of implications, is in this range
+abbrev pub IsLimit : ℕ → Type 0
+IsLimit limit = (1 ≤ limit) × (limit ≤ 100000)
+
+-- its names are names, and its number is in range
 abbrev pub HasNames : Task → Type 0
 HasNames (Verify problem derivation None) = IsFileName problem × IsFileName derivation
 HasNames (Verify problem derivation (Some log)) = IsFileName problem × IsFileName derivation × IsFileName log
 HasNames (Format file) = IsFileName file
 HasNames (Parse file) = IsFileName file
 HasNames (Check problem log) = IsFileName problem × IsFileName log
+HasNames (Make count) = IsLimit count
 
 -- What is asked of the program: the folder in which included files are looked for too, the greatest number of clauses
 -- in the list of a search, and the task.
@@ -61,9 +69,6 @@ abbrev pub limit_of : Option ℕ → ℕ
 limit_of None = 1000
 limit_of (Some limit) = limit
 
-abbrev pub IsLimit : ℕ → Type 0
-IsLimit limit = (1 ≤ limit) × (limit ≤ 100000)
-
 -- The words ask for this: the options, where they are named, in this order, and then the task.
 pub record IsForm (words : List (List ℕ)) (request : Request) : Type 0 where
   pub named_limit : Option ℕ
@@ -83,6 +88,7 @@ task_of (job.Verify problem derivation log) = Verify problem.now derivation.now 
 task_of (job.Format file) = Format file.now
 task_of (job.Parse file) = Parse file.now
 task_of (job.Check problem log) = Check problem.now log.now
+task_of (job.Make count) = Make count
 
 -- the request of a command as the code holds it
 abbrev pub request_of : Command → Request

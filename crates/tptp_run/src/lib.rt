@@ -8,6 +8,8 @@ mod derived;
 mod format;
 mod given;
 mod laws;
+mod made;
+mod make;
 mod named_log;
 mod parse;
 mod refusals;

@@ -1,5 +1,5 @@
 // The whole of a run: words, files and sinks in, a status out.
-ghost use Rattle.std.specs.Prelude.{⊤, ◌≡◌, ◌⊎◌, ◌≤◌, ℕ, List, IfOk, IfErr, IfSome};
+ghost use Rattle.std.specs.Prelude.{⊤, ◌≡◌, ◌⊎◌, ◌≤◌, ℕ, List, None, IfOk, IfErr, IfSome};
 ghost use Rattle.std.specs.declared.option.Option.{Option};
 ghost use Rattle.tptp_base.specs.Count.{Rose};
 ghost use Rattle.tptp_run.specs.code.Answer.{ending_of, IsAnswerWithLog};
@@ -7,13 +7,15 @@ ghost use Rattle.tptp_run.specs.Complete.{MeetsNoFault};
 ghost use Rattle.tptp_run.specs.Ending;
 ghost use Rattle.tptp_run.specs.Ends.{Ends};
 ghost use Rattle.tptp_run.specs.GoodRuns.{AreGood};
+ghost use Rattle.tptp_run.specs.Made.{files, problem_name};
 ghost use Rattle.tptp_run.specs.OtherFaults.{SaysOtherFault, TakesOtherFault};
 ghost use Rattle.tptp_run.specs.Outcome.{IsAnswer, IsOutcome, IsRefutation, SaysMissing, TakesSomeOfRunLog};
 ghost use Rattle.tptp_run.specs.code.Stop.{HasCause, IfAnswer, IfStopped};
-ghost use Rattle.tptp_run.specs.Words.{texts, Verify, Request, IsForm};
+ghost use Rattle.tptp_run.specs.Words.{texts, Verify, Make, Request, IsForm};
 
 use crate::check::check;
 use crate::format::format;
+use crate::make::make;
 use crate::parse::parse;
 use crate::stop::{Answer, Halt, Stop};
 use crate::verify::verify;
@@ -48,6 +50,12 @@ pub fn run_tptp<S: Store, O: Sink, L: Sink>(
         → IfSome (S.files store.old) (λ files. (request : Request) → IsForm (texts words.now) request
         → (problem derivation : List ℕ) (named : Option (List ℕ)) → request.task ≡ Verify problem derivation named
         → IsRefutation files request.root problem (L.taken log.old) (L.taken log.new)) }
+
+    // So is the log of a success of `make`, from what the made problem gives.
+    ensures made { result ≡ 0
+        → IfSome (S.files store.old) (λ _. (request : Request) → IsForm (texts words.now) request
+        → (count : ℕ) → request.task ≡ Make count
+        → IsRefutation (files count) None problem_name (L.taken log.old) (L.taken log.new)) }
 
     // An answer to a good derivation is that it is verified.
     ensures good { IsAnswer result
@@ -143,6 +151,7 @@ fn run_words<S: Store, L: Sink>(
         Job::Format(file) => format(alloc, store, file),
         Job::Parse(file) => parse(alloc, store, command.root, file),
         Job::Check(problem, log) => check(alloc, store, command.root, problem, log),
+        Job::Make(count) => make(alloc, log, count, command.limit),
     }
 }
 

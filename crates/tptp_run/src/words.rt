@@ -7,7 +7,7 @@ ghost use Rattle.tptp_run.specs.Words.{IsFileName, HaveNoForm};
 
 use itoa::Buffer;
 
-// The greatest limit of a search.
+// The greatest limit of a search, and the greatest count of implications.
 const MAX_LIMIT: u32 = 100_000;
 
 /// What the program is asked to do.
@@ -22,6 +22,8 @@ pub enum Job<'a> {
     Parse(&'a str),
     /// Check a log against a problem: the name of the problem, and that of the log.
     Check(&'a str, &'a str),
+    /// Make a problem of so many implications and its refutation, and verify it.
+    Make(u32),
 }
 
 /// What the words ask for: options, and a job.
@@ -90,7 +92,7 @@ fn read_limit(words: &[String]) -> Option<(Option<u32>, &[String])>
     Some((Some(read_number(number)?), rest))
 }
 
-// Whether a search may have this limit.
+// Whether a search may have this limit, or so many implications be made.
 fn is_limit(limit: u32) -> bool
     ensures { IsTrue result ↔ IsLimit limit }
 {
@@ -104,7 +106,7 @@ fn is_decimal(number: u32, text: &str) -> bool
     Buffer::new().format(number) == text
 }
 
-// The word as a limit: in decimal, without a sign and without zeros in front.
+// The word as a limit or a count: in decimal, without a sign and without zeros in front.
 #[tactic(auto, using(crate::proofs::Requests::limit_read, crate::proofs::Requests::out_of_range, crate::proofs::Requests::other_text))]
 fn read_number(word: &String) -> Option<u32>
     ensures some { IfSome result (λ limit. (string_bytes word.now ≡ decimal limit) × IsLimit limit) }
@@ -131,6 +133,7 @@ fn read_job(words: &[String]) -> Option<Job<'_>>
         "format" => read_format(names),
         "parse" => read_parse(names),
         "check" => read_check(names),
+        "make" => read_count(names),
         _ => None,
     }
 }
@@ -192,6 +195,19 @@ fn read_check(names: &[String]) -> Option<Job<'_>>
 {
     match names {
         [problem, log] => Some(Job::Check(read_name(problem)?, read_name(log)?)),
+        _ => None,
+    }
+}
+
+// A count of implications.
+fn read_count(names: &[String]) -> Option<Job<'_>>
+    ensures some { IfSome result (λ job. (task_words (task_of job) ≡ codes "make" ∷ texts names.now)
+        × HasNames (task_of job)) }
+    ensures none { IfNone result ((task : Task) → task_words task ≡ codes "make" ∷ texts names.now → HasNames task
+        → ⊥) }
+{
+    match names {
+        [count] => Some(Job::Make(read_number(count)?)),
         _ => None,
     }
 }

@@ -15,6 +15,7 @@ use Rattle.verifier.specs.Logged.{entries_text}
 use Rattle.verifier.specs.Report.{IsVerdict, report_text}
 use Rattle.derivation_check.specs.Cases.{Asked, claim_by, lines_over, widened}
 use Rattle.derivation_check.specs.Checks.{Runs, is_verified}
+use Rattle.derivation_check.specs.Counts.{Counts}
 use Rattle.verifier.specs.Declarations.{declarations}
 use Rattle.verifier.specs.Run.{IsStopped}
 use Rattle.derivation_check.specs.declared.checking.Report.{Report}
@@ -36,6 +37,7 @@ pub record Closed (asked : Asked) (d : Derivation) (answers : List LineAnswer) (
   pub closes : Closes verdict d.forms numbers last
   pub verified : report.verified ≡ is_verified verdict
   pub text : report.text ≡ report_text d.names answers verdict
+  pub counts : Counts report answers
   pub taken : Takes old new (entries_text last)
   pub in_range : HaveNumbersInRange last
 

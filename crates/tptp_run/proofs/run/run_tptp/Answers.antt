@@ -3,12 +3,16 @@ use Rattle.tptp_run.specs.code.Answer.{ending_of}
 use Rattle.tptp_run.proofs.Absences.{missing_rises, taken_absence}
 use Rattle.tptp_run.proofs.Completes.{answered_complete}
 use Rattle.tptp_run.proofs.GoodEnds.{answered_good}
-use Rattle.tptp_run.proofs.Headline.{success_refutes}
+use Rattle.tptp_run.proofs.Headline.{success_makes, success_refutes}
 use Rattle.tptp_run.proofs.run.run_tptp.Goals as goal
 
 pub returns-in-Ok-put_all-clause-sound : goal.returns-in-Ok-put_all-clause-sound
 returns-in-Ok-put_all-clause-sound g c =
     success_refutes (g.S.Store.files c.args.store.now) (texts c.args.words.now) c.in-Ok.answer (g.L.Sink.taken c.args.log.now) (g.L.Sink.taken c.answer_words.new.log) c.in-Ok.ensures.ends
+
+pub returns-in-Ok-put_all-clause-made : goal.returns-in-Ok-put_all-clause-made
+returns-in-Ok-put_all-clause-made g c =
+    success_makes (g.S.Store.files c.args.store.now) (texts c.args.words.now) c.in-Ok.answer (g.L.Sink.taken c.args.log.now) (g.L.Sink.taken c.answer_words.new.log) c.in-Ok.ensures.ends
 
 pub returns-in-Ok-put_all-clause-good : goal.returns-in-Ok-put_all-clause-good
 returns-in-Ok-put_all-clause-good g c =

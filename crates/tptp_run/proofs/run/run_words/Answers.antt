@@ -1,9 +1,10 @@
-use Rattle.std.proofs.Common.{ap}
+use Rattle.std.proofs.Common.{ap, subst}
 use Rattle.std.specs.Option.{option_copied}
-use Rattle.tptp_run.specs.Words.{Format, Parse, Check, Verify, texts, request_of, task_of}
+use Rattle.tptp_run.specs.Words.{Format, Parse, Check, Make, Verify, HasNames, texts, request_of, task_of}
 use Rattle.tptp_run.proofs.Absences.{asked_absence}
-use Rattle.tptp_run.proofs.Verifies.{verify_asked, verify_logged}
+use Rattle.tptp_run.proofs.Verifies.{text_stopped, verify_asked, verify_logged}
 use Rattle.tptp_run.proofs.Checks.{check_asked}
+use Rattle.tptp_run.proofs.Makes.{make_asked, make_logged, zero_absence, zero_answer}
 use Rattle.tptp_run.proofs.run.run_words.Goals as goal
 
 pub returns-in-Parse-clause-absence : goal.returns-in-Parse-clause-absence
@@ -33,3 +34,23 @@ returns-in-Format-clause-absence g c =
 pub returns-in-Verify-clause-log : goal.returns-in-Verify-clause-log
 returns-in-Verify-clause-log g c =
     verify_logged (texts c.args.words.now) (request_of c.in-Some.command) c.in-Verify.problem.now c.in-Verify.derivation.now (option_copied c.in-Verify.field-2) c.in-Some.ensures.some (ap task_of c.in-Verify.is) (g.S.Store.files c.args.store.now) (g.L.Sink.taken c.args.log.now) (g.L.Sink.taken c.verify.new.log) c.verify.ensures.log
+
+pub returns-in-Make-clause-ends : goal.returns-in-Make-clause-ends
+returns-in-Make-clause-ends g c =
+    make_asked (texts c.args.words.now) (request_of c.in-Some.command) c.in-Make.count c.in-Some.ensures.some (ap task_of c.in-Make.is) (g.S.Store.files c.args.store.now) c.make.result (g.L.Sink.taken c.args.log.now) (g.L.Sink.taken c.make.new.log) c.make.ensures.ends
+
+pub returns-in-Make-clause-status : goal.returns-in-Make-clause-status
+returns-in-Make-clause-status g c = zero_answer c.make.result c.make.ensures.status
+
+pub returns-in-Make-clause-absence : goal.returns-in-Make-clause-absence
+returns-in-Make-clause-absence g c = zero_absence c.make.result _ c.make.ensures.status
+
+pub returns-in-Make-clause-cause : goal.returns-in-Make-clause-cause
+returns-in-Make-clause-cause g c = text_stopped c.make.result _ _ c.make.ensures.cause
+
+pub returns-in-Make-clause-log : goal.returns-in-Make-clause-log
+returns-in-Make-clause-log g c =
+    make_logged (texts c.args.words.now) (request_of c.in-Some.command) c.in-Make.count c.in-Some.ensures.some (ap task_of c.in-Make.is) (g.S.Store.files c.args.store.now) (g.L.Sink.taken c.args.log.now) (g.L.Sink.taken c.make.new.log) c.make.ensures.log
+
+pub make-requires : goal.make-requires
+make-requires g c = subst HasNames (ap task_of c.in-Make.is) c.in-Some.ensures.some.names
