@@ -1,5 +1,5 @@
-# Writes a problem into the file `problem` and a model of it into the file `model`, by `kind` and `size`: a group of so many
-# elements, a latin square, or a graph of so many nodes in a ring with three colours.
+# Writes a problem into the file `problem` and a model of it into the file `model`, by `kind` and `size`: a group of so
+# many elements, a latin square, or a graph of so many nodes in a ring with three colours.
 function domain(sort, count,    i) {
     printf "tff(d_%s,fi_domain,! [X: %s] : (", sort, sort == "i" ? "$i" : sort > model
     for (i = 0; i < count; i++) printf "%sX = \"e%d\"", i ? " | " : "", i > model

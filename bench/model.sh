@@ -1,7 +1,7 @@
 #!/bin/sh
-# Measures `tptp model` on groups of 10 to 60 elements, a latin square of 30 and a graph of 300 nodes with three colours: how
-# many atoms it evaluates in a second, how fast it reads a model, and its peak memory. Associativity in a group of 60 has
-# 216,000 cases.
+# Measures `tptp model` on groups of 10 to 60 elements, a latin square of 30 and a graph of 300 nodes with three
+# colours: how many atoms it evaluates in a second, how fast it reads a model, and its peak memory. Associativity in a
+# group of 60 has 216,000 cases.
 set -eu
 . "$(dirname "$0")/common.sh"
 tptp=$(program_of tptp_tool verify data/pq.p data/pq.s)
