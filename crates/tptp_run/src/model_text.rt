@@ -17,7 +17,7 @@ use tptp_lexer::{Style, Tokens, tokens};
 
 /// The items that the text of a model spells, with words in place of its distinct objects. The first fault of the text
 /// is refused.
-#[tactic(auto, using(crate::proofs::Models::spells_model, crate::proofs::Models::model_refused))]
+#[tactic(auto, using(crate::proofs::Models::spells_model))]
 pub fn read_model_items(alloc: Global, name: &str, text: &[u8]) -> Result<List<Item>, Halt>
     ensures spelled { IfOk result (λ items. SpellsModel text.now items) }
     ensures refused { IfRefused result (λ answer. IsModelRefusal name.now text.now (ending_of answer)) }
