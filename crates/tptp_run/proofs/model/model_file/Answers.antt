@@ -1,4 +1,4 @@
-use Rattle.std.proofs.Common.{ℕ, ◌-◌, List, subst, sym}
+use Rattle.std.proofs.Common.{ℕ, ◌-◌, List, subst}
 use Rattle.tptp_run.proofs.Models.{file_said}
 use Rattle.tptp_run.specs.code.Answer.{ending_of}
 use Rattle.tptp_run.specs.code.Stop.{IfAnswer}
