@@ -18,7 +18,7 @@ use Rattle.tptp_run.specs.CheckedLog.{IsGiven}
 use Rattle.tptp_run.specs.Denoted.{first_vocabulary, SaysIncludeFault, SaysSortFault}
 use Rattle.tptp_run.specs.Derived.{IsDerivationRefusal}
 use Rattle.tptp_run.specs.Ending.{Ending, says}
-use Rattle.tptp_run.specs.OtherFaults.{SaysWalkFault, SaysProblemFault, SaysFileFault, SaysLinesFault, SaysDerivedFault, SaysModelFileFault, SaysModelledFault, SaysTaskFault, SaysOtherFault, TakesOtherFault}
+use Rattle.tptp_run.specs.OtherFaults.{SaysWalkFault, SaysProblemFault, SaysFileFault, SaysLinesFault, SaysDerivedFault, SaysModelledFault, SaysTaskFault, SaysOtherFault, TakesOtherFault}
 use Rattle.tptp_run.specs.Outcome.{LacksProblem, LacksOther, SaysMissing}
 use Rattle.tptp_run.specs.Parsed.{counted}
 use Rattle.tptp_run.specs.code.Sources.{IsSource}

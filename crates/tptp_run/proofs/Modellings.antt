@@ -1,9 +1,8 @@
 -- A file that has a model of what a problem gives is said to have one.
-use Rattle.std.proofs.Common.{◌≡◌, ◌⊎◌, inl, inr, ℕ, Bool, ◌<◌, ◌-◌, List, [], ◌∷◌, length, Option, None, Some, Result, Ok, Err, if◌then◌else◌, true, refl, sym, ◌∙◌, ap, subst, arith}
+use Rattle.std.proofs.Common.{◌≡◌, inl, inr, ℕ, Bool, ◌<◌, List, [], ◌∷◌, length, Option, None, Some, Result, Ok, Err, if◌then◌else◌, refl, sym, ◌∙◌, ap, subst, arith}
 use Rattle.std.specs.List.{AllByRecursion}
 use Rattle.tptp_base.specs.Store.{Files}
 use Rattle.tptp_base.specs.declared.item.Item.{Item}
-use Rattle.tptp_lexer.specs.declared.fault.LexFault.{LexFault}
 use Rattle.tptp_lexer.specs.declared.style.Style.TheVariants.{Derivation}
 use Rattle.tptp_lexer.specs.declared.token.Tokens.{Tokens}
 use Rattle.tptp_lexer.proofs.Answering as lexing
@@ -21,12 +20,12 @@ use Rattle.sort_check.proofs.LineSorts.{text_extends}
 use Rattle.szs_report.specs.Region.{region_of}
 use Rattle.fi_model.specs.declared.fault.ModelFault.{ModelFault}
 use Rattle.fi_model.specs.Faults.{IsModelFault}
-use Rattle.fi_model.specs.Interpretations.{Interpretation, is_true, True}
+use Rattle.fi_model.specs.Interpretations.{Interpretation, True}
 use Rattle.fi_model.specs.Models.{ModelOf}
 use Rattle.fi_model.proofs.OneModel.{one_model, no_fault}
 use Rattle.tptp_run.specs.Denoted.{first_vocabulary}
 use Rattle.tptp_run.specs.Ending.{Ending}
-use Rattle.tptp_run.specs.Modelled.{IsModelLexed, IsModelRefusal, SpellsModel, worded, SaysModelFault, first_false, are_true, verdict, SaysItems, SaysModel, EndsModel}
+use Rattle.tptp_run.specs.Modelled.{IsModelLexed, IsModelRefusal, SpellsModel, worded, SaysModelFault, first_false, verdict, SaysItems, SaysModel, EndsModel}
 use Rattle.tptp_run.specs.Modelling.{IsModelled}
 use Rattle.tptp_run.specs.Refuted.{IsInBudget}
 use Rattle.tptp_run.proofs.OneFormat.{tokens_no_fault, same_tokens, items_no_fault, same_items}

@@ -1,5 +1,5 @@
 -- How the command `model` ends, by what it meets in turn.
-use Rattle.std.proofs.Common.{◌≡◌, ◌⊎◌, inl, inr, ℕ, ◌+◌, ◌-◌, ◌<◌, ◌≤◌, Bool, true, false, List, [], ◌∷◌, length, drop, get_or, Option, None, Some, IfSome, Result, Ok, Err, if◌then◌else◌, refl, sym, ◌∙◌, ap, subst, arith}
+use Rattle.std.proofs.Common.{◌≡◌, ◌⊎◌, inl, inr, ℕ, ◌+◌, ◌-◌, ◌<◌, ◌≤◌, Bool, true, false, List, [], length, drop, get_or, Option, None, Some, IfSome, Result, Ok, Err, if◌then◌else◌, sym, ◌∙◌, ap, subst}
 use Rattle.std.proofs.lemmas.List.{drop_all}
 use Rattle.tptp_base.specs.declared.read.TheConstants.{FILE_SIZE}
 use Rattle.tptp_base.specs.Count.{Rose}
@@ -7,7 +7,6 @@ use Rattle.tptp_base.specs.Store.{Files, HasFile}
 use Rattle.tptp_base.specs.declared.item.Item.{Item}
 use Rattle.tptp_base.specs.declared.place.Place.{Place}
 use Rattle.tptp_base.proofs.Taken.{takes_nothing}
-use Rattle.tptp_lexer.specs.declared.fault.LexFault.{LexFault}
 use Rattle.tptp_lexer.specs.declared.style.Style.{Style}
 use Rattle.tptp_lexer.specs.declared.token.Token.{Token}
 use Rattle.tptp_lexer.specs.declared.token.Tokens.{Tokens}
@@ -29,7 +28,7 @@ use Rattle.tptp_run.specs.Denoted.{first_vocabulary, IsProblemRefusal}
 use Rattle.tptp_run.specs.Ending.{Ending, AfterFile}
 use Rattle.tptp_run.specs.Modelled.{IsModelLexed, IsModelRefusal, SpellsModel, worded, first_false, SaysModel, EndsModel}
 use Rattle.tptp_run.specs.OtherFaults.{SaysProblemFault, SaysModelFileFault, SaysModelledFault}
-use Rattle.tptp_run.specs.Spelled.{SaysLexFault, SaysGrammarFault}
+use Rattle.tptp_run.specs.Spelled.{SaysGrammarFault}
 use Rattle.tptp_run.specs.Words.{Task, Model, Request, IsForm}
 use Rattle.tptp_run.specs.code.Answer.{ending_of, IsAnswerWithLog}
 use Rattle.tptp_run.specs.code.Ending.{IsReadRefusal}

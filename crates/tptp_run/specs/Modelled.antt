@@ -13,7 +13,6 @@ use Rattle.tptp_lexer.specs.declared.token.Tokens.{Tokens}
 use Rattle.tptp_grammar.specs.declared.fault.GrammarFault.{GrammarFault}
 use Rattle.tptp_grammar.specs.Texts.{IsParsed}
 use Rattle.fof_terms.specs.Vocabulary.{Vocabulary}
-use Rattle.sort_check.specs.declared.line.Line.{Line}
 use Rattle.sort_check.specs.declared.line.GivenEntry.{GivenEntry}
 use Rattle.sort_check.specs.Given.{given_entries}
 use Rattle.szs_report.specs.Region.{region_of}

@@ -2,7 +2,6 @@
 use Rattle.std.specs.Prelude.{◌≡◌, ℕ, List, Ok}
 use Rattle.std.specs.declared.option.Option.{Option}
 use Rattle.tptp_base.specs.Store.{Files}
-use Rattle.fof_terms.specs.Vocabulary.{Vocabulary}
 use Rattle.include_resolve.specs.declared.problem.Problem.{Problem}
 use Rattle.include_resolve.specs.Resolved.{Resolves}
 use Rattle.sort_check.specs.declared.line.Line.{Line}

@@ -1,4 +1,4 @@
-use Rattle.std.proofs.Common.{◌⊎◌, inl, inr}
+use Rattle.std.proofs.Common.{◌⊎◌}
 use Rattle.std.specs.Option.{option_copied}
 use Rattle.tptp_base.specs.Count.{Rose}
 use Rattle.tptp_run.specs.code.Answer.{ending_of}
