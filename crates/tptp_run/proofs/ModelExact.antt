@@ -84,9 +84,9 @@ module _ (files : Files) (root : Option (List ℕ)) (problem file : List ℕ) (e
             fits = fits;
             items = said.0;
             spells = said.1;
-            m = said.2;
-            model = said.3;
-            all_true = said.4;
+            m = said.2.0;
+            model = said.2.1;
+            all_true = said.2.2;
           }
 
   model_exact : EndsModel files root problem file ending → (ending.status ≡ 0) ↔ IsModelled files root problem file
