@@ -18,14 +18,14 @@ use Rattle.tptp_run.specs.CheckedLog.{IsGiven}
 use Rattle.tptp_run.specs.Denoted.{first_vocabulary, SaysIncludeFault, SaysSortFault}
 use Rattle.tptp_run.specs.Derived.{IsDerivationRefusal}
 use Rattle.tptp_run.specs.Ending.{Ending, says}
-use Rattle.tptp_run.specs.OtherFaults.{SaysWalkFault, SaysProblemFault, SaysFileFault, SaysLinesFault, SaysDerivedFault, SaysTaskFault, SaysOtherFault, TakesOtherFault}
+use Rattle.tptp_run.specs.OtherFaults.{SaysWalkFault, SaysProblemFault, SaysFileFault, SaysLinesFault, SaysDerivedFault, SaysModelledFault, SaysTaskFault, SaysOtherFault, TakesOtherFault}
 use Rattle.tptp_run.specs.Outcome.{LacksProblem, LacksOther, SaysMissing}
 use Rattle.tptp_run.specs.Parsed.{counted}
 use Rattle.tptp_run.specs.code.Sources.{IsSource}
 use Rattle.tptp_run.specs.Sources.{given_names}
 use Rattle.tptp_run.specs.Spelled.{IsTextRefusal}
 use Rattle.tptp_run.specs.code.Stop.{IfAnswer, IfRefused}
-use Rattle.tptp_run.specs.Words.{Task, Verify, Format, Parse, Check, Make, Request, IsForm}
+use Rattle.tptp_run.specs.Words.{Task, Verify, Format, Parse, Check, Make, Model, Request, IsForm}
 use Rattle.tptp_run.specs.declared.sources.Source.{Source}
 use Rattle.tptp_run.specs.declared.stop.Answer.{Answer}
 use Rattle.tptp_run.specs.declared.stop.Halt.{Halt}
@@ -154,6 +154,10 @@ module _ (files : Files) (root : Option (List ℕ)) (file : List ℕ) (ending : 
   no_derived_fault name (whole, lines, v, resolves, denotes, said) (inl (written, lacks)) = no_include_fault files root file (included.Missing written) whole lacks resolves
   no_derived_fault name (whole, lines, v, resolves, denotes, (text, has, refused)) (inr (sorted, none)) = no_text files name text has none
 
+no_modelled_fault : (files : Files) (root : Option (List ℕ)) (problem name : List ℕ) (ending : Ending) → SaysModelledFault (Some files) root problem name ending → LacksProblem files root problem ⊎ LacksOther files root problem name → ⊥
+no_modelled_fault files root problem name ending (whole, resolves, said) (inl (written, lacks)) = no_include_fault files root problem (included.Missing written) whole lacks resolves
+no_modelled_fault files root problem name ending (whole, resolves, (text, has, refused)) (inr (sorted, none)) = no_text files name text has none
+
 no_task_fault : (files : Files) (root : Option (List ℕ)) (task : Task) (ending : Ending) → SaysTaskFault (Some files) root task ending → SaysMissing files root task → ⊥
 no_task_fault files root (Verify problem derivation log) ending (inl said) lacks = no_fault_of_other files root problem ending derivation said lacks
 no_task_fault files root (Verify problem derivation log) ending (inr said) lacks = no_derived_fault files root problem ending derivation said lacks
@@ -161,6 +165,8 @@ no_task_fault files root (Format file) ending (text, has, refused) none = no_tex
 no_task_fault files root (Parse file) ending said lacks = no_problem_fault files root file ending said lacks
 no_task_fault files root (Check problem log) ending said lacks = no_fault_of_other files root problem ending log said lacks
 no_task_fault files root (Make count) ending said lacks = lacks
+no_task_fault files root (Model problem model) ending (inl said) lacks = no_fault_of_other files root problem ending model said lacks
+no_task_fault files root (Model problem model) ending (inr said) lacks = no_modelled_fault files root problem model ending said lacks
 
 -- ---- the words that ask for the task
 

@@ -18,11 +18,12 @@ use Rattle.tptp_run.specs.Formatted.{EndsFormat}
 use Rattle.tptp_run.specs.Outcome.{IsAnswer}
 use Rattle.tptp_run.specs.Parsed.{EndsParse}
 use Rattle.tptp_run.specs.Refuted.{HasRefutation}
-use Rattle.tptp_run.specs.Words.{Task, Verify, Format, Parse, Check, Make, Request, IsForm}
+use Rattle.tptp_run.specs.Words.{Task, Verify, Format, Parse, Check, Make, Model, Request, IsForm}
 use Rattle.tptp_run.specs.declared.run.TheConstants.{TOTAL_SIZE}
 use Rattle.tptp_run.specs.declared.stop.Answer.{Answer}
 use Rattle.tptp_run.proofs.Exact.{log_exact}
 use Rattle.tptp_run.proofs.GoodEnds.{verify_good}
+use Rattle.tptp_run.proofs.Modellings.{model_complete}
 use Rattle.tptp_run.proofs.OneEnding.{parse_counts}
 use Rattle.tptp_run.proofs.OneFormat.{format_writes}
 use Rattle.tptp_run.proofs.OneProblem.{one_given, no_include_fault, one_problem, no_sort_fault}
@@ -68,6 +69,7 @@ task_complete files root limit (Format file) ending h ends = format_complete fil
 task_complete files root limit (Parse file) ending h ends = parse_complete files root file ending h ends
 task_complete files root limit (Check problem log) ending h ends = check_complete files root problem log ending h ends
 task_complete files root limit (Make count) ending h ends = ends.status
+task_complete files root limit (Model problem model) ending h ends = model_complete files root problem model ending h ends
 
 ends_complete : (files : Files) (words : List (List ℕ)) (request : Request) (ending : Ending) → Ends files words ending → IsForm words request → MeetsNoFault files request.root request.limit request.task → ending.status ≡ 0
 ends_complete files words request ending (inl none) form h = absurd (none.0 request form)

@@ -39,7 +39,7 @@ use Rattle.tptp_run.specs.Outcome.{IsRefutation}
 use Rattle.tptp_run.specs.Spelled.{SaysLexFault, SaysGrammarFault}
 use Rattle.tptp_run.specs.Sources.{given_names, conjecture_marks, has_conjecture}
 use Rattle.tptp_run.specs.Verifying.{EndsChecked, EndsVerify, SaysDerivation, asked_by, status_of}
-use Rattle.tptp_run.specs.Words.{Task, Verify, Format, Parse, Check, Make, Request, IsForm}
+use Rattle.tptp_run.specs.Words.{Task, Verify, Format, Parse, Check, Make, Model, Request, IsForm}
 use Rattle.tptp_run.specs.declared.run.TheConstants.{TOTAL_SIZE}
 use Rattle.tptp_run.specs.declared.stop.Answer.{Answer}
 use Rattle.tptp_run.proofs.Requests.{one_request}
@@ -61,13 +61,13 @@ no_rule ending rule.TwoConjectures out zero is = no_refusal ending 2 out zero is
 no_rule ending rule.Variables out zero is = no_refusal ending 6 out zero is
 no_rule ending (rule.Limit limit) out zero is = no_refusal ending 6 out zero is
 
-no_lex : {T : Type 0} (name : List ℕ) (fault : LexFault) (ending : Ending) → ending.status ≡ 0 → SaysLexFault name fault ending → T
+pub no_lex : {T : Type 0} (name : List ℕ) (fault : LexFault) (ending : Ending) → ending.status ≡ 0 → SaysLexFault name fault ending → T
 no_lex name (lexed.Byte place) ending zero says = no_refusal ending 2 _ zero says
 no_lex name (lexed.Unfinished place) ending zero says = no_refusal ending 2 _ zero says
 no_lex name (lexed.Limit limit) ending zero says = no_refusal ending 6 _ zero says
 no_lex name lexed.Memory ending zero says = absurd says
 
-no_grammar : {T : Type 0} (name : List ℕ) (fault : GrammarFault) (ending : Ending) → ending.status ≡ 0 → SaysGrammarFault name fault ending → T
+pub no_grammar : {T : Type 0} (name : List ℕ) (fault : GrammarFault) (ending : Ending) → ending.status ≡ 0 → SaysGrammarFault name fault ending → T
 no_grammar name (parsed.Token place) ending zero says = no_refusal ending 2 _ zero says
 no_grammar name (parsed.Profile place) ending zero says = no_refusal ending 2 _ zero says
 no_grammar name (parsed.End place) ending zero says = no_refusal ending 2 _ zero says
@@ -154,6 +154,9 @@ parse_no_verify file problem derivation log e = cc
 check_no_verify : (own other problem derivation : List ℕ) (log : Option (List ℕ)) → Check own other ≡ Verify problem derivation log → ⊥
 check_no_verify own other problem derivation log e = cc
 
+model_no_verify : (own other problem derivation : List ℕ) (log : Option (List ℕ)) → Model own other ≡ Verify problem derivation log → ⊥
+model_no_verify own other problem derivation log e = cc
+
 make_no_verify : (count : ℕ) (problem derivation : List ℕ) (log : Option (List ℕ)) → Make count ≡ Verify problem derivation log → ⊥
 make_no_verify count problem derivation log e = cc
 
@@ -163,6 +166,7 @@ problem_of (Format file) = file
 problem_of (Parse file) = file
 problem_of (Check problem log) = problem
 problem_of (Make count) = []
+problem_of (Model problem model) = problem
 
 task_refutes : (files : Files) (root : Option (List ℕ)) (limit : ℕ) (task : Task) (problem derivation : List ℕ) (named : Option (List ℕ)) (ending : Ending) (old new : Option (List ℕ)) → ending.status ≡ 0 → Takes old new ending.log → EndsTask files root limit task ending
     → task ≡ Verify problem derivation named → IsRefutation files root problem old new
@@ -172,6 +176,7 @@ task_refutes files root limit (Format file) problem derivation named ending old 
 task_refutes files root limit (Parse file) problem derivation named ending old new zero taken ends is = absurd (parse_no_verify file problem derivation named is)
 task_refutes files root limit (Check own other) problem derivation named ending old new zero taken ends is = absurd (check_no_verify own other problem derivation named is)
 task_refutes files root limit (Make count) problem derivation named ending old new zero taken ends is = absurd (make_no_verify count problem derivation named is)
+task_refutes files root limit (Model own other) problem derivation named ending old new zero taken ends is = absurd (model_no_verify own other problem derivation named is)
 
 ends_refutes : (files : Files) (words : List (List ℕ)) (request : Request) (problem derivation : List ℕ) (named : Option (List ℕ)) (ending : Ending) (old new : Option (List ℕ)) → ending.status ≡ 0 → Takes old new ending.log → Ends files words ending
     → IsForm words request → request.task ≡ Verify problem derivation named → IsRefutation files request.root problem old new

@@ -11,6 +11,9 @@ pub mod GoodEnds
 pub mod Headline
 pub mod Makes
 pub mod MarksFit
+pub mod ModelExact
+pub mod Modellings
+pub mod Models
 pub mod OneEnding
 pub mod OneFormat
 pub mod OneProblem

@@ -56,12 +56,12 @@ module _ (name text : List ℕ) (a b : Ending) where
   one_of : (x y : Result Tokens LexFault) → IsLexed text x → IsLexed text y → lexer.IsOne x y
   one_of = lexing.one 0 text (record { start = 0; end = length text }) Problem
 
-  same_tokens : (t u : Tokens) → lexer.IsOne (lexes t) (lexes u) → t ≡ u
+  pub same_tokens : (t u : Tokens) → lexer.IsOne (lexes t) (lexes u) → t ≡ u
   same_tokens t u (inl e) = cc
   same_tokens t u (inr (inl e)) = cc
   same_tokens t u (inr (inr e)) = cc
 
-  tokens_no_fault : {R : Type 0} (t : Tokens) (fault : LexFault) (ending : Ending) → SaysLexFault name fault ending → lexer.IsOne (lexes t) (no_lex fault) → R
+  pub tokens_no_fault : {R : Type 0} (t : Tokens) (fault : LexFault) (ending : Ending) → SaysLexFault name fault ending → lexer.IsOne (lexes t) (no_lex fault) → R
   tokens_no_fault t fault ending h (inl e) = absurd cc
   tokens_no_fault t fault ending h (inr (inl e)) = absurd cc
   tokens_no_fault t fault ending h (inr (inr e)) = said_lex name fault ending h e
@@ -71,12 +71,12 @@ module _ (name text : List ℕ) (a b : Ending) where
   same_lex f g h k (inr (inl e)) = said_lex name f a h e
   same_lex f g h k (inr (inr e)) = said_lex name g b k e
 
-  same_items : (xs ys : List Item) → parser.IsOne (parses xs) (parses ys) → xs ≡ ys
+  pub same_items : (xs ys : List Item) → parser.IsOne (parses xs) (parses ys) → xs ≡ ys
   same_items xs ys (inl e) = cc
   same_items xs ys (inr (inl e)) = cc
   same_items xs ys (inr (inr e)) = cc
 
-  items_no_fault : {R : Type 0} (xs : List Item) (fault : GrammarFault) (ending : Ending) → SaysGrammarFault name fault ending → parser.IsOne (parses xs) (no_parse fault) → R
+  pub items_no_fault : {R : Type 0} (xs : List Item) (fault : GrammarFault) (ending : Ending) → SaysGrammarFault name fault ending → parser.IsOne (parses xs) (no_parse fault) → R
   items_no_fault xs fault ending h (inl e) = absurd cc
   items_no_fault xs fault ending h (inr (inl e)) = absurd cc
   items_no_fault xs fault ending h (inr (inr e)) = said_grammar name fault ending h e

@@ -51,7 +51,7 @@ abbrev vocabulary_or : Vocabulary → Denotation → Vocabulary
 vocabulary_or v (Ok p) = p.1
 vocabulary_or v (Err fault) = v
 
-same_meaning : (lines others : List Line) (v w : Vocabulary) → meaning lines v ≡ meaning others w → (lines ≡ others) × (v ≡ w)
+pub same_meaning : (lines others : List Line) (v w : Vocabulary) → meaning lines v ≡ meaning others w → (lines ≡ others) × (v ≡ w)
 same_meaning lines others v w e = (ap lines_of e, ap (vocabulary_or v) e)
 
 same_sort : (fault other : SortFault) → no_meaning fault ≡ no_meaning other → fault ≡ other

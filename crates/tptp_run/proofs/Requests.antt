@@ -4,7 +4,7 @@ use Rattle.std.specs.Prelude.{decimal}
 use Rattle.std.specs.Str.Parse.{ParsesUnsigned}
 use Rattle.std.proofs.lemmas.Fmt.{parse-decimal, decimal_injective}
 use Rattle.tptp_run.specs.code.Options.{BeginOtherwise, NameRoot, NameNoRoot, NameLimit, NameNoLimit, NameNoTask}
-use Rattle.tptp_run.specs.Words.{Task, Verify, Format, Parse, Check, Make, Request, IsFileName, IsLimit, HasNames, IsForm, HaveNoForm, root_words, limit_words, limit_of, task_words}
+use Rattle.tptp_run.specs.Words.{Task, Verify, Format, Parse, Check, Make, Model, Request, IsFileName, IsLimit, HasNames, IsForm, HaveNoForm, root_words, limit_words, limit_of, task_words}
 
 abbrev Words : Type 0
 Words = List (List ℕ)
@@ -35,6 +35,9 @@ verify_is a b c d l m first then last = cc
 check_is : (a b c d : List ℕ) → a ≡ c → b ≡ d → Check a b ≡ Check c d
 check_is a b c d first then = cc
 
+model_is : (a b c d : List ℕ) → a ≡ c → b ≡ d → Model a b ≡ Model c d
+model_is a b c d first then = cc
+
 -- the words of a task begin with its name
 task_no_root : (task : Task) → BeginOtherwise (codes "--root") (task_words task)
 task_no_root (Verify problem derivation None) rest e = let bytes : 118 ≡ 45 = ap first_byte e in omega (arith, bytes)
@@ -43,6 +46,7 @@ task_no_root (Format file) rest e = let bytes : 102 ≡ 45 = ap first_byte e in 
 task_no_root (Parse file) rest e = let bytes : 112 ≡ 45 = ap first_byte e in omega (arith, bytes)
 task_no_root (Check problem log) rest e = let bytes : 99 ≡ 45 = ap first_byte e in omega (arith, bytes)
 task_no_root (Make count) rest e = let bytes : 109 ≡ 45 = ap first_byte e in omega (arith, bytes)
+task_no_root (Model problem model) rest e = let bytes : 109 ≡ 45 = ap first_byte e in omega (arith, bytes)
 
 task_no_limit : (task : Task) → BeginOtherwise (codes "--limit") (task_words task)
 task_no_limit (Verify problem derivation None) rest e = let bytes : 118 ≡ 45 = ap first_byte e in omega (arith, bytes)
@@ -51,6 +55,7 @@ task_no_limit (Format file) rest e = let bytes : 102 ≡ 45 = ap first_byte e in
 task_no_limit (Parse file) rest e = let bytes : 112 ≡ 45 = ap first_byte e in omega (arith, bytes)
 task_no_limit (Check problem log) rest e = let bytes : 99 ≡ 45 = ap first_byte e in omega (arith, bytes)
 task_no_limit (Make count) rest e = let bytes : 109 ≡ 45 = ap first_byte e in omega (arith, bytes)
+task_no_limit (Model problem model) rest e = let bytes : 109 ≡ 45 = ap first_byte e in omega (arith, bytes)
 
 limit_no_root : (limit : Option ℕ) (task : Task) → BeginOtherwise (codes "--root") (limit_words limit ++ task_words task)
 limit_no_root None task = task_no_root task
@@ -137,6 +142,19 @@ one_task_words (Make n) (Parse a) h k e = let bytes : 109 ≡ 112 = ap first_byt
 one_task_words (Parse a) (Make n) h k e = let bytes : 112 ≡ 109 = ap first_byte e in absurd (omega (arith, bytes))
 one_task_words (Make n) (Check a b) h k e = let lengths : 2 ≡ 3 = ap length e in absurd (omega (arith, lengths))
 one_task_words (Check a b) (Make n) h k e = let lengths : 3 ≡ 2 = ap length e in absurd (omega (arith, lengths))
+one_task_words (Make n) (Model a b) h k e = let lengths : 2 ≡ 3 = ap length e in absurd (omega (arith, lengths))
+one_task_words (Model a b) (Make n) h k e = let lengths : 3 ≡ 2 = ap length e in absurd (omega (arith, lengths))
+one_task_words (Model a b) (Model c d) h k e = model_is a b c d (ap second e) (ap third e)
+one_task_words (Model a b) (Check c d) h k e = let bytes : 109 ≡ 99 = ap first_byte e in absurd (omega (arith, bytes))
+one_task_words (Model a b) (Verify c d None) h k e = let bytes : 109 ≡ 118 = ap first_byte e in absurd (omega (arith, bytes))
+one_task_words (Model a b) (Verify c d (Some m)) h k e = let lengths : 3 ≡ 4 = ap length e in absurd (omega (arith, lengths))
+one_task_words (Model a b) (Format c) h k e = let lengths : 3 ≡ 2 = ap length e in absurd (omega (arith, lengths))
+one_task_words (Model a b) (Parse c) h k e = let lengths : 3 ≡ 2 = ap length e in absurd (omega (arith, lengths))
+one_task_words (Check a b) (Model c d) h k e = let bytes : 99 ≡ 109 = ap first_byte e in absurd (omega (arith, bytes))
+one_task_words (Verify a b None) (Model c d) h k e = let bytes : 118 ≡ 109 = ap first_byte e in absurd (omega (arith, bytes))
+one_task_words (Verify a b (Some l)) (Model c d) h k e = let lengths : 4 ≡ 3 = ap length e in absurd (omega (arith, lengths))
+one_task_words (Format a) (Model c d) h k e = let lengths : 2 ≡ 3 = ap length e in absurd (omega (arith, lengths))
+one_task_words (Parse a) (Model c d) h k e = let lengths : 2 ≡ 3 = ap length e in absurd (omega (arith, lengths))
 one_task_words (Check a b) (Check c d) h k e = check_is a b c d (ap second e) (ap third e)
 one_task_words (Check a b) (Verify c d None) h k e = let bytes : 99 ≡ 118 = ap first_byte e in absurd (omega (arith, bytes))
 one_task_words (Check a b) (Verify c d (Some m)) h k e = let lengths : 3 ≡ 4 = ap length e in absurd (omega (arith, lengths))

@@ -8,7 +8,8 @@ use Rattle.tptp_run.specs.CheckedLog.{IsGiven}
 use Rattle.tptp_run.specs.GoodRuns.{AreGood}
 use Rattle.tptp_run.specs.Refuted.{IsInBudget, HasRefutation}
 use Rattle.tptp_run.specs.Spelled.{SpellsItems}
-use Rattle.tptp_run.specs.Words.{Task, Verify, Format, Parse, Check, Make}
+use Rattle.tptp_run.specs.Modelling.{IsModelled}
+use Rattle.tptp_run.specs.Words.{Task, Verify, Format, Parse, Check, Make, Model}
 
 -- The file has a text within the limits that spells items.
 pub record IsWellSpelled (files : Files) (file : List ℕ) : Type 0 where
@@ -38,3 +39,4 @@ MeetsNoFault files root limit (Format file) = IsWellSpelled files file
 MeetsNoFault files root limit (Parse file) = IsWellSorted files root file
 MeetsNoFault files root limit (Check problem log) = IsRefutedByLog files root problem log
 MeetsNoFault files root limit (Make count) = ⊤
+MeetsNoFault files root limit (Model problem model) = IsModelled files root problem model

@@ -6,9 +6,10 @@ use Rattle.tptp_run.specs.CheckedLog.{EndsCheck}
 use Rattle.tptp_run.specs.Ending.{Ending, says}
 use Rattle.tptp_run.specs.Formatted.{EndsFormat}
 use Rattle.tptp_run.specs.Making.{EndsMake}
+use Rattle.tptp_run.specs.Modelled.{EndsModel}
 use Rattle.tptp_run.specs.Parsed.{EndsParse}
 use Rattle.tptp_run.specs.Verifying.{EndsVerify}
-use Rattle.tptp_run.specs.Words.{Task, Verify, Format, Parse, Check, Make, Request, IsForm, HaveNoForm}
+use Rattle.tptp_run.specs.Words.{Task, Verify, Format, Parse, Check, Make, Model, Request, IsForm, HaveNoForm}
 use Rattle.tptp_run.specs.declared.run.TheConstants.{USAGE}
 
 -- how each task ends, where included files are looked for in the root too, and a search keeps so many clauses at most
@@ -18,6 +19,7 @@ EndsTask files root limit (Format file) ending = EndsFormat files file ending
 EndsTask files root limit (Parse file) ending = EndsParse files root file ending
 EndsTask files root limit (Check problem log) ending = EndsCheck files root problem log ending
 EndsTask files root limit (Make count) ending = EndsMake count limit ending
+EndsTask files root limit (Model problem model) ending = EndsModel files root problem model ending
 
 -- how a run on these words ends
 abbrev pub Ends : Files → List (List ℕ) → Ending → Type 0

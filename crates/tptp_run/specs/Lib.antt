@@ -10,6 +10,8 @@ pub mod GoodRuns
 pub mod LogName
 pub mod Made
 pub mod Making
+pub mod Modelled
+pub mod Modelling
 pub mod OtherFaults
 pub mod Outcome
 pub mod Parsed

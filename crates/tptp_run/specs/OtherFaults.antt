@@ -15,9 +15,10 @@ use Rattle.sort_check.specs.Texts.{denoted}
 use Rattle.tptp_run.specs.Denoted.{first_vocabulary, SaysIncludeFault, SaysSortFault}
 use Rattle.tptp_run.specs.Derived.{IsDerivationRefusal}
 use Rattle.tptp_run.specs.Ending.{Ending}
+use Rattle.tptp_run.specs.Modelled.{IsModelRefusal}
 use Rattle.tptp_run.specs.Sources.{given_names}
 use Rattle.tptp_run.specs.Spelled.{IsTextRefusal}
-use Rattle.tptp_run.specs.Words.{Task, Verify, Format, Parse, Check, Make, Request, IsForm}
+use Rattle.tptp_run.specs.Words.{Task, Verify, Format, Parse, Check, Make, Model, Request, IsForm}
 use Rattle.sort_check.specs.declared.line.TextKind.TheVariants as kind
 
 -- the first fault on the walk through the problem's files is another than a missing file, and it is said
@@ -41,6 +42,14 @@ SaysLinesFault told file given v ending = (text : List ℕ) × HasFile told file
 abbrev pub SaysDerivedFault : Option Files → Option (List ℕ) → List ℕ → List ℕ → Ending → Type 0
 SaysDerivedFault told root problem file ending = (whole : Problem) × (lines : List Line) × (v : Vocabulary) × Resolves told root problem (Ok whole) × (denoted whole.items first_vocabulary kind.Problem ≡ Ok (lines, v)) × SaysLinesFault told file (given_names lines) v ending
 
+-- the first fault of the text of the model in the file is said
+abbrev pub SaysModelFileFault : Option Files → List ℕ → Ending → Type 0
+SaysModelFileFault told file ending = (text : List ℕ) × HasFile told file (λ bytes. bytes ≡ text) × IsModelRefusal file text ending
+
+-- the same, where the problem resolves
+abbrev pub SaysModelledFault : Option Files → Option (List ℕ) → List ℕ → List ℕ → Ending → Type 0
+SaysModelledFault told root problem file ending = (whole : Problem) × Resolves told root problem (Ok whole) × SaysModelFileFault told file ending
+
 -- a fault of the task other than a missing file is said
 abbrev pub SaysTaskFault : Option Files → Option (List ℕ) → Task → Ending → Type 0
 SaysTaskFault told root (Verify problem derivation log) ending = SaysProblemFault told root problem ending ⊎ SaysDerivedFault told root problem derivation ending
@@ -48,6 +57,7 @@ SaysTaskFault told root (Format file) ending = SaysFileFault told file ending
 SaysTaskFault told root (Parse file) ending = SaysProblemFault told root file ending
 SaysTaskFault told root (Check problem log) ending = SaysProblemFault told root problem ending
 SaysTaskFault told root (Make count) ending = ⊥
+SaysTaskFault told root (Model problem model) ending = SaysProblemFault told root problem ending ⊎ SaysModelledFault told root problem model ending
 
 -- the same of the task that the words ask for
 abbrev pub SaysOtherFault : Option Files → List (List ℕ) → Ending → Type 0

@@ -15,7 +15,7 @@ use Rattle.tptp_run.specs.Complete.{IsWellSorted}
 use Rattle.tptp_run.specs.Ending.{Ending}
 use Rattle.tptp_run.specs.Ends.{Ends}
 use Rattle.tptp_run.specs.Made as made
-use Rattle.tptp_run.specs.Words.{Task, Verify, Format, Parse, Check, Make, Request, IsForm}
+use Rattle.tptp_run.specs.Words.{Task, Verify, Format, Parse, Check, Make, Model, Request, IsForm}
 
 -- a status that is an answer, and no fault of the outside or want of memory
 abbrev pub IsAnswer : ℕ → Type 0
@@ -44,6 +44,7 @@ TakesSomeOfTaskLog files root (Format file) old new = new ≡ old
 TakesSomeOfTaskLog files root (Parse file) old new = new ≡ old
 TakesSomeOfTaskLog files root (Check problem log) old new = new ≡ old
 TakesSomeOfTaskLog files root (Make count) old new = TakesSomeOfProblemLog (made.files count) None made.problem_name old new
+TakesSomeOfTaskLog files root (Model problem model) old new = new ≡ old
 
 -- the file of the problem, or a file that it includes, is not there
 abbrev pub LacksProblem : Files → Option (List ℕ) → List ℕ → Type 0
@@ -60,6 +61,7 @@ SaysMissing files root (Format file) = file_at files file ≡ None
 SaysMissing files root (Parse file) = LacksProblem files root file
 SaysMissing files root (Check problem log) = LacksProblem files root problem ⊎ LacksOther files root problem log
 SaysMissing files root (Make count) = ⊥
+SaysMissing files root (Model problem model) = LacksProblem files root problem ⊎ LacksOther files root problem model
 
 -- nothing was taken, or so much of a log from the problem of the task that the words ask for
 abbrev pub TakesSomeOfRunLog : Files → List (List ℕ) → Option (List ℕ) → Option (List ℕ) → Type 0

@@ -13,14 +13,15 @@ abbrev pub texts : List (String Global) → List (List ℕ)
 texts words = map string_bytes words
 
 -- What the program can be asked to do: to verify a derivation against a problem, with a log where one is named, to
--- format a file, to parse a problem, to check a log against a problem, and to make a problem of so many implications
--- and verify its refutation.
+-- format a file, to parse a problem, to check a log against a problem, to make a problem of so many implications and
+-- verify its refutation, and to evaluate a problem in a model.
 pub data Task : Type 0 where
   Verify : List ℕ → List ℕ → Option (List ℕ) → Task
   Format : List ℕ → Task
   Parse : List ℕ → Task
   Check : List ℕ → List ℕ → Task
   Make : ℕ → Task
+  Model : List ℕ → List ℕ → Task
 
 -- the words of each task
 abbrev pub task_words : Task → List (List ℕ)
@@ -30,6 +31,7 @@ task_words (Format file) = codes "format" ∷ file ∷ []
 task_words (Parse file) = codes "parse" ∷ file ∷ []
 task_words (Check problem log) = codes "check" ∷ problem ∷ log ∷ []
 task_words (Make count) = codes "make" ∷ decimal count ∷ []
+task_words (Model problem model) = codes "model" ∷ problem ∷ model ∷ []
 
 -- a name has at least one byte
 abbrev pub IsFileName : List ℕ → Type 0
@@ -47,6 +49,7 @@ HasNames (Format file) = IsFileName file
 HasNames (Parse file) = IsFileName file
 HasNames (Check problem log) = IsFileName problem × IsFileName log
 HasNames (Make count) = IsLimit count
+HasNames (Model problem model) = IsFileName problem × IsFileName model
 
 -- What is asked of the program: the folder in which included files are looked for too, the greatest number of clauses
 -- in the list of a search, and the task.
@@ -89,6 +92,7 @@ task_of (job.Format file) = Format file.now
 task_of (job.Parse file) = Parse file.now
 task_of (job.Check problem log) = Check problem.now log.now
 task_of (job.Make count) = Make count
+task_of (job.Model problem model) = Model problem.now model.now
 
 -- the request of a command as the code holds it
 abbrev pub request_of : Command → Request

@@ -3,6 +3,7 @@ pub mod Answer
 pub mod Ending
 pub mod Making
 pub mod Options
+pub mod Posed
 pub mod Rooms
 pub mod Sources
 pub mod Stop

@@ -140,8 +140,8 @@ fn say_in(
     Ok(say_at(alloc, 3, file, place, &text)?)
 }
 
-// What is said in a line of this name.
-fn in_line_text(alloc: Global, name: &Name, what: &[u8]) -> Result<Vec<u8>, Memory>
+/// What is said in a line of this name.
+pub fn in_line_text(alloc: Global, name: &Name, what: &[u8]) -> Result<Vec<u8>, Memory>
     ensures { IfOk result (λ text. text.items ≡ in_line name.now what.now) }
 {
     let name = print_name(alloc, name)?;

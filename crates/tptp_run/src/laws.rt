@@ -5,18 +5,19 @@ ghost use Rattle.kernel.specs.Statements.{Statements};
 ghost use Rattle.proof_log.specs.Answers.{NestWithin};
 ghost use Rattle.proof_log.specs.declared.reader.TheConstants.{MAX_NESTING};
 ghost use Rattle.derivation_check.specs.Cases.{claimed};
-ghost use Rattle.std.specs.Prelude.{◌≡◌, ◌⊎◌, ℕ, List, [], ◌∷◌, Some, length, codes, Option};
+ghost use Rattle.std.specs.Prelude.{◌≡◌, ◌⊎◌, ◌↔◌, ℕ, List, [], ◌∷◌, Some, length, codes, Option};
 ghost use Rattle.tptp_base.specs.Store.{Files as StoreFiles, file_at};
 ghost use Rattle.tptp_run.specs.CheckedLog.{refuted, IsGiven};
 ghost use Rattle.tptp_run.specs.Contradictory.{RefutesAxioms};
 ghost use Rattle.tptp_run.specs.Ending.{Ending};
 ghost use Rattle.tptp_run.specs.Ends.{Ends};
 ghost use Rattle.tptp_run.specs.Formatted.{EndsFormat};
+ghost use Rattle.tptp_run.specs.Modelling.{IsModelled};
 ghost use Rattle.tptp_run.specs.Outcome.{IsRefutation};
 ghost use Rattle.tptp_run.specs.Parsed.{EndsParse};
 ghost use Rattle.tptp_run.specs.Refuted.{IsInBudget, GivesTheSame, IsExact, IsRefused};
 ghost use Rattle.tptp_run.specs.Verifying.{AreOfRuns, EndsVerify};
-ghost use Rattle.tptp_run.specs.Words.{Check, Verify, Request, IsForm};
+ghost use Rattle.tptp_run.specs.Words.{Check, Model, Verify, Request, IsForm};
 
 /// A check ends with status 0 exactly where the file has the text of a log, within the limits, whose entries refute
 /// what the problem gives. A problem that has a fault gives nothing, and the fault is said.
@@ -24,6 +25,15 @@ pub fn a_check_is_exact()
     ensures { (files : StoreFiles) (words : List (List ℕ)) (request : Request) (problem log : List ℕ) (ending : Ending)
         → Ends files words ending → IsForm words request → request.task ≡ Check problem log
         → IsRefused files request.root problem ending ⊎ IsExact files request.root problem log ending }
+{}
+
+/// The command `model` ends with status 0 exactly where the problem resolves and denotes, the file has the text of a
+/// model of its signature, within the limits, and all that the problem gives is true in it, its conjecture negated.
+pub fn a_model_is_exact()
+    ensures { (files : StoreFiles) (words : List (List ℕ)) (request : Request) (problem model : List ℕ)
+        (ending : Ending)
+        → Ends files words ending → IsForm words request → request.task ≡ Model problem model
+        → (ending.status ≡ 0) ↔ IsModelled files request.root problem model }
 {}
 
 /// The log of a success, put into a store in which the same problem resolves alike, is found to refute the problem, if

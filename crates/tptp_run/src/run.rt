@@ -16,6 +16,7 @@ ghost use Rattle.tptp_run.specs.Words.{texts, Verify, Make, Request, IsForm};
 use crate::check::check;
 use crate::format::format;
 use crate::make::make;
+use crate::model::model;
 use crate::parse::parse;
 use crate::stop::{Answer, Halt, Stop};
 use crate::verify::verify;
@@ -28,7 +29,7 @@ pub const TOTAL_SIZE: u64 = 268_435_456;
 
 /// What is printed where the words have no form of a command.
 pub const USAGE: &str =
-    "usage: tptp [--root D] [--limit N] COMMAND\n  parse FILE\n  format FILE\n  verify PROBLEM DERIVATION [LOG]\n  check PROBLEM LOG\n  make N\n";
+    "usage: tptp [--root D] [--limit N] COMMAND\n  parse FILE\n  format FILE\n  verify PROBLEM DERIVATION [LOG]\n  check PROBLEM LOG\n  make N\n  model PROBLEM MODEL\n";
 
 /// Runs the command that the words ask for, and answers its status: 0 where it succeeded, 1 where the derivation is not
 /// verified, 2 where the words ask for nothing, 3 where a file is missing or a text is faulty, 4 where the store
@@ -152,6 +153,7 @@ fn run_words<S: Store, L: Sink>(
         Job::Parse(file) => parse(alloc, store, command.root, file),
         Job::Check(problem, log) => check(alloc, store, command.root, problem, log),
         Job::Make(count) => make(alloc, log, count, command.limit),
+        Job::Model(problem, file) => model(alloc, store, command.root, problem, file),
     }
 }
 

@@ -24,6 +24,8 @@ pub enum Job<'a> {
     Check(&'a str, &'a str),
     /// Make a problem of so many implications and its refutation, and verify it.
     Make(u32),
+    /// Evaluate a problem in a finite model: the name of the problem, and that of the model.
+    Model(&'a str, &'a str),
 }
 
 /// What the words ask for: options, and a job.
@@ -134,6 +136,7 @@ fn read_job(words: &[String]) -> Option<Job<'_>>
         "parse" => read_parse(names),
         "check" => read_check(names),
         "make" => read_count(names),
+        "model" => read_model_names(names),
         _ => None,
     }
 }
@@ -208,6 +211,19 @@ fn read_count(names: &[String]) -> Option<Job<'_>>
 {
     match names {
         [count] => Some(Job::Make(read_number(count)?)),
+        _ => None,
+    }
+}
+
+// The names of a problem and a model.
+fn read_model_names(names: &[String]) -> Option<Job<'_>>
+    ensures some { IfSome result (λ job. (task_words (task_of job) ≡ codes "model" ∷ texts names.now)
+        × HasNames (task_of job)) }
+    ensures none { IfNone result ((task : Task) → task_words task ≡ codes "model" ∷ texts names.now → HasNames task
+        → ⊥) }
+{
+    match names {
+        [problem, model] => Some(Job::Model(read_name(problem)?, read_name(model)?)),
         _ => None,
     }
 }

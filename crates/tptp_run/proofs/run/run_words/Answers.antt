@@ -1,10 +1,11 @@
 use Rattle.std.proofs.Common.{ap, subst}
 use Rattle.std.specs.Option.{option_copied}
-use Rattle.tptp_run.specs.Words.{Format, Parse, Check, Make, Verify, HasNames, texts, request_of, task_of}
+use Rattle.tptp_run.specs.Words.{Format, Parse, Check, Make, Model, Verify, HasNames, texts, request_of, task_of}
 use Rattle.tptp_run.proofs.Absences.{asked_absence}
 use Rattle.tptp_run.proofs.Verifies.{text_stopped, verify_asked, verify_logged}
 use Rattle.tptp_run.proofs.Checks.{check_asked}
 use Rattle.tptp_run.proofs.Makes.{make_asked, make_logged, zero_absence, zero_answer}
+use Rattle.tptp_run.proofs.Models.{model_asked}
 use Rattle.tptp_run.proofs.run.run_words.Goals as goal
 
 pub returns-in-Parse-clause-absence : goal.returns-in-Parse-clause-absence
@@ -34,6 +35,14 @@ returns-in-Format-clause-absence g c =
 pub returns-in-Verify-clause-log : goal.returns-in-Verify-clause-log
 returns-in-Verify-clause-log g c =
     verify_logged (texts c.args.words.now) (request_of c.in-Some.command) c.in-Verify.problem.now c.in-Verify.derivation.now (option_copied c.in-Verify.field-2) c.in-Some.ensures.some (ap task_of c.in-Verify.is) (g.S.Store.files c.args.store.now) (g.L.Sink.taken c.args.log.now) (g.L.Sink.taken c.verify.new.log) c.verify.ensures.log
+
+pub returns-in-Model-clause-ends : goal.returns-in-Model-clause-ends
+returns-in-Model-clause-ends g c =
+    model_asked (g.S.Store.files c.args.store.now) (texts c.args.words.now) (request_of c.in-Some.command) c.in-Model.problem.now c.in-Model.file.now (g.L.Sink.taken c.args.log.now) c.model.result c.in-Some.ensures.some (ap task_of c.in-Model.is) c.model.ensures.ends
+
+pub returns-in-Model-clause-absence : goal.returns-in-Model-clause-absence
+returns-in-Model-clause-absence g c =
+    asked_absence _ (g.S.Store.files c.args.store.now) (texts c.args.words.now) (request_of c.in-Some.command) (Model c.in-Model.problem.now c.in-Model.file.now) c.model.result c.in-Some.ensures.some (ap task_of c.in-Model.is) c.model.ensures.absence
 
 pub returns-in-Make-clause-ends : goal.returns-in-Make-clause-ends
 returns-in-Make-clause-ends g c =
