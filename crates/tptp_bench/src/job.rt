@@ -1,6 +1,6 @@
 //! What is measured.
 
-/// A job, and how often it is done or how far it goes.
+/// A job, and how often it is done.
 #[derive(Clone, Copy)]
 pub enum Job<'a> {
     /// The file of this name is cut into tokens.
@@ -15,8 +15,6 @@ pub enum Job<'a> {
     Rules { step: StepShape, times: u32 },
     /// The normal form of a formula is made, or the proof to it or back.
     Norm { task: NormTask, times: u32 },
-    /// The empty clause is searched for among the clauses of the file of this name and at most so many members.
-    Search { file: &'a str, limit: u32 },
 }
 
 /// So many lines of a derivation, in this order.
@@ -103,7 +101,6 @@ pub fn read_job(words: &[String]) -> Option<Job<'_>> {
         "graph" => read_graph(rest),
         "rules" => read_rules(rest),
         "norm" => read_norm(rest),
-        "search" => read_search(rest),
         _ => None,
     }
 }
@@ -221,16 +218,6 @@ fn read_formula(word: &str) -> Option<FormulaKind> {
         "implications" => Some(FormulaKind::Implications),
         "unused" => Some(FormulaKind::Unused),
         "outermost" => Some(FormulaKind::Outermost),
-        _ => None,
-    }
-}
-
-fn read_search(words: &[String]) -> Option<Job<'_>> {
-    match words {
-        [file, limit] => Some(Job::Search {
-            file: file.as_str(),
-            limit: number(limit)?,
-        }),
         _ => None,
     }
 }

@@ -8,12 +8,10 @@
 //!     graph LINES forward|reverse TIMES              orders the lines of a derivation
 //!     rules STEP PREDICATES PAIRS TIMES              recognises a step, or refuses it by all rules
 //!     norm norm|forth|back FORMULA SIZE TIMES        makes a normal form, or the proof to it or back
-//!     search FILE LIMIT                              searches among the clauses of a text for the empty one
 //!
 //! The scripts of `bench/` run it.
 #![tactic(auto)]
 
-mod counted;
 mod counting;
 mod entries;
 mod formulas;
@@ -25,7 +23,6 @@ mod normal_forms;
 mod parts;
 mod printing;
 mod recognising;
-mod searching;
 mod steps;
 mod symbols;
 
@@ -83,10 +80,6 @@ fn run<R: Files + Print + AllocGlobal>(rt: &R, job: Job) -> Result<()> {
         Job::Norm { task, times } => {
             let count = normal_forms::made(alloc, task, times)?;
             println!(rt; "{count} nodes")?;
-        }
-        Job::Search { file, limit } => {
-            let ending = searching::ending_of(alloc, &text_of(rt, file)?, limit)?;
-            println!(rt; "{ending}")?;
         }
     }
     Ok(())
