@@ -1,0 +1,5 @@
+pub mod Among
+pub mod Counted
+pub mod Formed
+pub mod Lacking
+pub mod Lines

@@ -1,0 +1,2 @@
+pub mod Clausified
+pub mod code

@@ -1,0 +1,7 @@
+pub mod AlikeFacts
+pub mod AtomsFacts
+pub mod Chosen
+pub mod Found
+pub mod Offered
+pub mod Replaced
+pub mod Walked

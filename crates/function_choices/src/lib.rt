@@ -1,0 +1,16 @@
+//! The choice of functions of a line that take the places of a parent's existential variables, and the line by them.
+#![tactic(auto)]
+
+mod alike;
+mod arguments;
+mod atoms;
+mod choice;
+mod choosing;
+mod finding;
+mod laws;
+mod lines;
+mod symbols;
+
+pub use choice::{Choice, choose_functions};
+pub use laws::chosen_as_skolemized;
+pub use lines::clausified;

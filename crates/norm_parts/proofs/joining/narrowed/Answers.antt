@@ -1,0 +1,8 @@
+use Rattle.std.proofs.Common.{refl}
+use Rattle.derive_kit.proofs.Built.{ok_map}
+use Rattle.norm_parts.proofs.Gathered.{narrowed_cut}
+use Rattle.norm_parts.proofs.joining.narrowed.Goals as goal
+
+pub returns : goal.returns
+returns c =
+    ok_map c.cut_under.result (λ made f. narrowed_cut c.args.own.now c.in_ok-copy_all.field-0 c.args.first _ c.in_ok-all.all c.args.part made c.in_ok-all.ensures refl c.in_ok-copy_all.ensures f) c.cut_under.ensures

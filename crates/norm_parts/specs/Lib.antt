@@ -1,0 +1,4 @@
+pub mod ByParts
+pub mod Parts
+pub mod Shown
+pub mod code

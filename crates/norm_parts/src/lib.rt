@@ -1,0 +1,13 @@
+//! Lines that follow part by part: the parts of a normal form, what shows each, and proofs of the line from them.
+#![tactic(auto)]
+
+mod candidates;
+mod deciding;
+mod joining;
+mod proving;
+mod splitting;
+
+pub use deciding::by_parts;
+pub use joining::line_of_parts;
+pub use proving::{line_by_parts, shown_by_parts};
+pub use splitting::{copy_path, parts};
