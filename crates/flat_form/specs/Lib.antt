@@ -1,0 +1,4 @@
+pub mod Flat
+pub mod Renumbered
+pub mod Variables
+pub mod code

@@ -1,0 +1,12 @@
+pub mod GatherFacts
+pub mod Gathered
+pub mod LooseFacts
+pub mod LooseFlat
+pub mod MoveFacts
+pub mod NormWalk
+pub mod Occurrence
+pub mod Opened
+pub mod Permutations
+pub mod Refuting
+pub mod Reordered
+pub mod Reordering

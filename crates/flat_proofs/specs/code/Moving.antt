@@ -1,0 +1,52 @@
+-- Proofs between a formula and the quantifiers that are pulled out of it over the rest.
+use Rattle.std.specs.Prelude.{ℕ, Bool, true, false, ◌+◌, ◌≤◌, List, [], ◌∷◌}
+use Rattle.std.specs.List.{AllByRecursion}
+use Rattle.fof_terms.specs.Sorts.{binder_depth}
+use Rattle.fof_terms.specs.declared.term.Term.{Var}
+use Rattle.fof_terms.specs.declared.form.Form.{Form, And, Or, All}
+use Rattle.kernel.specs.declared.proof.Proof.{Proof, Hyp, AndI, AndE, OrI, OrE, ImpI, ImpE, AllI, AllE}
+use Rattle.norm_proofs.specs.code.Steps.{Between}
+use Rattle.flat_proofs.specs.code.Loose.{loose, closed_of}
+
+-- by the conjunction what the parts say of its members, the first of which has number k
+abbrev pub and_links : ℕ → List Proof → List Proof
+and_links k [] = []
+and_links k (p ∷ ps) = ImpE p (AndE k (Hyp 0)) ∷ and_links (k + 1) ps
+
+-- the disjunction by what the parts say of each member
+abbrev pub or_links : List Form → ℕ → List Proof → List Proof
+or_links to k [] = []
+or_links to k (p ∷ ps) = OrI to k (ImpE p (Hyp 0)) ∷ or_links to (k + 1) ps
+
+-- from a node to the node of what the parts lead to
+abbrev pub linked : Bool → List Form → List Form → List Proof → Proof
+linked true from to ps = ImpI (And from) (AndI (and_links 0 ps))
+linked false from to ps = ImpI (Or from) (OrE (Or to) (Hyp 0) (or_links to 0 ps))
+
+-- between the node of the first formulas and that of the second
+abbrev pub link_tree : Bool → Bool → List Form → List Form → List Proof → Proof
+link_tree kind true as_ cs ps = linked kind as_ cs ps
+link_tree kind false as_ cs ps = linked kind cs as_ ps
+
+-- the same for a universal quantifier over the formula
+abbrev pub under_all : ℕ → Form → Proof → Proof
+under_all s from p = ImpI (All s from) (AllI s (ImpE p (AllE (Var 0) (Hyp 0))))
+
+abbrev pub under_tree : Bool → ℕ → Form → Form → Proof → Proof
+under_tree true s a c p = under_all s a p
+under_tree false s a c p = under_all s c p
+
+-- between the formula and the quantifiers that are pulled out of it
+abbrev pub IsMoved : Bool → ℕ → Form → Proof → Type 0
+IsMoved forth n a p = Between forth n p a (closed_of (loose a))
+
+-- the same for each of the formulas
+abbrev pub AreMoved : Bool → ℕ → List Form → List Proof → Type 0
+AreMoved forth n [] [] = Unit {0}
+AreMoved forth n [] (p ∷ ps) = ⊥
+AreMoved forth n (a ∷ as_) [] = ⊥
+AreMoved forth n (a ∷ as_) (p ∷ ps) = IsMoved forth n a p × AreMoved forth n as_ ps
+
+-- the formulas' quantifiers and bodies have at most d binders inside each other
+abbrev pub Bounded : ℕ → List Form → Type 0
+Bounded d = AllByRecursion (λ a. binder_depth (closed_of (loose a)) ≤ d)
