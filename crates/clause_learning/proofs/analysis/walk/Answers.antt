@@ -1,0 +1,44 @@
+use Rattle.std.proofs.Common.{ℕ, Bool, sym, subst, refl, ◌∙◌}
+use Rattle.clause_learning.specs.Valuations.{HasAtoms}
+use Rattle.clause_learning.specs.code.Trails.{clauses_of}
+use Rattle.clause_learning.specs.code.Held.{IsPassed}
+use Rattle.clause_learning.proofs.Stating.{walking, walk_at, walk_reason, walked_on, walk_stopped, walk_ended}
+use Rattle.clause_learning.proofs.analysis.walk.Goals as goal
+
+pub walk-init : goal.walk-init
+walk-init c = record { walking = walking (clauses_of c.args.clauses.now) c.args.from.now c.args.marks.now c.args.trail.now c.requires.held c.requires.trail; marks = refl }
+
+pub pass-requires : goal.pass-requires
+pass-requires c = let P : ℕ → Type 0 = λ n. HasAtoms n (clauses_of c.args.clauses.now) in subst P (sym c.walk.invariant.marks) c.requires.within
+
+pub returns-then-branch-clause-walked : goal.returns-then-branch-clause-walked
+returns-then-branch-clause-walked c =
+    let clauses = clauses_of c.args.clauses.now in
+    let first = c.args.trail.now in
+    let old = c.walk.trail in
+    let new = c.undo.new.self in
+    let s = c.in-Some.step in
+    let w = c.walk.invariant.walking in
+    let undone = c.in-Some.ensures in
+    let P : Bool → Type 0 = λ b. IsPassed clauses c.pass.new.from c.pass.new.marks new.values s b in
+    let passed = c.in_ok-pass.ensures.passed new.values (walk_reason clauses c.walk.from c.walk.marks first old new s w undone) (walk_at clauses c.walk.from c.walk.marks first old new s w undone) in
+    walk_stopped clauses c.walk.from c.walk.marks first old new s w undone c.pass.new.from c.pass.new.marks (subst P c.if-branch.true passed)
+
+pub walk-preserved : goal.walk-preserved
+walk-preserved c =
+    let clauses = clauses_of c.args.clauses.now in
+    let first = c.args.trail.now in
+    let old = c.walk.trail in
+    let new = c.undo.new.self in
+    let s = c.in-Some.step in
+    let w = c.walk.invariant.walking in
+    let undone = c.in-Some.ensures in
+    let P : Bool → Type 0 = λ b. IsPassed clauses c.pass.new.from c.pass.new.marks new.values s b in
+    let passed = c.in_ok-pass.ensures.passed new.values (walk_reason clauses c.walk.from c.walk.marks first old new s w undone) (walk_at clauses c.walk.from c.walk.marks first old new s w undone) in
+    record {
+      walking = walked_on clauses c.walk.from c.walk.marks first old new s w undone c.pass.new.from c.pass.new.marks (subst P c.if-branch.false passed);
+      marks = c.in_ok-pass.ensures.many ∙ c.walk.invariant.marks;
+    }
+
+pub returns-clause-walked : goal.returns-clause-walked
+returns-clause-walked c = walk_ended (clauses_of c.args.clauses.now) c.walk.from c.walk.marks c.args.trail.now c.walk.trail c.walk.invariant.walking c.in_default.ensures.steps

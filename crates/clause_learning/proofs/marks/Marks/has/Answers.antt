@@ -1,0 +1,7 @@
+use Rattle.std.proofs.Common.{false, sym, ap, ◌∙◌}
+use Rattle.std.specs.Option.{option_copied}
+use Rattle.clause_learning.proofs.Members.{none_or}
+use Rattle.clause_learning.proofs.marks.Marks.has.Goals as goal
+
+pub returns-in-None : goal.returns-in-None
+returns-in-None c = sym (none_or c.args.self.now.marks c.args.atom false (sym c.get.ensures.value ∙ ap option_copied c.in-None.is))

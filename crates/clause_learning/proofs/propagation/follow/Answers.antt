@@ -1,0 +1,9 @@
+use Rattle.std.proofs.Common.{ℕ, sym, subst}
+use Rattle.clause_learning.specs.Valuations.{HasAtoms}
+use Rattle.clause_learning.specs.code.Trails.{clauses_of}
+use Rattle.clause_learning.proofs.propagation.follow.Goals as goal
+
+pub visit-requires-clause-within : goal.visit-requires-clause-within
+visit-requires-clause-within c =
+    let P : ℕ → Type 0 = λ n. HasAtoms n (clauses_of c.args.clauses.now) in
+    subst P (sym c.loop-at.invariant.many) c.requires.within

@@ -1,0 +1,4 @@
+pub mod Literals
+pub mod Refutations
+pub mod Valuations
+pub mod code

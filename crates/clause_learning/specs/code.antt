@@ -1,0 +1,6 @@
+-- What private contracts alone say of the code. Nothing public rests on this.
+pub mod Held
+pub mod Marked
+pub mod States
+pub mod Trails
+pub mod Weights

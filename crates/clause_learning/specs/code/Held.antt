@@ -1,0 +1,69 @@
+-- What is held while clauses are resolved: a clause that follows, whose atoms are marked.
+use Rattle.std.specs.Prelude.{◌≡◌, ◌<◌, ◌+◌, ◌-◌, ◌*◌, ◌^◌, ◌⊎◌, ◌++◌, ◌∷◌, [], ℕ, suc, length, Bool, true, false, List, Option, Some, None, slice_get}
+use Rattle.std.specs.List.{Contains}
+use Rattle.clause_learning.specs.declared.literal.Literal.{Literal}
+use Rattle.clause_learning.specs.declared.trail.Value.{Value}
+use Rattle.clause_learning.specs.declared.trail.Step.{Step}
+use Rattle.clause_learning.specs.declared.trail.Trail.{Trail}
+use Rattle.clause_learning.specs.declared.marks.Marks.{Marks}
+use Rattle.clause_learning.specs.Literals.{complement}
+use Rattle.clause_learning.specs.Refutations.{IsDerived, HasSame}
+use Rattle.clause_learning.specs.code.Trails.{value_at, Fails, IsConflict, IsJustified, IsTrail}
+use Rattle.clause_learning.specs.code.Weights.{weight_of}
+use Rattle.clause_learning.specs.code.Marked.{mark_at, AreClear, AreListed, AreMarked, IsUnmarkedAt}
+
+-- a clause that follows, and its marks
+pub record IsFollowing (clauses : List (List Literal)) (from : List ℕ) (m : Marks) (lits : List Literal) : Type 0 where
+  pub derived : IsDerived complement clauses from lits
+  pub marked : (x : Literal) → Contains lits x → mark_at m x.atom ≡ true
+  pub only : (a : ℕ) → mark_at m a ≡ true → (x : Literal) × Contains lits x × (x.atom ≡ a)
+  pub listed : AreListed m
+
+-- a clause that follows and is false
+pub record IsHeld (clauses : List (List Literal)) (from : List ℕ) (m : Marks) (values : List (Option Value)) : Type 0 where
+  pub lits : List Literal
+  pub follows : IsFollowing clauses from m lits
+  pub fails : (x : Literal) → Contains lits x → Fails values x
+
+-- a clause that follows, and was false before l lost its value
+pub record IsHeldAt (clauses : List (List Literal)) (from : List ℕ) (m : Marks) (values : List (Option Value)) (l : Literal) : Type 0 where
+  pub lits : List Literal
+  pub follows : IsFollowing clauses from m lits
+  pub free : value_at values l.atom ≡ None
+  pub fails : (x : Literal) → Contains lits x → Fails values x ⊎ (x ≡ complement l)
+
+-- the atoms of the clause are marked besides, but for this one
+pub record IsMerged (old : Marks) (clause : List Literal) (atom : ℕ) (new : Marks) : Type 0 where
+  pub mid : Marks
+  pub marked : AreMarked old clause mid
+  pub unmarked : IsUnmarkedAt mid atom new
+
+-- The walk stops at a step that was taken freely, where what is held has the opposite of its literal; else what it holds
+-- is false.
+abbrev pub IsPassed : List (List Literal) → List ℕ → Marks → List (Option Value) → Step → Bool → Type 0
+IsPassed clauses from m values s true = IsHeldAt clauses from m values s.literal × (mark_at m s.literal.atom ≡ true) × (s.reason ≡ None)
+IsPassed clauses from m values s false = IsHeld clauses from m values
+
+-- the walk stops at l: what is held has its opposite, and the trail ends before it
+pub record IsStopped (clauses : List (List Literal)) (from : List ℕ) (m : Marks) (old new : Trail) (l : Literal) : Type 0 where
+  pub held : IsHeldAt clauses from m new.values l
+  pub marked : mark_at m l.atom ≡ true
+  pub within : l.atom < length new.values
+  pub many : length new.values ≡ length old.values
+  pub trail : IsTrail clauses new
+  pub before : weight_of old < weight_of new + 2 * 3 ^ (length new.values - suc (length new.steps))
+
+-- the walk came to the trail's begin, and what is held has no literal; or it stops at a literal that was taken freely
+abbrev pub IsWalked : List (List Literal) → List ℕ → Marks → Trail → Trail → Option Literal → Type 0
+IsWalked clauses from m old new None = IsDerived complement clauses from []
+IsWalked clauses from m old new (Some l) = IsStopped clauses from m old new l
+
+-- l is the asserted literal, and the others are those of marked atoms that are false
+pub record IsCollected (l : Literal) (values : List (Option Value)) (m : Marks) (lits : List Literal) : Type 0 where
+  pub asserted : Contains lits l
+  pub only : (x : Literal) → Contains lits x → (x ≡ l) ⊎ ((mark_at m x.atom ≡ true) × Fails values x)
+  pub all : (x : Literal) → Contains m.touched x.atom → mark_at m x.atom ≡ true → Fails values x → Contains lits x
+
+-- from no clause and no mark, the clause of this number is held
+abbrev pub IsBegun : List (List Literal) → ℕ → List ℕ → Marks → List ℕ → Marks → Type 0
+IsBegun clauses k from m from' m' = (values : List (Option Value)) (atoms : ℕ) → from ≡ [] → AreClear atoms m → AreListed m → IsConflict clauses values k → IsHeld clauses from' m' values

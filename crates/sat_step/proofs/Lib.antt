@@ -1,0 +1,6 @@
+pub mod Lawful
+pub mod Sound
+pub mod Renaming
+pub mod Codes
+pub mod Table
+pub mod Answering
