@@ -22,8 +22,8 @@ returns-in-Refuted c =
     let A : Outcome → Type 0 = λ o. Answers c.len.result n.clauses o in
     let L : List Learned → Type 0 = λ ls. IsRefuted c.args.clauses.now ls in
     let is : c.in_ok-log-in-Refuted.log ≡ map (read_learned n.atoms) c.in-Refuted.log =
-          c.in_ok-log-in-Refuted.ensures ∙ ap (λ (as_ : List AtomOf). map (read_learned as_) c.as_slice-in-Refuted.result.now) c.as_slice.ensures
-          ∙ ap (λ (ls : List Step). map (read_learned n.atoms) ls) c.as_slice-in-Refuted.ensures in
+    c.in_ok-log-in-Refuted.ensures ∙ ap (λ (as_ : List AtomOf). map (read_learned as_) c.as_slice-in-Refuted.result.now) c.as_slice.ensures
+    ∙ ap (λ (ls : List Step). map (read_learned n.atoms) ls) c.as_slice-in-Refuted.ensures in
     subst L (sym is) (refuted_read c.args.clauses.now n c.in_ok-atoms.ensures c.in-Refuted.log (subst A c.in-Refuted.is c.in_ok-log.ensures))
 
 pub returns : goal.returns
@@ -33,6 +33,6 @@ returns c =
     let M : ℕ → Type 0 = λ k. IsModel k n.clauses c.in-Valuation.signs in
     let L : List Lit → Type 0 = λ ls. Satisfies (positive_atoms ls) c.args.clauses.now in
     let is : c.in_ok-lits-in-Valuation.lits ≡ sign_lits n.atoms 0 c.in-Valuation.signs =
-          c.in_ok-lits-in-Valuation.ensures ∙ ap (λ (as_ : List AtomOf). sign_lits as_ 0 c.as_slice-in-Valuation-2.result.now) c.as_slice-in-Valuation.ensures
-          ∙ ap (λ (ss : List Bool). sign_lits n.atoms 0 ss) c.as_slice-in-Valuation-2.ensures in
+    c.in_ok-lits-in-Valuation.ensures ∙ ap (λ (as_ : List AtomOf). sign_lits as_ 0 c.as_slice-in-Valuation-2.result.now) c.as_slice-in-Valuation.ensures
+    ∙ ap (λ (ss : List Bool). sign_lits n.atoms 0 ss) c.as_slice-in-Valuation-2.ensures in
     subst L (sym is) (model_satisfies c.args.clauses.now n c.in-Valuation.signs c.in_ok-atoms.ensures (subst M c.len.ensures (subst A c.in-Valuation.is c.in_ok-log.ensures)))

@@ -26,16 +26,16 @@ pub returns-in_ok-push-clause-numbered : goal.returns-in_ok-push-clause-numbered
 returns-in_ok-push-clause-numbered c =
     let old = c.args.self.now in
     let both = more_keys text same knows old.keys.keys c.insert_full.new.self.keys c.in_ok-key.key c.in_ok-number.is_new old.atoms c.args.atom.now c.in_ok-number.ensures.added c.if-is_new.true c.in_ok-number.ensures.keys c.requires.codes
-          c.in_ok-key.ensures c.requires.distinct in
-    let P : List AtomOf → Type 0 = λ as_. AreNumbered (record { atoms = as_; keys = c.insert_full.new.self; }) in
+    c.in_ok-key.ensures c.requires.distinct in
+    let P : List AtomOf → Type 0 = λ as_. AreNumbered (record { atoms = as_; keys = c.insert_full.new.self }) in
     let is : old.atoms ++ c.args.atom.now ∷ [] ≡ c.push.new.self = ap (λ (a : AtomOf). old.atoms ++ a ∷ []) (sym c.in_ok-copy.ensures) ∙ sym c.in_ok-push.ensures.ok in
-    subst P is (record { codes = both.0; distinct = both.1; })
+    subst P is (record { codes = both.0; distinct = both.1 })
 
 pub returns-in_ok-push-clause-found : goal.returns-in_ok-push-clause-found
 returns-in_ok-push-clause-found c =
     let old = c.args.self.now in
     let both = more_keys text same knows old.keys.keys c.insert_full.new.self.keys c.in_ok-key.key c.in_ok-number.is_new old.atoms c.args.atom.now c.in_ok-number.ensures.added c.if-is_new.true c.in_ok-number.ensures.keys c.requires.codes
-          c.in_ok-key.ensures c.requires.distinct in
+    c.in_ok-key.ensures c.requires.distinct in
     let is : old.atoms ++ c.args.atom.now ∷ [] ≡ c.push.new.self = ap (λ (a : AtomOf). old.atoms ++ a ∷ []) (sym c.in_ok-copy.ensures) ∙ sym c.in_ok-push.ensures.ok in
     let P : List AtomOf → Type 0 = λ as_. slice_get as_ c.in_ok-number.number ≡ Some c.args.atom.now in
     subst P is (found_at text same knows c.insert_full.new.self.keys c.in_ok-key.key c.in_ok-number.number (old.atoms ++ c.args.atom.now ∷ []) c.args.atom.now tells both.0 c.in_ok-key.ensures c.in_ok-number.ensures.stored)
