@@ -1,6 +1,7 @@
 pub mod Asked
 pub mod Covered
 pub mod Entries
+pub mod Feeding
 pub mod Givens
 pub mod Greatest
 pub mod Lists

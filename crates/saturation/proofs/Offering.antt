@@ -1,5 +1,5 @@
 -- What a clause offers is complete, and the indexes have it once it was entered.
-use Rattle.std.specs.Prelude.{ℕ, Bool, true, false, List, [], ◌∷◌, ◌++◌, ◌≡◌, map, length, slice_get, Option, Some, option_to_list, refl}
+use Rattle.std.specs.Prelude.{ℕ, Bool, true, false, List, [], ◌∷◌, ◌++◌, ◌≡◌, length, slice_get, Option, Some, option_to_list, refl}
 use Rattle.std.specs.List.{Contains, flat_map}
 use Rattle.std.proofs.Common.{ap, sym, subst, ◌∙◌, arith, inl, inr, zero, suc}
 use Rattle.std.proofs.lemmas.List.Elements.{Contains-append_left, Contains-append_right}
@@ -13,8 +13,8 @@ use Rattle.clause_index.specs.Entries.{entry_of}
 use Rattle.superpose.specs.declared.used.Used.{Used}
 use Rattle.superpose.specs.Used.{AreUsed}
 use Rattle.saturation.specs.declared.offers.Offer.{Offer}
-use Rattle.saturation.specs.code.Offers.{on_lit, offer_of_atom, offer_of_side, offer_of_term, atom_at, side_at, spot_at, atom_offers, side_offers, spot_offers}
-use Rattle.saturation.specs.code.Entered.{IsEntered, AreEntered}
+use Rattle.saturation.specs.code.Offers.{on_lit, offer_of_atom, offer_of_side, offer_of, atom_at, side_at, spot_at, atom_offers, side_offers, spot_offers}
+use Rattle.saturation.specs.code.Entered.{IsEntered, AreEntered, entries_of}
 use Rattle.saturation.proofs.Passing.{AreOffered}
 use Rattle.saturation.proofs.Lists.{no_member, got_pushed, to_mapped}
 
@@ -34,14 +34,12 @@ side_offered false l r = refl
 side_offered true l r = refl
 
 -- each term that inferences use is offered
-pub all_offered : (lits : List Lit) (used : Used) (literals terms : List Offer) → AreUsed lits used → literals ≡ atom_offers lits used.lits → terms ≡ side_offers lits used.sides ++ spot_offers lits used.spots
-    → AreOffered lits literals terms
-all_offered lits used literals terms h is also = record {
+pub all_offered : (lits : List Lit) (used : Used) → AreUsed lits used → AreOffered lits (atom_offers lits used.lits) (side_offers lits used.sides ++ spot_offers lits used.spots)
+all_offered lits used h = record {
   atoms = λ i sign p ts eligible at.
       let o : Offer = record { positive = sign; term = App p ts } in
       let found : atom_at lits i ≡ Some o = ap (on_lit (λ l. offer_of_atom l.positive l.atom)) at in
-      subst (λ (os : List Offer). Contains os o) (sym is)
-      (in_flat (λ n. option_to_list (atom_at lits n)) used.lits i o (h.whole i eligible) (in_option (atom_at lits i) o found));
+      in_flat (λ n. option_to_list (atom_at lits n)) used.lits i o (h.whole i eligible) (in_option (atom_at lits i) o found);
   sides = λ i flipped l r eligible at not_less.
       let o : Offer = record { positive = true; term = l } in
       let side = h.whole_sides i flipped eligible (record { l = l; r = r; here = at; not_less = not_less }) in
@@ -49,18 +47,16 @@ all_offered lits used literals terms h is also = record {
       let found : side_at lits side.0 ≡ Some o =
       ap (on_lit (λ k. offer_of_side side.0.flipped k.atom)) there
       ∙ subst (λ b. on_lit (λ k. offer_of_side b k.atom) (Some (equation flipped l r)) ≡ Some o) (sym side.3) (side_offered flipped l r) in
-      subst (λ (os : List Offer). Contains os o) (sym also)
-      (Contains-append_left (side_offers lits used.sides) (spot_offers lits used.spots) o
-      (in_flat (λ s. option_to_list (side_at lits s)) used.sides side.0 o side.1 (in_option (side_at lits side.0) o found)));
+      Contains-append_left (side_offers lits used.sides) (spot_offers lits used.spots) o
+      (in_flat (λ s. option_to_list (side_at lits s)) used.sides side.0 o side.1 (in_option (side_at lits side.0) o found));
   spots = λ i place k g args eligible at stands.
       let o : Offer = record { positive = false; term = App g args } in
       let spot = h.whole_spots i place eligible (record { target = k; g = g; args = args; here = at; stands = stands }) in
       let there : slice_get lits spot.0.lit ≡ Some k = subst (λ n. slice_get lits n ≡ Some k) (sym spot.2) at in
       let below : lit_term_at spot.0.place k ≡ Some (App g args) = subst (λ (q : List ℕ). lit_term_at q k ≡ Some (App g args)) (sym spot.3) stands in
-      let found : spot_at lits spot.0 ≡ Some o = ap (on_lit (λ l. offer_of_term (lit_term_at spot.0.place l))) there ∙ ap offer_of_term below in
-      subst (λ (os : List Offer). Contains os o) (sym also)
-      (Contains-append_right (side_offers lits used.sides) (spot_offers lits used.spots) o
-      (in_flat (λ s. option_to_list (spot_at lits s)) used.spots spot.0 o spot.1 (in_option (spot_at lits spot.0) o found)));
+      let found : spot_at lits spot.0 ≡ Some o = ap (on_lit (λ l. offer_of false (lit_term_at spot.0.place l))) there ∙ ap (offer_of false) below in
+      Contains-append_right (side_offers lits used.sides) (spot_offers lits used.spots) o
+      (in_flat (λ s. option_to_list (spot_at lits s)) used.spots spot.0 o spot.1 (in_option (spot_at lits spot.0) o found));
 }
 
 -- more entries
@@ -72,7 +68,7 @@ entered_still n c literals terms more_literals more_terms h = record {
 }
 
 entered_now : (n : ℕ) (c : Clause) (literals terms : List Entry) (offers more : List Offer) → AreOffered c.lits offers more
-    → IsEntered n c (literals ++ map (λ (o : Offer). entry_of n o.positive o.term) offers) (terms ++ map (λ (o : Offer). entry_of n o.positive o.term) more)
+    → IsEntered n c (literals ++ entries_of n offers) (terms ++ entries_of n more)
 entered_now n c literals terms offers more h = record {
   atoms = λ i sign p ts eligible at. Contains-append_right literals _ _ (to_mapped (λ (o : Offer). entry_of n o.positive o.term) offers (record { positive = sign; term = App p ts }) (h.atoms i sign p ts eligible at));
   sides = λ i flipped l r eligible at not_less. Contains-append_right terms _ _ (to_mapped (λ (o : Offer). entry_of n o.positive o.term) more (record { positive = true; term = l }) (h.sides i flipped l r eligible at not_less));
@@ -80,19 +76,16 @@ entered_now n c literals terms offers more h = record {
 }
 
 -- one clause more was entered
-pub entered_with : (list : List Clause) (c : Clause) (n : ℕ) (literals new_literals terms new_terms : List Entry) (offers lent more also : List Offer) → length list ≡ n → AreOffered c.lits offers more → lent ≡ offers → also ≡ more
-    → new_literals ≡ literals ++ map (λ (o : Offer). entry_of n o.positive o.term) lent → new_terms ≡ terms ++ map (λ (o : Offer). entry_of n o.positive o.term) also
-    → AreEntered list literals terms → AreEntered (list ++ c ∷ []) new_literals new_terms
-entered_with list c n literals new_literals terms new_terms offers lent more also many offered same too is are h =
-    let f : Offer → Entry = λ (o : Offer). entry_of n o.positive o.term in
-    let after : AreEntered (list ++ c ∷ []) (literals ++ map f offers) (terms ++ map f more) = record {
+pub entered_with : (list : List Clause) (c : Clause) (n : ℕ) (literals new_literals terms new_terms : List Entry) (offers more : List Offer) → length list ≡ n → AreOffered c.lits offers more
+    → new_literals ≡ literals ++ entries_of n offers → new_terms ≡ terms ++ entries_of n more → AreEntered list literals terms → AreEntered (list ++ c ∷ []) new_literals new_terms
+entered_with list c n literals new_literals terms new_terms offers more many offered is are h =
+    let after : AreEntered (list ++ c ∷ []) (literals ++ entries_of n offers) (terms ++ entries_of n more) = record {
       each = λ i d e.
           elim (got_pushed list c i d e) [
-            | inl k ↦ entered_still i d literals terms (map f offers) (map f more) (h.each i d k.1)
+            | inl k ↦ entered_still i d literals terms (entries_of n offers) (entries_of n more) (h.each i d k.1)
             | inr k ↦
-                subst (λ j. IsEntered j d (literals ++ map f offers) (terms ++ map f more)) (sym (k.0 ∙ many))
-                (subst (λ (x : Clause). IsEntered n x (literals ++ map f offers) (terms ++ map f more)) (sym k.1) (entered_now n c literals terms offers more offered))
+                subst (λ j. IsEntered j d (literals ++ entries_of n offers) (terms ++ entries_of n more)) (sym (k.0 ∙ many))
+                (subst (λ (x : Clause). IsEntered n x (literals ++ entries_of n offers) (terms ++ entries_of n more)) (sym k.1) (entered_now n c literals terms offers more offered))
           ];
     } in
-    subst (λ (xs : List Entry). AreEntered (list ++ c ∷ []) xs new_terms) (sym (is ∙ ap (λ (os : List Offer). literals ++ map f os) same))
-    (subst (λ (xs : List Entry). AreEntered (list ++ c ∷ []) (literals ++ map f offers) xs) (sym (are ∙ ap (λ (os : List Offer). terms ++ map f os) too)) after)
+    subst (λ (xs : List Entry). AreEntered (list ++ c ∷ []) xs new_terms) (sym is) (subst (λ (xs : List Entry). AreEntered (list ++ c ∷ []) (literals ++ entries_of n offers) xs) (sym are) after)

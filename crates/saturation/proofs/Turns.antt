@@ -20,6 +20,7 @@ use Rattle.saturation.specs.code.Entered.{AreEntered}
 use Rattle.saturation.specs.code.Known.{AreKnown, IsKnown}
 use Rattle.saturation.specs.code.Search.{IsUnderWay, IsMadeWith, IsFound, IsQueued, IsTooHeavy, AreKept}
 use Rattle.saturation.specs.code.Steps.{Sifts, IsNext, AreCoveredIn, AnswersAs}
+use Rattle.saturation.specs.code.Turns.{TakesTurn}
 use Rattle.saturation.proofs.Lists.{got_pushed, each_of, to_mapped}
 use Rattle.saturation.specs.code.Given.{AreGiven}
 use Rattle.saturation.proofs.Passing.{IsTurning}
@@ -92,11 +93,10 @@ pub next_found : (v : Vocabulary) (whole : Bool) (inputs list : List Clause) (re
 next_found v whole inputs list rest heavy x next = (waits v whole inputs list next.0 rest heavy x next.1 next.2).found
 
 -- one member more, with what was made of it
-pub joined : (v : Vocabulary) (whole : Bool) (inputs : List Clause) (list lent longer rest heavy made : List Member) (x : Member) (w : Bool) → lent ≡ list → longer ≡ list ++ x ∷ [] → w ≡ whole
-    → IsNext v whole inputs (clauses_of list) rest heavy (Some x) → IsMadeWith v w (clauses_of lent) x.clause made → IsUnderWay v whole inputs (clauses_of longer) made rest heavy
-joined v whole inputs list lent longer rest heavy made x w same more is next makes =
-    let here : IsMadeWith v whole (clauses_of list) x.clause made =
-    subst (λ b. IsMadeWith v b (clauses_of list) x.clause made) is (subst (λ (l : List Member). IsMadeWith v w (clauses_of l) x.clause made) same makes) in
+joined : (v : Vocabulary) (whole : Bool) (inputs : List Clause) (list longer rest heavy made : List Member) (x : Member) (w : Bool) → longer ≡ list ++ x ∷ [] → w ≡ whole → IsNext v whole inputs (clauses_of list) rest heavy (Some x)
+    → IsMadeWith v w (clauses_of list) x.clause made → IsUnderWay v whole inputs (clauses_of longer) made rest heavy
+joined v whole inputs list longer rest heavy made x w more is next makes =
+    let here : IsMadeWith v whole (clauses_of list) x.clause made = subst (λ b. IsMadeWith v b (clauses_of list) x.clause made) is makes in
     subst (λ (cs : List Clause). IsUnderWay v whole inputs cs made rest heavy) (sym (clauses_then list longer x more))
     (after_member v whole inputs (clauses_of list) next.0 rest heavy x next.1 next.2 next.3 made here)
 
@@ -182,32 +182,30 @@ first_turn v whole inputs limit list known queue heavy none also h =
     } in
     subst (λ (ms : List Member). IsTurning v whole inputs limit ms known queue heavy) (sym none) (subst (λ (ks : List Known). IsTurning v whole inputs limit [] ks queue heavy) (sym also) start)
 
-module _ (v : Vocabulary) (whole : Bool) (inputs : List Clause) (limit : ℕ) (list : List Member) (known : List Known) (queue heavy : List Member) (turn : IsTurning v whole inputs limit list known queue heavy)
-    (lent longer rest made : List Member) (x : Member) (w : Bool) (same : lent ≡ list) (more : longer ≡ list ++ x ∷ []) (flag : w ≡ whole) (room : length list < limit)
-    (next : IsNext v whole inputs (clauses_of list) rest heavy (Some x)) (makes : IsMadeWith v w (clauses_of lent) x.clause made) where
-  under_way_then : IsUnderWay v whole inputs (clauses_of longer) made rest heavy
-  under_way_then = joined v whole inputs list lent longer rest heavy made x w same more flag next makes
+module _ (v : Vocabulary) (whole : Bool) (inputs : List Clause) (limit : ℕ) (list : List Member) (known : List Known) (queue heavy : List Member) (turn : IsTurning v whole inputs limit list known queue heavy) (rest : List Member)
+    (x : Member) (next : IsNext v whole inputs (clauses_of list) rest heavy (Some x)) (room : length list < limit) (bound : ℕ) (is_bound : bound ≡ bound_of inputs) (w : Bool) (flag : w ≡ whole) (longer : List Member)
+    (more_known : List Known) (new_queue new_heavy : List Member) (r : Option Member) (taken : TakesTurn v w bound x list known rest heavy longer more_known new_queue new_heavy r) where
+  under_way_then : IsUnderWay v whole inputs (clauses_of longer) taken.made rest heavy
+  under_way_then = joined v whole inputs list longer rest heavy taken.made x w taken.joins.listed flag next taken.joins.makes
 
   kept_now : AreKept v whole inputs longer
-  kept_now = kept_then v whole inputs list longer x more turn.kept (next_found v whole inputs (clauses_of list) rest heavy x next)
+  kept_now = kept_then v whole inputs list longer x taken.joins.listed turn.kept (next_found v whole inputs (clauses_of list) rest heavy x next)
 
   within_now : length longer ≤ limit
-  within_now = let n : length longer ≡ length list + 1 = ap length more ∙ length-append list (x ∷ []) in omega arith
+  within_now = let n : length longer ≡ length list + 1 = ap length taken.joins.listed ∙ length-append list (x ∷ []) in omega arith
 
-  pub next_turn : (more_known : List Known) (k : Known) (new_queue new_heavy : List Member) (bound : ℕ) (r : Option Member) → more_known ≡ known ++ k ∷ [] → IsKnown x.clause k
-      → Sifts bound made rest heavy new_queue new_heavy r → r ≡ None → bound ≡ bound_of inputs → IsTurning v whole inputs limit longer more_known new_queue new_heavy
-  next_turn more_known k new_queue new_heavy bound r also fact sifts none b = record {
+  pub next_turn : r ≡ None → IsTurning v whole inputs limit longer more_known new_queue new_heavy
+  next_turn none = record {
     within = within_now;
-    under_way = sift_none v whole inputs (clauses_of longer) made rest heavy new_queue new_heavy bound r sifts none b under_way_then;
+    under_way = sift_none v whole inputs (clauses_of longer) taken.made rest heavy new_queue new_heavy bound r taken.sifts none is_bound under_way_then;
     kept = kept_now;
-    facts = known_then list longer known more_known x k more also turn.facts fact;
+    facts = known_then list longer known more_known x taken.joins.facts taken.joins.listed taken.joins.beside turn.facts taken.joins.are_facts;
   }
 
-  pub refuted_turn : (new_queue new_heavy : List Member) (bound : ℕ) (r : Option Member) (e : Member) → Sifts bound made rest heavy new_queue new_heavy r → r ≡ Some e → bound ≡ bound_of inputs
-      → AnswersAs v whole inputs limit (Refuted longer e)
-  refuted_turn new_queue new_heavy bound r e sifts some b =
-      answers_refuted v whole inputs limit longer made rest heavy e within_now kept_now under_way_then
-      (sift_some v whole inputs (clauses_of longer) made rest heavy new_queue new_heavy bound r e sifts some b under_way_then)
+  pub refuted_turn : (e : Member) → r ≡ Some e → AnswersAs v whole inputs limit (Refuted longer e)
+  refuted_turn e some =
+      answers_refuted v whole inputs limit longer taken.made rest heavy e within_now kept_now under_way_then
+      (sift_some v whole inputs (clauses_of longer) taken.made rest heavy new_queue new_heavy bound r e taken.sifts some is_bound under_way_then)
 
 -- what is asked of the members and of what waits
 pub queue_clauses : (v : Vocabulary) (whole : Bool) (inputs list : List Clause) (todo queue heavy : List Member) → IsUnderWay v whole inputs list todo queue heavy → Each (λ m. IsClause v m.clause) queue

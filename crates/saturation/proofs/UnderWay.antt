@@ -137,6 +137,18 @@ module _ (v : Vocabulary) (whole : Bool) (inputs list : List Clause) (todo queue
     });
   }
 
+  -- an equal clause waits
+  pub after_known : (y : Member) → Contains queue y → y.clause ≡ x.clause → (x.clause.lits ≡ [] → ⊥) → IsUnderWay v whole inputs list todo queue heavy
+  after_known y there same full = record {
+    members = h.members;
+    todo_found = todo_left;
+    queued = h.queued;
+    too_heavy = h.too_heavy;
+    lightest = h.lightest;
+    settled = settled_after queue heavy (λ m c. c) (λ m c. c)
+        (λ e is. record { not_empty = not_empty_instance v x.clause e is full; known = inr (inl (y, there, subst (λ (c : Clause). IsInstance v c e) (sym same) is)) });
+  }
+
   pub after_queued : (queue' : List Member) → ((m : Member) → Contains queue m → Contains queue' m) → Contains queue' x → ((m : Member) → Contains queue' m → Contains queue m ⊎ (m ≡ x))
       → (x.clause.lits ≡ [] → ⊥) → (IsTrivial x.clause.lits → ⊥) → clause_weight x.clause ≤ bound_of inputs → IsUnderWay v whole inputs list todo queue' heavy
   after_queued queue' more there others full open_ light = record {

@@ -7,4 +7,5 @@ pub mod Named
 pub mod Offers
 pub mod Search
 pub mod Steps
+pub mod Turns
 pub mod Waiting

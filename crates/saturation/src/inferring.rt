@@ -14,7 +14,6 @@ use crate::given::number;
 use crate::inferences::Inferences;
 use crate::known::Known;
 use crate::member::Member;
-use crate::offers::offers_of;
 use crate::pairing::{Premise, add_alone, add_pair};
 use clause_form::Clause;
 use clause_index::Partners;
@@ -44,9 +43,9 @@ pub fn inferences_with<R: Inferences, I: Partners>(
         → AreEntered (clauses_of list.now) (I.entries literals.now) (I.entries terms.now) }
     ensures { IfOk result (IsMadeWith signature.now (I.is_whole literals.now) (clauses_of list.now) last.now) }
 {
-    let offers = offers_of(alloc, last.lits.as_slice(), used)?;
-    let into = partners(alloc, list.len(), true, &offers, literals, terms)?;
-    let from = partners(alloc, list.len(), false, &offers, literals, terms)?;
+    let lits = last.lits.as_slice();
+    let into = partners(alloc, list.len(), true, lits, used, literals, terms)?;
+    let from = partners(alloc, list.len(), false, lits, used, literals, terms)?;
     let last = Premise {
         clause: last,
         used,

@@ -1,18 +1,25 @@
 //! The members that wait for their place.
-ghost use Rattle.std.specs.Prelude.{◌≡◌, [], MatchOption, OnOk, map};
+ghost use Rattle.std.specs.Prelude.{◌≡◌, [], MatchOption, OnOk, IsTrue, map};
+ghost use Rattle.std.specs.List.{Contains};
+ghost use Rattle.saturation.specs.declared.member.Member.{Member as Waits};
 ghost use Rattle.saturation.specs.code.Search.{IsTaken, HasJoined};
 
+use crate::equality::are_equal;
 use crate::member::Member;
+use crate::summing::sum_of;
+use clause_form::Clause;
 use clause_order::clause_weight_of;
 use std::alloc::Global;
 use std::collections::BTreeMap;
 use std::marker::Model;
 use tptp_base::Memory;
 
-/// Members by weight, and those of one weight by the order in which they came.
+/// Members by weight, and those of one weight by the order in which they came. By the sum of a clause it finds one that
+/// has come and may wait.
 #[derive(Drop)]
 pub struct Queue {
     waiting: BTreeMap<(u64, u64), Member>,
+    numbers: BTreeMap<u64, u64>,
     next: u64,
 }
 
@@ -39,7 +46,28 @@ impl Queue {
     {
         Queue {
             waiting: BTreeMap::new(alloc),
+            numbers: BTreeMap::new(alloc),
             next: 0,
+        }
+    }
+
+    /// Whether a member waits that has this clause. One may be overlooked.
+    pub fn has(&self, clause: &Clause) -> bool
+        ensures { IsTrue result → (m : Waits) × Contains self.now m × (m.clause ≡ clause.now) }
+    {
+        match self.numbers.get(&sum_of(clause)) {
+            Some(number) => self.has_at(clause_weight_of(clause), *number, clause),
+            None => false,
+        }
+    }
+
+    // Whether the member of this weight and number waits, and has this clause.
+    fn has_at(&self, weight: u64, number: u64, clause: &Clause) -> bool
+        ensures { IsTrue result → (m : Waits) × Contains self.now m × (m.clause ≡ clause.now) }
+    {
+        match self.waiting.get(&(weight, number)) {
+            Some(member) => are_equal(&member.clause, clause),
+            None => false,
         }
     }
 
@@ -51,6 +79,7 @@ impl Queue {
             return Err(Memory);
         }
         let key = (clause_weight_of(&member.clause), self.next);
+        self.numbers.insert(sum_of(&member.clause), self.next)?;
         self.waiting.insert(key, member)?;
         self.next += 1;
         Ok(())

@@ -25,7 +25,7 @@ pub fn sift(
     Ok(None)
 }
 
-// Sends a member to the queue or to what is too heavy, or drops it where it is trivial.
+// Sends a member to the queue or to what is too heavy. Drops it where an equal clause waits, or where it is trivial.
 fn place(
     member: Member,
     bound: u64,
@@ -34,6 +34,9 @@ fn place(
 ) -> Result<(), Memory>
     ensures { OnOk result (Places bound member queue.old heavy.old queue.new heavy.new) }
 {
+    if queue.has(&member.clause) {
+        return Ok(());
+    }
     if is_trivial(&member.clause) {
         return Ok(());
     }

@@ -1,5 +1,5 @@
 -- Which terms of the members the indexes have.
-use Rattle.std.specs.Prelude.{ℕ, Bool, true, false, List, ◌≡◌, Some, slice_get}
+use Rattle.std.specs.Prelude.{ℕ, Bool, true, false, List, map, ◌≡◌, Some, slice_get}
 use Rattle.std.specs.List.{Contains}
 use Rattle.fof_terms.specs.declared.term.Term.{Term, App}
 use Rattle.clause_form.specs.declared.clause.AtomOf.TheVariants.{Pred}
@@ -10,6 +10,7 @@ use Rattle.clause_rules.specs.Steps.{equation}
 use Rattle.clause_order.specs.Eligible.{IsEligible, IsNotLess}
 use Rattle.clause_index.specs.declared.entry.Entry.{Entry}
 use Rattle.clause_index.specs.Entries.{entry_of}
+use Rattle.saturation.specs.declared.offers.Offer.{Offer}
 
 -- a property of terms with signs holds of those that inferences use of the literals: of the predicate atoms of eligible
 -- ones, ..
@@ -36,3 +37,7 @@ pub record IsEntered (n : ℕ) (c : Clause) (literals terms : List Entry) : Type
 -- so for each clause of the list
 pub record AreEntered (list : List Clause) (literals terms : List Entry) : Type 0 where
   pub each : (n : ℕ) (c : Clause) → slice_get list n ≡ Some c → IsEntered n c literals terms
+
+-- the entries of what is offered, for this number
+abbrev pub entries_of : ℕ → List Offer → List Entry
+entries_of n = map (λ (o : Offer). entry_of n o.positive o.term)

@@ -33,12 +33,12 @@ offer_of_side flipped False = None
 abbrev pub side_at : List Lit → Side → Option Offer
 side_at lits side = on_lit (λ l. offer_of_side side.flipped l.atom) (slice_get lits side.lit)
 
-abbrev pub offer_of_term : Option Term → Option Offer
-offer_of_term None = None
-offer_of_term (Some t) = Some (record { positive = false; term = t })
+abbrev pub offer_of : Bool → Option Term → Option Offer
+offer_of positive None = None
+offer_of positive (Some t) = Some (record { positive = positive; term = t })
 
 abbrev pub spot_at : List Lit → Spot → Option Offer
-spot_at lits spot = on_lit (λ l. offer_of_term (lit_term_at spot.place l)) (slice_get lits spot.lit)
+spot_at lits spot = on_lit (λ l. offer_of false (lit_term_at spot.place l)) (slice_get lits spot.lit)
 
 abbrev pub atom_offers : List Lit → List ℕ → List Offer
 atom_offers lits numbers = flat_map (λ i. option_to_list (atom_at lits i)) numbers

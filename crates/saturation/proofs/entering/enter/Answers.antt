@@ -1,7 +1,9 @@
-use Rattle.std.proofs.Common.{◌∙◌, ◌++◌, ap, List}
+use Rattle.std.proofs.Common.{◌∙◌, ◌++◌, ap, refl, List}
 use Rattle.std.proofs.lemmas.Result.{on_ok_weaker}
-use Rattle.clause_form.specs.declared.clause.Lit.{Lit}
+use Rattle.saturation.specs.declared.offers.Offer.{Offer}
+use Rattle.saturation.specs.code.Entered.{entries_of}
 use Rattle.saturation.specs.code.Offers.{atom_offers, side_offers, spot_offers}
+use Rattle.saturation.proofs.Feeding.{of_lent, filed_then}
 use Rattle.saturation.proofs.Offering.{all_offered, entered_with}
 use Rattle.saturation.proofs.entering.enter.Goals as goal
 
@@ -9,12 +11,23 @@ pub returns-clause-entered : goal.returns-clause-entered
 returns-clause-entered g c =
     let lits = c.args.clause.now.lits in
     let used = c.args.used.now in
-    let offers = c.in_ok-offers.offers in
-    let offered = all_offered lits used offers.literals offers.terms c.requires.used
-    (c.in_ok-offers.ensures.literals ∙ ap (λ (ls : List Lit). atom_offers ls used.lits) c.as_slice.ensures)
-    (c.in_ok-offers.ensures.terms ∙ ap (λ (ls : List Lit). side_offers ls used.sides ++ spot_offers ls used.spots) c.as_slice.ensures) in
-    on_ok_weaker c.enter_all-2.result
+    let n = c.args.place in
+    let lent = c.as_slice-lits.result.now in
+    let les = g.I.Partners.entries c.args.literals.now in
+    let tes = g.I.Partners.entries c.args.terms.now in
+    let mid = g.I.Partners.entries c.enter_sides.new.index in
+    on_ok_weaker c.enter_spots.result
     (λ filed list many literals_whole terms_whole h.
-    entered_with list c.args.clause.now c.args.place (g.I.Partners.entries c.args.literals.now) (g.I.Partners.entries c.enter_all.new.index) (g.I.Partners.entries c.args.terms.now) (g.I.Partners.entries c.enter_all-2.new.index)
-    offers.literals c.as_slice-2.result.now offers.terms c.as_slice-3.result.now many offered c.as_slice-2.ensures c.as_slice-3.ensures (c.in_ok-enter_all.ensures.entered literals_whole) (filed terms_whole) h)
-    c.enter_all-2.ensures.entered
+    let atoms =
+    c.in_ok-enter_atoms.ensures.entered literals_whole
+    ∙ ap (λ (os : List Offer). les ++ entries_of n os) (of_lent atom_offers lits lent used.lits c.as_slice.result.now c.as_slice-lits.ensures c.as_slice.ensures) in
+    let sides =
+    c.in_ok-enter_sides.ensures.entered terms_whole
+    ∙ ap (λ (os : List Offer). tes ++ entries_of n os) (of_lent side_offers lits lent used.sides c.as_slice-2.result.now c.as_slice-lits.ensures c.as_slice-2.ensures) in
+    let spots =
+    filed (c.enter_sides.ensures.whole ∙ terms_whole)
+    ∙ ap (λ (os : List Offer). mid ++ entries_of n os) (of_lent spot_offers lits lent used.spots c.as_slice-3.result.now c.as_slice-lits.ensures c.as_slice-3.ensures) in
+    entered_with list c.args.clause.now n les (g.I.Partners.entries c.enter_atoms.new.index) tes (g.I.Partners.entries c.enter_spots.new.index) (atom_offers lits used.lits) (side_offers lits used.sides ++ spot_offers lits used.spots)
+    many (all_offered lits used c.requires.used) atoms
+    (filed_then n tes mid (g.I.Partners.entries c.enter_spots.new.index) (side_offers lits used.sides) (spot_offers lits used.spots) (side_offers lits used.sides ++ spot_offers lits used.spots) refl sides spots) h)
+    c.enter_spots.ensures.entered

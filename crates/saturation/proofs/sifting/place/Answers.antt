@@ -1,6 +1,9 @@
 use Rattle.std.proofs.lemmas.Result.{on_ok_weaker}
-use Rattle.saturation.proofs.Placed.{placed_nowhere, placed_heavy, placed_queued}
+use Rattle.saturation.proofs.Placed.{placed_nowhere, placed_known, placed_heavy, placed_queued}
 use Rattle.saturation.proofs.sifting.place.Goals as goal
+
+pub returns-then-has : goal.returns-then-has
+returns-then-has c = let found = c.has.ensures c.if-has.true in placed_known c.args.bound c.args.member found.0 c.args.queue.now c.args.heavy.now found.1 found.2
 
 pub returns-then-is_trivial : goal.returns-then-is_trivial
 returns-then-is_trivial c = placed_nowhere c.args.bound c.args.member c.args.queue.now c.args.heavy.now c.is_trivial.result c.is_trivial.ensures c.if-is_trivial.true

@@ -3,7 +3,7 @@ use Rattle.saturation.specs.Lists.{bound_of}
 use Rattle.saturation.specs.Members.{clauses_of}
 use Rattle.saturation.specs.code.Entered.{AreEntered}
 use Rattle.saturation.proofs.Passing.{IsTurning}
-use Rattle.saturation.proofs.saturation.take_turns.Given as goal
+use Rattle.saturation.proofs.turning.take_turns.Given as goal
 
 abbrev pub invariant-turns : goal.invariant-turns
 invariant-turns g l = record {

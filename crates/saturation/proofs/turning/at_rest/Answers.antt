@@ -2,7 +2,7 @@ use Rattle.std.proofs.Common.{arith, subst, ◌<◌, ◌≡◌, length}
 use Rattle.saturation.specs.Members.{clauses_of}
 use Rattle.saturation.specs.code.Steps.{AreCoveredIn}
 use Rattle.saturation.proofs.Turns.{answers_dry, answers_heavy, answers_full}
-use Rattle.saturation.proofs.saturation.at_rest.Goals as goal
+use Rattle.saturation.proofs.turning.at_rest.Goals as goal
 
 pub returns-then-covered : goal.returns-then-covered
 returns-then-covered c = λ v whole inputs heavy h kept k.
