@@ -6,6 +6,7 @@ mod beside;
 mod cover_rule;
 mod eqfactor_rule;
 mod norm_rule;
+mod paramodulating;
 mod paramodulation_rule;
 mod recognising;
 mod resolution_rule;

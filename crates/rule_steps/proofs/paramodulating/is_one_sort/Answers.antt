@@ -2,7 +2,7 @@ use Rattle.std.proofs.Common.{ap, ◌∙◌}
 use Rattle.fof_terms.proofs.ScopeFacts.{scope_sorts-Outside}
 use Rattle.fof_terms.specs.Sorts.{sort_of_term}
 use Rattle.rule_steps.proofs.ParamodulationCode.{one_sort_told, turned_back}
-use Rattle.rule_steps.proofs.paramodulation_rule.is_one_sort.Goals as goal
+use Rattle.rule_steps.proofs.paramodulating.is_one_sort.Goals as goal
 
 pub returns : goal.returns
 returns c =

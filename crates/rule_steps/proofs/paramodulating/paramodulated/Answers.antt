@@ -1,7 +1,7 @@
 use Rattle.std.proofs.Common.{◌∙◌}
 use Rattle.clause_rules.specs.Places.{lit_put_at}
 use Rattle.rule_steps.proofs.ParamodulationCode.{paramodulated_is}
-use Rattle.rule_steps.proofs.paramodulation_rule.paramodulated.Goals as goal
+use Rattle.rule_steps.proofs.paramodulating.paramodulated.Goals as goal
 
 pub returns : goal.returns
 returns c =

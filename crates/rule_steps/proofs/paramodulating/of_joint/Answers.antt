@@ -6,7 +6,7 @@ use Rattle.substitution_search.proofs.Narrowing.{beside_as}
 use Rattle.rule_steps.proofs.ParamodulatedAt.{sorts_meet, paramodulation_sorted, paramodulation_settled}
 use Rattle.rule_steps.proofs.ParamodulationCode.{spot_as, equation_as}
 use Rattle.rule_steps.proofs.ParamodulationEnds.{no_joint_spot, no_joint_equation}
-use Rattle.rule_steps.proofs.paramodulation_rule.of_joint.Goals as goal
+use Rattle.rule_steps.proofs.paramodulating.of_joint.Goals as goal
 
 pub returns-then-not-is_one : goal.returns-then-not-is_one
 returns-then-not-is_one c =
