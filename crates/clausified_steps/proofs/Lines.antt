@@ -34,7 +34,8 @@ use Rattle.clausified_steps.specs.Clausified.{stated, IsClausifiedBy}
 use Rattle.clausified_steps.specs.code.Forms.{IsAmong, IsFormBy}
 use Rattle.clausified_steps.proofs.Among.{every_at, every_one, every_none, only_one}
 use Rattle.clausified_steps.proofs.Counted.{added_count}
-use Rattle.clausified_steps.proofs.Lacking.{made_lacks, others_there}
+use Rattle.clausified_steps.proofs.Lacking.{others_there}
+use Rattle.skolem_proofs.proofs.Others.{made_lacks}
 
 -- what a list has at a place, it has there with more behind it
 still_there : {X : Type 0} (xs ys : List X) (k : ℕ) (x : X) → slice_get xs k ≡ Some x → slice_get (xs ++ ys) k ≡ Some x
@@ -113,7 +114,7 @@ module _ (t : Statements) (parents : List Parent) (all : AreOfTheory t parents) 
     lacks_form : (k : ℕ) → IsFresh k u → occurs_in k line ≡ false → occurs_in k form ≡ false
     lacks_form k fresh off =
         let parent_off : occurs_in k p.form ≡ false = every_at (λ a. occurs_in k a ≡ false) u.formulas p.number p.form fresh (cited t parents all u h among.place p among.there) in
-        made_lacks k t.vocabulary [] uses (norm_of true p.form) form f.skolem.replaced (norm_lacks k p.form true parent_off) (others_there k t.vocabulary line uses off occur)
+        made_lacks k t.vocabulary [] uses (norm_of true p.form) form f.skolem.replaced (norm_lacks k p.form true parent_off) (others_there k line uses off occur)
 
     adds : Adds u (made ++ Lemma proof ∷ []) before line
     adds =

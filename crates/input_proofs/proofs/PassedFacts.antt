@@ -40,7 +40,8 @@ use Rattle.input_proofs.specs.code.Pending.{IsPending}
 use Rattle.input_proofs.specs.declared.forms.Opening.{Opening}
 use Rattle.input_proofs.specs.declared.pending.Pending.{Pending}
 use Rattle.input_proofs.proofs.Entering.{choices_both, are_choices, formulas_both, added_first, added_then, enters_both}
-use Rattle.input_proofs.proofs.FunctionsFacts.{each_function, distinct_functions, others_outside, made_lacks, sorted_lacks}
+use Rattle.input_proofs.proofs.FunctionsFacts.{each_function, distinct_functions, others_outside, sorted_lacks}
+use Rattle.skolem_proofs.proofs.Others.{made_lacks}
 use Rattle.input_proofs.proofs.Literals.{each_append}
 use Rattle.input_proofs.proofs.Passed.{HavePassed, IsOutside, IsPendingOn, AllLack, number_after}
 use Rattle.input_proofs.proofs.Steps.{MayOpen, after_both, after_more, clauses_both, grown_own, norm_in, own_sorted, own_small, own_skolemized, own_count, own_places}

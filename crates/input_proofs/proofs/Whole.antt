@@ -47,7 +47,8 @@ use Rattle.input_proofs.specs.declared.forms.Opening.{Opening}
 use Rattle.input_proofs.specs.declared.opening.OpenedInputs.{OpenedInputs}
 use Rattle.input_proofs.specs.declared.pending.Pending.{Pending}
 use Rattle.input_proofs.proofs.ClauseFormulas.{clauses_lack}
-use Rattle.input_proofs.proofs.FunctionsFacts.{others_outside, made_lacks, sorted_lacks}
+use Rattle.input_proofs.proofs.FunctionsFacts.{others_outside, sorted_lacks}
+use Rattle.skolem_proofs.proofs.Others.{made_lacks}
 use Rattle.input_proofs.proofs.Literals.{each_append}
 use Rattle.input_proofs.proofs.Passed.{HavePassed, IsPendingOn, AllLack, number_after}
 use Rattle.input_proofs.proofs.PassedFacts.{one_passed}

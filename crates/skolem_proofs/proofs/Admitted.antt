@@ -1,5 +1,5 @@
 -- The entries of the functions are legal in turn, and what they add has no symbols but those of the formula and the functions.
-use Rattle.std.specs.Prelude.{ℕ, ◌≡◌, ◌+◌, ◌==◌, ◌&&◌, true, false, nat_eq, List, [], ◌∷◌, ◌++◌, length, slice_get, Option, Some, None, refl}
+use Rattle.std.specs.Prelude.{ℕ, ◌≡◌, ◌+◌, true, false, nat_eq, List, [], ◌∷◌, ◌++◌, length, slice_get, Option, Some, None, refl}
 use Rattle.std.specs.List.{AllByRecursion as Each, All as Every, IsDistinct, list_any}
 use Rattle.std.proofs.Common.{ap, sym, subst, ◌∙◌, arith, append_assoc, suc}
 use Rattle.std.proofs.lemmas.List.{length-append}
@@ -8,9 +8,8 @@ use Rattle.std.proofs.lemmas.Map.Keys.{IsDistinct-head, IsDistinct-tail}
 use Rattle.fof_terms.specs.declared.form.Form.{Form, And, Or, All, Ex}
 use Rattle.fof_terms.specs.declared.signature.Symbol.{Symbol}
 use Rattle.fof_terms.specs.Instance.{instance_of}
-use Rattle.fof_terms.specs.Occurs.{occurs_in, occurs_in_term}
+use Rattle.fof_terms.specs.Occurs.{occurs_in}
 use Rattle.fof_terms.proofs.OccursFacts.{occurs_in-And, occurs_in-Or, occurs_in-All, occurs_in-Ex}
-use Rattle.fof_terms.specs.Variables.{has_variable}
 use Rattle.fof_terms.specs.Vocabulary.{Vocabulary}
 use Rattle.kernel.specs.Statements.{Statements}
 use Rattle.kernel.specs.Entries.{choice, Admits, with_formula}
@@ -29,12 +28,12 @@ use Rattle.skolem_fresh.specs.Told.{AddedFrom}
 use Rattle.skolem_fresh.specs.Uses.{value_of, functions_of}
 use Rattle.skolem_fresh.proofs.Admitting.{symbol, at_symbol, choice_sorted, may_choose, renamed_occurs}
 use Rattle.skolem_fresh.proofs.Chosen.{arguments_only, within_all}
-use Rattle.skolem_fresh.proofs.Entering.{AllFresh, AllAbsent, neither, both_false, no_and, value_occurs, enters_none, enters_more, fresh_after, absent_told, absent_body, absent_value, lacks_added}
-use Rattle.skolem_fresh.proofs.Occurring.{instance_occurs}
+use Rattle.skolem_fresh.proofs.Entering.{AllFresh, AllAbsent, neither, enters_none, enters_more, fresh_after, absent_told, absent_body, absent_value, lacks_added}
 use Rattle.skolem_fresh.proofs.Opened.{within_value}
 use Rattle.skolem_fresh.proofs.WalkCode.{members_within}
 use Rattle.skolem_fresh.proofs.WholeLines.{few_variables}
 use Rattle.skolem_proofs.specs.Choosing.{AreOthers}
+use Rattle.skolem_proofs.proofs.Others.{both_others, value_off}
 use Rattle.skolem_proofs.specs.code.Witnessed.{IsWitnessed, AreWitnessed, itself, a_conjunction, a_disjunction, for_each, for_some, none, more}
 
 -- Entries and others behind them.
@@ -99,19 +98,9 @@ module _ (w : Statements) (told others : List Entry) where
       }
 
 -- What is added lacks a symbol that is neither in the formula nor one of the functions.
-both_others : (k : ℕ) (first rest : List Use) → AreOthers k (first ++ rest) → AreOthers k first × AreOthers k rest
-both_others k [] rest h = (tt, h)
-both_others k (u ∷ first) rest h = let parts = both_others k first rest h.1 in ((h.0, parts.0), parts.1)
-
 module _ (k : ℕ) (v : Vocabulary) where
   abbrev Lack : List Form → Type 0
   Lack fs = Every (λ c. occurs_in k c ≡ false) fs
-
-  value_off : (u : Use) (a : Form) → (u.function == k) ≡ false → occurs_in k a ≡ false → occurs_in k (instance_of a (value_of u)) ≡ false
-  value_off u a other off =
-      let x = value_of u in
-      let none : occurs_in_term k x ≡ false = value_occurs k u.function u.variables ∙ other in
-      instance_occurs k x a 0 ∙ both_false (occurs_in k a) (has_variable 0 a && occurs_in_term k x) off (no_and (has_variable 0 a) (occurs_in_term k x) none)
 
   mutual
     pub told_lacks : (scope : List ℕ) (n : ℕ) (uses : List Use) (a b : Form) (told : List Entry) (p : Proof) → IsWitnessed v scope n uses a b told p → occurs_in k a ≡ false → AreOthers k uses → Lack (formulas_told v told)
@@ -121,7 +110,7 @@ module _ (k : ℕ) (v : Vocabulary) where
     told_lacks scope n uses a b told p (for_each sc m us s c d ts q w) off others = told_lacks (s ∷ sc) m us c d ts q w (sym (occurs_in-All k s c) ∙ off) others
     told_lacks scope n uses a b told p (for_some sc m u us s c d ts step q may shows w) off others =
         let inside : occurs_in k c ≡ false = sym (occurs_in-Ex k s c) ∙ off in
-        let rest = told_lacks sc (m + 1) us (instance_of c (value_of u)) d ts q w (value_off u c others.0 inside) others.1 in
+        let rest = told_lacks sc (m + 1) us (instance_of c (value_of u)) d ts q w (value_off k u c others.0 inside) others.1 in
         lacks_added k v u.function (renamed u.variables 1 c) (slice_get v.symbols u.function) (formulas_told v ts) others.0 (renamed_occurs k u.variables c 1 ∙ inside) rest
 
     all_lack : (scope : List ℕ) (n : ℕ) (uses : List Use) (as_ bs : List Form) (told : List Entry) (ps : List Proof) → AreWitnessed v scope n uses as_ bs told ps → list_any (occurs_in k) as_ ≡ false → AreOthers k uses → Lack (formulas_told v told)

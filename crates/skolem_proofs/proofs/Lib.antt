@@ -3,6 +3,7 @@ pub mod Implied
 pub mod Lacking
 pub mod Lines
 pub mod Looped
+pub mod Others
 pub mod Standing
 pub mod Walked
 pub mod Wholes
