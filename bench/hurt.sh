@@ -32,11 +32,14 @@ repeated() {
 # place of each `#`.
 numbered() {
     awk -v text="$1" -v times="$2" 'BEGIN {
+        for (; match(text, /[@#]/); text = substr(text, RSTART + 1)) {
+            before[++marks] = substr(text, 1, RSTART - 1)
+            next_one[marks] = substr(text, RSTART, 1) == "#"
+        }
         for (i = 0; i < times; i++) {
-            line = text
-            gsub(/@/, i, line)
-            gsub(/#/, i + 1, line)
-            print line
+            line = ""
+            for (mark = 1; mark <= marks; mark++) line = line before[mark] (i + next_one[mark])
+            print line text
         }
     }'
 }
