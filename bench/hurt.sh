@@ -232,6 +232,10 @@ large_parent() {
     (printf 'cnf(a,axiom,'; repeated 'p|' "$1"; echo 'p).') > x.p
     numbered 'cnf(l@,plain,p,inference(r,[],[a])).' "$1" > x.s
 }
+parts_turned() {
+    (echo 'fof(a,axiom,$true'; numbered ' & ( p@ | q@ )' "$1"; echo ').') > x.p
+    (echo 'fof(l,plain,$true'; numbered ' & ( q@ | p@ )' "$1" | tac; echo ',inference(r,[],[a])).') > x.s
+}
 growing_terms() {
     echo 'cnf(u,axiom,p(c)).' > x.p
     (printf 'cnf(t,axiom,~p(X)|p('; repeated 'f(' 240; printf X; repeated ')' 240; echo ')).') >> x.p
@@ -256,6 +260,7 @@ hurt literals_of_none 10000 1 verify x.p x.s x.log
 hurt deep_terms 245 0 verify x.p x.s x.log
 hurt images 16 0 verify x.p x.s x.log
 hurt large_parent 2000 1 verify x.p x.s x.log
+hurt parts_turned 10000 1 verify x.p x.s x.log
 hurt growing_terms 400 1 verify x.p x.s x.log
 hurt colours 8 1 verify x.p x.s x.log
 echo "$wrong are wrong"

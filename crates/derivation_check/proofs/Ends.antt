@@ -188,7 +188,7 @@ good_verified asked t d w verified report log marked turns all good c =
 pub good_not_stopped : (asked : Asked) (t : Statements) (d : Derivation) (w : Vocabulary) (place : ℕ) (log : List ℕ) → TakesInTurn d.graph.nodes [] d.graph.order → IsGoodCase asked t d w → Stops asked t d w place log → ⊥
 good_not_stopped asked t d w place log turns good s = never_stopped (widened t w) (lines_over t d asked.limit) d.graph.order good.cites place s.own s.end refl good.good turns good.room s.stopped
 
--- a derivation that is verified without a search is good, where there is room by its texts, and its claim is justified by
+-- a derivation that is verified by rules alone is good, where there is room by its texts, and its claim is justified by
 -- what its lines cite
 pub verified_good : (asked : Asked) (t : Statements) (d : Derivation) (w : Vocabulary) (report log : List ℕ) → length asked.marks ≤ length t.formulas → HaveRoom w (lines_over t d asked.limit) → (c : Checks asked t d w true report log) → AreUnsearched c.answers → IsGoodCase asked t d w
 verified_good asked t d w report log marked room c direct =

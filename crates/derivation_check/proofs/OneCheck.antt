@@ -1,4 +1,4 @@
--- A check that makes no search has one verdict and one report.
+-- A check that goes by rules alone has one verdict and one report.
 use Rattle.std.proofs.Common.{◌≡◌, ℕ, ◌≤◌, Bool, List, length, map, None, refl, sym, ◌∙◌, ap}
 use Rattle.fof_terms.specs.Vocabulary.{Vocabulary}
 use Rattle.kernel.specs.Statements.{Statements}

@@ -58,16 +58,16 @@ pub fn a_good_case_has_room()
         → IsGoodCase asked t d w → Stops asked t d w place log → ⊥ }
 {}
 
-/// A derivation that a check verifies without a search is good, where the texts leave room for each line, and its claim
-/// is justified by what its lines cite. So of the derivations that need no search a check verifies exactly these.
+/// A derivation that a check verifies by rules alone is good, where the texts leave room for each line, and its claim is
+/// justified by what its lines cite. So of the derivations that rules alone give a check verifies exactly these.
 pub fn a_verified_case_is_good()
     ensures { (asked : spec.Asked) (t : Statements) (d : Derivation) (w : Vocabulary) (report log : List ℕ)
         → length asked.marks ≤ length t.formulas → HaveRoom w (spec.lines_over t d asked.limit)
         → (c : Checks asked t d w true report log) → AreUnsearched c.answers → IsGoodCase asked t d w }
 {}
 
-/// A check that makes no search has one verdict and one report, whatever the entries of its log are. The marks are those
-/// of given formulas, and the order takes all lines.
+/// A check that goes by rules alone has one verdict and one report, whatever the entries of its log are. The marks are
+/// those of given formulas, and the order takes all lines.
 pub fn a_check_has_one_report()
     ensures { (asked : spec.Asked) (t : Statements) (d : Derivation) (w : Vocabulary) (verified other : Bool)
         (report log again more : List ℕ)

@@ -1,10 +1,14 @@
--- What the answers to a step and to a leaf say: the first rule that gives the line, or else a search that refutes its
--- clauses, and entries that derive it from what it cites; or why there is none.
+-- What the answers to a step and to a leaf say: the first rule that gives the line, or else that it follows part by part,
+-- with new functions, or by a search that refutes its clauses, and entries that derive it from what it cites; or why there
+-- is none.
 use Rattle.std.specs.Prelude.{ℕ, ◌≡◌, ◌⊎◌, Bool, true, false, List, [], ◌∷◌, Some, slice_get}
 use Rattle.fof_terms.specs.declared.form.Form.{Form}
 use Rattle.clause_form.specs.declared.path.Parent.{Parent}
 use Rattle.kernel.specs.Statements.{Statements}
 use Rattle.kernel.specs.declared.entry.Entry.{Entry}
+use Rattle.clausified_steps.specs.Clausified.{IsClausifiedBy}
+use Rattle.norm_parts.specs.ByParts.{ByParts}
+use Rattle.elaborate.specs.declared.answer.Reason.{Reason}
 use Rattle.elaborate.specs.declared.answer.Reason.TheVariants.{Dry, Full, Heavy, Wide, Leaf}
 use Rattle.elaborate.specs.declared.answer.Rule.{Rule}
 use Rattle.elaborate.specs.declared.answer.Rule.TheVariants.{Search}
@@ -15,20 +19,31 @@ use Rattle.derive_kit.specs.Derived.{IsDerivedFrom, numbers_of}
 use Rattle.step_search.specs.Search.{IsSearched}
 use Rattle.step_search.specs.declared.outcome.Searched.TheVariants as searched
 
--- what a search under the limit answers of a line: accepted, citing all that it may, or the reason why not
+-- The entries derive a line that no rule gives: it follows part by part from the parents, or with new functions in place
+-- of a parent's existential variables, or a search under the limit refutes the clauses of a step that is not wide.
+abbrev pub IsFoundFrom : Statements → List Parent → Form → ℕ → List Entry → Type 0
+IsFoundFrom t parents line limit entries =
+    (ByParts t.vocabulary parents line × IsDerivedFrom t (numbers_of parents) entries line) ⊎ (IsClausifiedBy t parents line entries ⊎ IsSearched t parents line limit (searched.Refuted entries))
+
+-- why a search under the limit finds none
+abbrev pub IsLeftOpen : Statements → List Parent → Form → ℕ → Reason → Type 0
+IsLeftOpen t parents line limit Dry = IsSearched t parents line limit searched.Dry
+IsLeftOpen t parents line limit Full = IsSearched t parents line limit searched.Full
+IsLeftOpen t parents line limit Heavy = IsSearched t parents line limit searched.Heavy
+IsLeftOpen t parents line limit Wide = IsSearched t parents line limit searched.Wide
+IsLeftOpen t parents line limit Leaf = ⊥
+
+-- What is answered of a line that no rule gives: accepted, citing all that it may, or the reason why not. It is left open
+-- only where it does not follow part by part. That functions may be found by which it follows, no reason denies.
 abbrev pub IsSearchAnswer : Statements → List Parent → Form → ℕ → StepAnswer → Type 0
-IsSearchAnswer t parents line limit (Accepted rule cites entries) = (rule ≡ Search) × (cites ≡ numbers_of parents) × IsSearched t parents line limit (searched.Refuted entries)
-IsSearchAnswer t parents line limit (Unverified Dry) = IsSearched t parents line limit searched.Dry
-IsSearchAnswer t parents line limit (Unverified Full) = IsSearched t parents line limit searched.Full
-IsSearchAnswer t parents line limit (Unverified Heavy) = IsSearched t parents line limit searched.Heavy
-IsSearchAnswer t parents line limit (Unverified Wide) = IsSearched t parents line limit searched.Wide
-IsSearchAnswer t parents line limit (Unverified Leaf) = ⊥
+IsSearchAnswer t parents line limit (Accepted rule cites entries) = (rule ≡ Search) × (cites ≡ numbers_of parents) × IsFoundFrom t parents line limit entries
+IsSearchAnswer t parents line limit (Unverified reason) = (ByParts t.vocabulary parents line → ⊥) × IsLeftOpen t parents line limit reason
 
 -- the rule is the first that gives the step, which cites all its parents
 abbrev pub IsStepByRule : Statements → List Parent → Form → Rule → List ℕ → List Entry → Type 0
 IsStepByRule t parents line rule cites entries = ByRule t parents line rule × (cites ≡ numbers_of parents) × IsDerivedFrom t cites entries line
 
--- a step: accepted by the first rule that gives the line or, where none does, as a search answers
+-- a step: accepted by the first rule that gives the line or, where none does, as is answered then
 abbrev pub IsStepAnswer : Statements → List Parent → Form → ℕ → StepAnswer → Type 0
 IsStepAnswer t parents line limit (Accepted rule cites entries) = IsStepByRule t parents line rule cites entries ⊎ (ByNone t parents line × IsSearchAnswer t parents line limit (Accepted rule cites entries))
 IsStepAnswer t parents line limit (Unverified reason) = ByNone t parents line × IsSearchAnswer t parents line limit (Unverified reason)
@@ -38,8 +53,8 @@ abbrev pub IsLeafByRule : Statements → List Parent → Form → Rule → List 
 IsLeafByRule t candidates line rule cites entries =
     (i : ℕ) × (c : Parent) × (slice_get candidates i ≡ Some c) × LeafRule t candidates line rule i × (cites ≡ c.number ∷ []) × IsDerivedFrom t cites entries line
 
--- a leaf: accepted by the first rule that gives the line or, where none does and the line names given formulas, as a
--- search answers
+-- a leaf: accepted by the first rule that gives the line or, where none does and the line names given formulas, as is
+-- answered then of a step from all its candidates
 abbrev pub IsLeafAnswer : Statements → List Parent → Bool → Form → ℕ → StepAnswer → Type 0
 IsLeafAnswer t candidates cited line limit (Accepted rule cites entries) =
     IsLeafByRule t candidates line rule cites entries ⊎ (ByNoLeafRule t candidates line × (cited ≡ true) × IsSearchAnswer t candidates line limit (Accepted rule cites entries))

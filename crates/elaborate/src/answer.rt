@@ -29,11 +29,12 @@ pub enum Rule {
     Definition,
     /// `choice`: the line says that new functions choose values, where there are any.
     Choice,
-    /// `search`: no other rule gives the line, and a search refutes the clauses of its parents and of its negation.
+    /// `search`: no other rule gives the line, and it follows part by part from its parents, or with new functions in
+    /// place of a parent's existential variables, or a search refutes the clauses of its parents and of its negation.
     Search,
 }
 
-/// Why a line isn't verified.
+/// Why a line isn't verified. No reason says that functions with which it follows could not be found.
 #[derive(Clone, Copy, PartialEq, Eq)]
 pub enum Reason {
     /// `dry`: the search made all clauses that are to be made, and none is empty.
@@ -51,13 +52,13 @@ pub enum Reason {
 /// The answer to one line of a derivation.
 #[derive(Drop)]
 pub enum StepAnswer {
-    /// The first rule that gives the line or, where none does, the search; the numbers of the formulas of the theory
-    /// that the line cites; and the entries that derive it, the last of which adds it.
+    /// The first rule that gives the line or, where none does, `Search`; the numbers of the formulas of the theory that
+    /// the line cites; and the entries that derive it, the last of which adds it.
     Accepted {
         rule: Rule,
         cites: List<u64>,
         entries: List<Entry>,
     },
-    /// No rule gives the line, and no search refutes its clauses.
+    /// No rule gives the line, it does not follow part by part, and no search refutes its clauses.
     Unverified(Reason),
 }

@@ -11,8 +11,7 @@ ghost use Rattle.elaborate.specs.code.Proofs.{IsCoverAlone, IsFirstCover, IsLeft
 ghost use Rattle.step_clauses.specs.Room.{HasRoom};
 
 use crate::answer::{Reason, Rule, StepAnswer};
-use crate::searching::by_search;
-use crate::steps::lemma;
+use crate::searching::{by_search, lemma};
 use clause_form::Parent;
 use derive_kit::Part;
 use fof_terms::{Form, Signature};
@@ -23,8 +22,9 @@ use std::alloc::Global;
 use tptp_base::{List, Memory};
 
 /// The first rule for leaves by which the line follows from one of the candidates, with entries that derive it from the
-/// first such candidate, which the line cites. Where there is none, a line that names given formulas is searched for as
-/// a step from all candidates, among at most `limit` clauses, and any other is left with the reason `Leaf`.
+/// first such candidate, which the line cites. Where there is none, a line that names given formulas is answered as a
+/// step from all candidates that no rule gives, with at most `limit` clauses in a search, and any other is left with the
+/// reason `Leaf`.
 ///
 /// A leaf is a line that is taken from the problem. Its candidates are the given formulas of the name that it cites,
 /// or all of them where it cites none. There must be room for the functions of a search.
@@ -122,7 +122,7 @@ fn cover_alone(
     by_cover(alloc, signature, &candidates[at..at + 1], line)
 }
 
-// The answer to a leaf that no rule gives: by a search, where it names given formulas.
+// The answer to a leaf that no rule gives: from all candidates, where it names given formulas.
 fn by_no_rule(
     alloc: Global,
     theory: &Theory,

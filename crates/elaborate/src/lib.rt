@@ -1,5 +1,5 @@
 //! From a step of a derivation to entries of the kernel: the first rule by which the line follows from its parents, or
-//! else a search, and entries that derive the line from them.
+//! else its parts, new functions or a search, and entries that derive the line from them.
 #![tactic(auto)]
 
 mod answer;

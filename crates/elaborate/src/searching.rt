@@ -1,21 +1,29 @@
 // Lines that no rule gives.
-ghost use Rattle.std.specs.Prelude.{◌≡◌, length, IfOk};
+ghost use Rattle.std.specs.Prelude.{◌≡◌, ◌∷◌, [], length, IfOk};
 ghost use Rattle.clause_form.specs.Paths.{forms_of};
 ghost use Rattle.clause_rules.specs.Steps.{AreReady, IsReady};
 ghost use Rattle.derive_kit.specs.Derived.{AreOfTheory, numbers_of};
 ghost use Rattle.elaborate.specs.Answers.{IsSearchAnswer};
+ghost use Rattle.elaborate.specs.code.Proofs.{IsFoundAtOnce};
+ghost use Rattle.elaborate.specs.declared.answer.Rule.TheVariants.{Search};
+ghost use Rattle.elaborate.specs.declared.answer.StepAnswer.TheVariants.{Accepted};
 ghost use Rattle.kernel.specs.Statements.{AreClosed};
+ghost use Rattle.kernel.specs.declared.entry.Entry.TheVariants.{Lemma};
 ghost use Rattle.step_clauses.specs.Room.{HasRoom};
 
 use crate::answer::{Reason, Rule, StepAnswer};
 use clause_form::Parent;
+use derive_kit::Part;
 use fof_terms::Form;
-use kernel::Theory;
+use function_choices::clausified;
+use kernel::{Entry, Theory};
+use norm_parts::line_by_parts;
 use std::alloc::Global;
 use step_search::{Searched, searched};
 use tptp_base::{List, Memory};
 
-/// The answer to a line that no rule gives, by a search under the limit.
+/// The answer to a line that no rule gives: part by part from the parents, or with new functions in place of a parent's
+/// existential variables, or else by a search under the limit.
 pub fn by_search(
     alloc: Global,
     theory: &Theory,
@@ -30,20 +38,48 @@ pub fn by_search(
     requires room { HasRoom (length theory.now.vocabulary.symbols) (forms_of parents.now) line.now }
     ensures { IfOk result (IsSearchAnswer theory.now parents.now line.now limit) }
 {
+    if let Some(entries) = found_at_once(alloc, theory, parents, line)? {
+        return found(alloc, parents, entries);
+    }
     match searched(alloc, theory, parents, line, limit)? {
-        Searched::Refuted(entries) => {
-            let cites = numbers(alloc, parents)?;
-            Ok(StepAnswer::Accepted {
-                rule: Rule::Search,
-                cites,
-                entries,
-            })
-        }
+        Searched::Refuted(entries) => found(alloc, parents, entries),
         Searched::Dry => Ok(StepAnswer::Unverified(Reason::Dry)),
         Searched::Full => Ok(StepAnswer::Unverified(Reason::Full)),
         Searched::Heavy => Ok(StepAnswer::Unverified(Reason::Heavy)),
         Searched::Wide => Ok(StepAnswer::Unverified(Reason::Wide)),
     }
+}
+
+// Entries that derive the line part by part from the parents or, where it does not follow so, with new functions in
+// place of a parent's existential variables. None only where it does not follow part by part.
+fn found_at_once(
+    alloc: Global,
+    theory: &Theory,
+    parents: &[Parent],
+    line: &Form,
+) -> Result<Option<List<Entry>>, Memory>
+    requires parents { AreOfTheory theory.now parents.now }
+    requires ready { AreReady theory.now.vocabulary parents.now }
+    requires line { IsReady theory.now.vocabulary line.now }
+    ensures { IfOk result (IsFoundAtOnce theory.now parents.now line.now) }
+{
+    if let Some(proof) = line_by_parts(alloc, theory.signature(), parents, line)? {
+        let entries = lemma(alloc, proof)?;
+        return Ok(Some(entries));
+    }
+    clausified(alloc, theory, parents, line)
+}
+
+// The answer that the line is accepted with these entries, citing all parents.
+fn found(alloc: Global, parents: &[Parent], entries: List<Entry>) -> Result<StepAnswer, Memory>
+    ensures { IfOk result (λ answer. answer ≡ Accepted Search (numbers_of parents.now) entries) }
+{
+    let cites = numbers(alloc, parents)?;
+    Ok(StepAnswer::Accepted {
+        rule: Rule::Search,
+        cites,
+        entries,
+    })
 }
 
 /// The numbers of the parents.
@@ -55,4 +91,13 @@ pub fn numbers(alloc: Global, parents: &[Parent]) -> Result<List<u64>, Memory>
         cites.push(parent.number)?;
     }
     Ok(cites)
+}
+
+/// The lemma of the proof, as the only entry.
+pub fn lemma(alloc: Global, proof: Part) -> Result<List<Entry>, Memory>
+    ensures { IfOk result (λ entries. entries ≡ Lemma proof ∷ []) }
+{
+    let mut entries = List::new(alloc);
+    entries.push(Entry::Lemma(proof.into_inner()))?;
+    Ok(entries)
 }

@@ -11,7 +11,7 @@ ghost use Rattle.step_clauses.specs.Room.{HasRoom};
 
 use crate::answer::{Rule, StepAnswer};
 use crate::naming::{chosen, defined, skolemized, split};
-use crate::searching::{by_search, numbers};
+use crate::searching::{by_search, lemma, numbers};
 use clause_form::Parent;
 use derive_kit::Part;
 use fof_terms::Form;
@@ -22,10 +22,11 @@ use rule_proofs::{
 use std::alloc::Global;
 use tptp_base::{List, Memory};
 
-/// The first rule by which the line follows from some of the parents or, where there is none, a search for a refutation
-/// of the clauses of all the parents and of its negation, with entries that derive the line: they are legal in turn after
-/// the theory, and the last adds the line. They need no formula of the theory but the parents, which the line cites.
-/// Where no rule gives the line and the search finds none, the reason says how it ended.
+/// The first rule by which the line follows from some of the parents or, where there is none, `Search`, with entries
+/// that derive the line: they are legal in turn after the theory, and the last adds the line. They need no formula of
+/// the theory but the parents, which the line cites. By `Search` it follows part by part from the parents, or with new
+/// functions in place of a parent's existential variables, or by a refutation of the clauses of all the parents and of
+/// its negation. Where it is found in none of these ways, the reason says how the search ended.
 ///
 /// The search makes at most `limit` clauses. There must be room for its functions.
 pub fn step(
@@ -162,13 +163,4 @@ fn by_entries(alloc: Global, parents: &[Parent], derived: Derived) -> Result<Ste
         cites,
         entries,
     })
-}
-
-/// The lemma of the proof, as the only entry.
-pub fn lemma(alloc: Global, proof: Part) -> Result<List<Entry>, Memory>
-    ensures { IfOk result (λ entries. entries ≡ Lemma proof ∷ []) }
-{
-    let mut entries = List::new(alloc);
-    entries.push(Entry::Lemma(proof.into_inner()))?;
-    Ok(entries)
 }

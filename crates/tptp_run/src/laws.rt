@@ -88,8 +88,8 @@ pub fn format_has_one_ending()
 {}
 
 /// The command `verify` ends in one way, with one status and one text on out, but where it runs the lines: then two
-/// endings are of runs of one derivation over one theory. (Of such runs the one that makes no search has one report, but
-/// two searches for a line may keep different clauses.)
+/// endings are of runs of one derivation over one theory. (Of such runs the one that goes by rules alone has one report,
+/// but for another line two runs may choose different functions, and two searches may keep different clauses.)
 pub fn verify_has_one_ending()
     ensures { (files : StoreFiles) (root : Option (List ℕ)) (limit : ℕ) (problem derivation : List ℕ)
         (ending other : Ending) →

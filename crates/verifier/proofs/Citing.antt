@@ -136,11 +136,13 @@ searched_spare t sources entries line n searched within apart = admitted_spare (
 pub line_spares : (t : Statements) (d : Derivation) (line : Line) (parents : List Parent) (rule : Rule) (cites : List ℕ) (entries : List Entry) (n : ℕ) → AnswersLine t d line parents (step.Accepted rule cites entries) → n < length t.formulas → All (λ cited. cited ≡ n → ⊥) cites → DoNotCite n entries
 line_spares t d line parents rule cites entries n answers within apart = by (kind_ways line.node.leaf t d line.node.cited parents line.form rule cites entries answers)
   where
+    found_spare : (sources : List Parent) → cites ≡ numbers_of sources → IsDerivedFrom t (numbers_of sources) entries line.form ⊎ IsSearchedFrom t sources entries line.form → DoNotCite n entries
+    found_spare sources are (inl derived) = derived_spare t (numbers_of sources) entries line.form n derived within (subst (All (λ cited. cited ≡ n → ⊥)) are apart)
+    found_spare sources are (inr searched) = searched_spare t sources entries line.form n searched within (subst (All (λ cited. cited ≡ n → ⊥)) are apart)
+
     by : ByARule line.node.leaf t d.given line.node.cited parents line.form rule cites entries ⊎ ByASearch line.node.leaf t d.given line.node.cited parents line.form rule cites entries → DoNotCite n entries
     by (inl ruled) = derived_spare t cites entries line.form n ruled.derived within apart
-    by (inr found) =
-        searched_spare t (sources_of line.node.leaf d.given line.node.cited parents) entries line.form n found.searched within
-        (subst (All (λ cited. cited ≡ n → ⊥)) found.cites_are apart)
+    by (inr found) = found_spare (sources_of line.node.leaf d.given line.node.cited parents) found.cites_are found.found
 
 pub both_spare : (n : ℕ) (first second : List Entry) → DoNotCite n first → DoNotCite n second → DoNotCite n (first ++ second)
 both_spare n [] second one two = two

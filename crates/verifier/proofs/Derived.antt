@@ -1,9 +1,8 @@
--- What an answer says of the line that it accepts: a rule gives it, or a search has found it.
+-- What an answer says of the line that it accepts: a rule gives it, or it is found where none does.
 use Rattle.std.proofs.Common.{◌≡◌, ◌⊎◌, inl, inr, ℕ, ◌<◌, Bool, true, false, List, [], ◌∷◌, ◌++◌, length, Some, slice_get, refl, sym, ◌∙◌, ap, subst, arith, length-append}
 use Rattle.fof_terms.specs.SortLaws.{Grows}
 use Rattle.fof_terms.specs.Vocabulary.{Vocabulary}
 use Rattle.fof_terms.specs.declared.form.Form.{Form}
-use Rattle.clause_form.specs.Paths.{forms_of}
 use Rattle.clause_form.specs.declared.path.Parent.{Parent}
 use Rattle.kernel.specs.Statements.{Statements}
 use Rattle.kernel.specs.Entries.{Admits, After, naming, choice}
@@ -13,7 +12,7 @@ use Rattle.kernel.specs.declared.entry.Decl.TheVariants as decl
 use Rattle.derive_kit.specs.Derived.{IsDerivedFrom, numbers_of, with_formulas}
 use Rattle.derive_kit.proofs.DerivedFacts.{derived_adds, has_its_own}
 use Rattle.elaborate.specs.ByRule.{ByRule, ByNone, LeafRule, ByNoLeafRule}
-use Rattle.elaborate.specs.Answers.{IsSearchAnswer}
+use Rattle.elaborate.specs.Answers.{IsFoundFrom, IsSearchAnswer}
 use Rattle.elaborate.specs.declared.answer.Reason.{Reason}
 use Rattle.elaborate.specs.declared.answer.Reason.TheVariants.{Leaf}
 use Rattle.elaborate.specs.declared.answer.Rule.{Rule}
@@ -23,7 +22,6 @@ use Rattle.elaborate.specs.declared.answer.StepAnswer.TheVariants as step
 use Rattle.proof_log.proofs.OneTheory.{one_admitted}
 use Rattle.input_proofs.specs.Functions.{functions_of, searched_vocabulary}
 use Rattle.search_proofs.specs.Searched.{AddsSearched, IsSearchedFrom, searched_theory}
-use Rattle.step_clauses.specs.Wide.{is_wide}
 use Rattle.verifier.specs.Lines.{Derivation, candidates_of, sources_of}
 use Rattle.verifier.specs.Run.{AnswersKind}
 use Rattle.verifier.specs.code.Taking.{CanTake}
@@ -48,28 +46,34 @@ pub record ByARule (is_leaf : Bool) (t : Statements) (given : List Form) (cited 
   pub ruled : IsRuled is_leaf t given cited parents form rule cites
   pub derived : IsDerivedFrom t cites entries form
 
--- By a search, where no rule gives the line, and the clauses are not too many or too large for one.
+-- Where no rule gives the line: with entries that derive it, part by part or by new functions, or with those of a search.
 pub record ByASearch (is_leaf : Bool) (t : Statements) (given : List Form) (cited : Bool) (parents : List Parent) (form : Form) (rule : Rule) (cites : List ℕ) (entries : List Entry) : Type 0 where
   pub unruled : IsUnruled is_leaf t given cited parents form
   pub may : (is_leaf ≡ false) ⊎ (cited ≡ true)
-  pub narrow : is_wide (length t.vocabulary.symbols) (forms_of (sources_of is_leaf given cited parents)) form ≡ false
   pub rule_is : rule ≡ Search
   pub cites_are : cites ≡ numbers_of (sources_of is_leaf given cited parents)
-  pub searched : IsSearchedFrom t (sources_of is_leaf given cited parents) entries form
+  pub found : IsDerivedFrom t (numbers_of (sources_of is_leaf given cited parents)) entries form ⊎ IsSearchedFrom t (sources_of is_leaf given cited parents) entries form
+
+found_ways : (t : Statements) (sources : List Parent) (form : Form) (limit : ℕ) (entries : List Entry) → IsFoundFrom t sources form limit entries → IsDerivedFrom t (numbers_of sources) entries form ⊎ IsSearchedFrom t sources entries form
+found_ways t sources form limit entries (inl by_parts) = inl by_parts.1
+found_ways t sources form limit entries (inr (inl by_functions)) = inl by_functions.derives
+found_ways t sources form limit entries (inr (inr searched)) = inr searched.1
 
 pub kind_ways : (is_leaf : Bool) (t : Statements) (d : Derivation) (cited : Bool) (parents : List Parent) (form : Form) (rule : Rule) (cites : List ℕ) (entries : List Entry) → AnswersKind is_leaf t d cited parents form (step.Accepted rule cites entries)
     → ByARule is_leaf t d.given cited parents form rule cites entries ⊎ ByASearch is_leaf t d.given cited parents form rule cites entries
 kind_ways true t d cited parents form rule cites entries (inl (i, c, there, by, is, derived)) = inl (record { ruled = (i, c, there, by, is); derived = derived })
-kind_ways true t d cited parents form rule cites entries (inr (none, is_cited, (rule_is, cites_are, searched))) = inr (record { unruled = none; may = inr is_cited; narrow = searched.0.narrow; rule_is = rule_is; cites_are = cites_are; searched = searched.1 })
+kind_ways true t d cited parents form rule cites entries (inr (none, is_cited, (rule_is, cites_are, found))) =
+    inr (record { unruled = none; may = inr is_cited; rule_is = rule_is; cites_are = cites_are; found = found_ways t (candidates_of d.given cited parents) form d.limit entries found })
 kind_ways false t d cited parents form rule cites entries (inl (by, is, derived)) = inl (record { ruled = (by, is); derived = derived })
-kind_ways false t d cited parents form rule cites entries (inr (none, (rule_is, cites_are, searched))) = inr (record { unruled = none; may = inl refl; narrow = searched.0.narrow; rule_is = rule_is; cites_are = cites_are; searched = searched.1 })
+kind_ways false t d cited parents form rule cites entries (inr (none, (rule_is, cites_are, found))) =
+    inr (record { unruled = none; may = inl refl; rule_is = rule_is; cites_are = cites_are; found = found_ways t parents form d.limit entries found })
 
 -- no rule gives a line that is not verified
 pub kind_unruled : (is_leaf : Bool) (t : Statements) (d : Derivation) (cited : Bool) (parents : List Parent) (form : Form) (reason : Reason) → AnswersKind is_leaf t d cited parents form (step.Unverified reason) → IsUnruled is_leaf t d.given cited parents form
 kind_unruled true t d cited parents form reason answers = answers.0
 kind_unruled false t d cited parents form reason answers = answers.0
 
--- why a line is not verified: it is a leaf that names nothing, or a search leaves it open or may not be asked for it
+-- why a line is not verified: it is a leaf that names nothing, or a search leaves it open
 pub kind_reason : (is_leaf : Bool) (t : Statements) (d : Derivation) (cited : Bool) (parents : List Parent) (form : Form) (reason : Reason) → AnswersKind is_leaf t d cited parents form (step.Unverified reason)
     → ((reason ≡ Leaf) × (is_leaf ≡ true) × (cited ≡ false)) ⊎ (((is_leaf ≡ false) ⊎ (cited ≡ true)) × IsSearchAnswer t (sources_of is_leaf d.given cited parents) form d.limit (step.Unverified reason))
 kind_reason true t d cited parents form reason (none, inl (free, is)) = inl (is, refl, free)
@@ -107,9 +111,13 @@ searched_gains t u sources entries form searched admits =
 pub accepted_theory : (is_leaf : Bool) (t u : Statements) (d : Derivation) (cited : Bool) (parents : List Parent) (form : Form) (rule : Rule) (cites : List ℕ) (entries : List Entry) → AnswersKind is_leaf t d cited parents form (step.Accepted rule cites entries) → Admits t entries u → Gains t u form
 accepted_theory is_leaf t u d cited parents form rule cites entries answers admits = by (kind_ways is_leaf t d cited parents form rule cites entries answers)
   where
+    found_gains : (sources : List Parent) → IsDerivedFrom t (numbers_of sources) entries form ⊎ IsSearchedFrom t sources entries form → Gains t u form
+    found_gains sources (inl derived) = ruled_gains t u form (ruled_theory t u (numbers_of sources) entries form derived admits)
+    found_gains sources (inr searched) = searched_gains t u sources entries form searched admits
+
     by : ByARule is_leaf t d.given cited parents form rule cites entries ⊎ ByASearch is_leaf t d.given cited parents form rule cites entries → Gains t u form
     by (inl ruled) = ruled_gains t u form (ruled_theory t u cites entries form ruled.derived admits)
-    by (inr found) = searched_gains t u (sources_of is_leaf d.given cited parents) entries form found.searched admits
+    by (inr found) = found_gains (sources_of is_leaf d.given cited parents) found.found
 
 -- a theory with formulas more is not empty
 pub some_formula : (t u : Statements) (form : Form) → Gains t u form → 0 < length u.formulas
@@ -123,11 +131,16 @@ kind_taken is_leaf t d cited parents form (step.Accepted rule cites entries) ans
     taken : (u : Statements) → Admits t entries u → CanTake t (step.Accepted rule cites entries)
     taken u admits = (u, admits, some_formula t u form (accepted_theory is_leaf t u d cited parents form rule cites entries answers admits))
 
+    derived_taken : (cited : List ℕ) → IsDerivedFrom t cited entries form → CanTake t (step.Accepted rule cites entries)
+    derived_taken cited derived = taken (with_formulas t (derived.before ++ form ∷ [])) (derived_adds t cited entries form derived).legal
+
+    found_taken : (sources : List Parent) → IsDerivedFrom t (numbers_of sources) entries form ⊎ IsSearchedFrom t sources entries form → CanTake t (step.Accepted rule cites entries)
+    found_taken sources (inl derived) = derived_taken (numbers_of sources) derived
+    found_taken sources (inr searched) = taken (searched_theory t sources form (searched.before ++ form ∷ [])) (searched_adds t sources entries form searched).legal
+
     by : ByARule is_leaf t d.given cited parents form rule cites entries ⊎ ByASearch is_leaf t d.given cited parents form rule cites entries → CanTake t (step.Accepted rule cites entries)
-    by (inl ruled) = taken (with_formulas t (ruled.derived.before ++ form ∷ [])) (derived_adds t cites entries form ruled.derived).legal
-    by (inr found) =
-        let sources = sources_of is_leaf d.given cited parents in
-        taken (searched_theory t sources form (found.searched.before ++ form ∷ [])) (searched_adds t sources entries form found.searched).legal
+    by (inl ruled) = derived_taken cites ruled.derived
+    by (inr found) = found_taken (sources_of is_leaf d.given cited parents) found.found
 
 -- ---- what stands in a theory stays
 

@@ -1,4 +1,4 @@
--- Two runs of one derivation from one theory, where in the one no search is made: their answers say the same and cite what
+-- Two runs of one derivation from one theory, where the one goes by rules alone: their answers say the same and cite what
 -- is marked alike, whatever their entries are.
 use Rattle.std.proofs.Common.{◌≡◌, ℕ, suc, ◌+◌, ◌-◌, ◌<◌, ◌≤◌, ◌==◌, ◌||◌, ◌⊎◌, inl, inr, Bool, true, false, List, [], ◌∷◌, length, map, Option, None, Some, slice_get, replicate, refl, sym, ◌∙◌, ap, subst, arith}
 use Rattle.std.specs.List.{list_any}
@@ -19,7 +19,6 @@ use Rattle.tstp_graph.specs.declared.shape.Ref.{Ref}
 use Rattle.tstp_graph.specs.declared.shape.Ref.TheVariants as ref
 use Rattle.tstp_graph.specs.Order.{is_taken, first_left}
 use Rattle.verifier.specs.Claim.{answer_cites_marked, cites_marked}
-use Rattle.step_clauses.specs.Wide.{is_wide}
 use Rattle.verifier.specs.Lines.{Derivation, Line, with_number, accepted, parent_of, both, parents_of, candidates_of, sources_of}
 use Rattle.verifier.specs.Report.{said_of}
 use Rattle.verifier.specs.Run.{Progress, AnswersKind, AnswersPlace, AreAnswered, IsAnswered, IsRun, begun, with_answered}
@@ -55,20 +54,6 @@ one_leaf_rule (q ∷ rs) t candidates line r s i j (inr (none, rest)) (inr (nor,
 
 -- ---- the answers to a line in theories with the same symbols
 
--- two lists of parents with the same formulas give the same sources
-sources_alike : (is_leaf : Bool) (given : List Form) (cited : Bool) (ps qs : List Parent) → Alike ps qs → forms_of (sources_of is_leaf given cited ps) ≡ forms_of (sources_of is_leaf given cited qs)
-sources_alike true given cited ps qs alike = candidates_alike given cited ps qs alike
-sources_alike false given cited ps qs alike = alike
-
--- the case of a search is wide, or not
-abbrev width : Statements → Bool → List Form → Bool → List Parent → Form → Bool
-width t is_leaf given cited ps form = is_wide (length t.vocabulary.symbols) (forms_of (sources_of is_leaf given cited ps)) form
-
-one_width : (t u : Statements) (is_leaf : Bool) (given : List Form) (cited : Bool) (ps qs : List Parent) (form : Form) → SameSymbols t u → Alike ps qs → width t is_leaf given cited ps form ≡ width u is_leaf given cited qs form
-one_width t u is_leaf given cited ps qs form same alike =
-    ap (λ (v : Vocabulary). is_wide (length v.symbols) (forms_of (sources_of is_leaf given cited ps)) form) same.vocabulary
-    ∙ ap (λ (fs : List Form). is_wide (length u.vocabulary.symbols) fs form) (sources_alike is_leaf given cited ps qs alike)
-
 never_both : (b : Bool) → b ≡ true → b ≡ false → ⊥
 never_both b one other = let wrong : true ≡ false = sym one ∙ other in cc
 
@@ -77,21 +62,13 @@ never_free : (is_leaf cited : Bool) → is_leaf ≡ true → cited ≡ false →
 never_free is_leaf cited leaf free (inl is) = never_both is_leaf leaf is
 never_free is_leaf cited leaf free (inr is) = never_both cited is free
 
--- what a search leaves open was not too wide for it
-open_narrow : (t : Statements) (sources : List Parent) (form : Form) (limit : ℕ) (reason : Reason) → IsSearchAnswer t sources form limit (step.Unverified reason) → (reason ≡ Wide) ⊎ (is_wide (length t.vocabulary.symbols) (forms_of sources) form ≡ false)
-open_narrow t sources form limit Dry open_ = inr open_.narrow
-open_narrow t sources form limit Full open_ = inr open_.narrow
-open_narrow t sources form limit Heavy open_ = inr open_.narrow
-open_narrow t sources form limit Wide open_ = inl refl
-open_narrow t sources form limit Leaf open_ = absurd open_
-
--- and what no search is made for is
-unsearched_wide : (t : Statements) (sources : List Parent) (form : Form) (limit : ℕ) (reason : Reason) → IsUnsearched (Unverified reason) → IsSearchAnswer t sources form limit (step.Unverified reason) → (reason ≡ Wide) × (is_wide (length t.vocabulary.symbols) (forms_of sources) form ≡ true)
-unsearched_wide t sources form limit Dry direct open_ = absurd direct
-unsearched_wide t sources form limit Full direct open_ = absurd direct
-unsearched_wide t sources form limit Heavy direct open_ = absurd direct
-unsearched_wide t sources form limit Wide direct open_ = (refl, open_)
-unsearched_wide t sources form limit Leaf direct open_ = absurd open_
+-- what is left open is so by a search
+never_open : (t : Statements) (sources : List Parent) (form : Form) (limit : ℕ) (reason : Reason) → IsUnsearched (Unverified reason) → IsSearchAnswer t sources form limit (step.Unverified reason) → ⊥
+never_open t sources form limit Dry direct open_ = direct
+never_open t sources form limit Full direct open_ = direct
+never_open t sources form limit Heavy direct open_ = direct
+never_open t sources form limit Wide direct open_ = direct
+never_open t sources form limit Leaf direct open_ = open_.1
 
 -- a line that a rule gives here has a rule there
 not_unruled : (is_leaf : Bool) (given : List Form) (cited : Bool) (refs : List Ref) (form : Form) (t u : Statements) (ps qs : List Parent) (r : Rule) (cites : List ℕ) → SameSymbols t u → Alike ps qs → IsRuled is_leaf t given cited ps form r cites → IsUnruled is_leaf u given cited qs form → ⊥
@@ -113,7 +90,7 @@ module _ (d : Derivation) (cited : Bool) (refs : List Ref) (form : Form) (t u : 
       by (inl again) = again
       by (inr found) = absurd (not_unruled is_leaf d.given cited refs form t u ps qs r cites same alike ruled found.unruled)
 
-  -- a line that is left open without a search is not accepted there
+  -- a leaf that names nothing and is left open is not accepted there
   not_there : (is_leaf : Bool) (reason : Reason) (s : Rule) (others : List ℕ) (more : List Entry) → IsUnsearched (Unverified reason) → AnswersKind is_leaf t d cited ps form (step.Unverified reason) → AnswersKind is_leaf u d cited qs form (step.Accepted s others more) → ⊥
   not_there is_leaf reason s others more direct none answers = by (kind_ways is_leaf u d cited qs form s others more answers) (kind_reason is_leaf t d cited ps form reason none)
     where
@@ -121,24 +98,16 @@ module _ (d : Derivation) (cited : Bool) (refs : List Ref) (form : Form) (t u : 
           → ((reason ≡ Leaf) × (is_leaf ≡ true) × (cited ≡ false)) ⊎ (((is_leaf ≡ false) ⊎ (cited ≡ true)) × IsSearchAnswer t (sources_of is_leaf d.given cited ps) form d.limit (step.Unverified reason)) → ⊥
       by (inl ruled) why = not_unruled is_leaf d.given cited refs form u t qs ps s others (other_way t u same) (sym alike) ruled.ruled (kind_unruled is_leaf t d cited ps form reason none)
       by (inr found) (inl (is, leaf, free)) = never_free is_leaf cited leaf free found.may
-      by (inr found) (inr (may, open_)) =
-          let wide = unsearched_wide t (sources_of is_leaf d.given cited ps) form d.limit reason direct open_ in
-          never_both (width u is_leaf d.given cited qs form) (sym (one_width t u is_leaf d.given cited ps qs form same alike) ∙ wide.1) found.narrow
+      by (inr found) (inr (may, open_)) = never_open t (sources_of is_leaf d.given cited ps) form d.limit reason direct open_
 
   kinds_reason : (is_leaf : Bool) (r s : Reason) → IsUnsearched (Unverified r) → AnswersKind is_leaf t d cited ps form (step.Unverified r) → AnswersKind is_leaf u d cited qs form (step.Unverified s) → r ≡ s
   kinds_reason is_leaf r s direct none nothing = by (kind_reason is_leaf t d cited ps form r none) (kind_reason is_leaf u d cited qs form s nothing)
     where
-      open_too : (r ≡ Wide) × (width t is_leaf d.given cited ps form ≡ true) → (s ≡ Wide) ⊎ (width u is_leaf d.given cited qs form ≡ false) → r ≡ s
-      open_too wide (inl also) = wide.0 ∙ sym also
-      open_too wide (inr narrow) = absurd (never_both (width u is_leaf d.given cited qs form) (sym (one_width t u is_leaf d.given cited ps qs form same alike) ∙ wide.1) narrow)
-
       by : ((r ≡ Leaf) × (is_leaf ≡ true) × (cited ≡ false)) ⊎ (((is_leaf ≡ false) ⊎ (cited ≡ true)) × IsSearchAnswer t (sources_of is_leaf d.given cited ps) form d.limit (step.Unverified r))
           → ((s ≡ Leaf) × (is_leaf ≡ true) × (cited ≡ false)) ⊎ (((is_leaf ≡ false) ⊎ (cited ≡ true)) × IsSearchAnswer u (sources_of is_leaf d.given cited qs) form d.limit (step.Unverified s)) → r ≡ s
       by (inl (is, leaf, free)) (inl (also, leaf_too, free_too)) = is ∙ sym also
       by (inl (is, leaf, free)) (inr (may, open_)) = absurd (never_free is_leaf cited leaf free may)
-      by (inr (may, open_)) (inl (also, leaf, free)) = absurd (never_free is_leaf cited leaf free may)
-      by (inr (may, open_)) (inr (may_too, again)) =
-          open_too (unsearched_wide t (sources_of is_leaf d.given cited ps) form d.limit r direct open_) (open_narrow u (sources_of is_leaf d.given cited qs) form d.limit s again)
+      by (inr (may, open_)) why = absurd (never_open t (sources_of is_leaf d.given cited ps) form d.limit r direct open_)
 
 -- ---- two runs of the same lines
 

@@ -17,7 +17,7 @@ use Rattle.kernel.specs.declared.entry.Decl.TheVariants as decl
 use Rattle.proof_log.specs.Entries.{HasNoResult}
 use Rattle.proof_log.proofs.EntriesFacts.{AreWritable}
 use Rattle.derive_kit.proofs.DerivedFacts.{derived_adds}
-use Rattle.derive_kit.specs.Derived.{IsDerivedFrom, with_formulas}
+use Rattle.derive_kit.specs.Derived.{IsDerivedFrom, numbers_of, with_formulas}
 use Rattle.elaborate.specs.declared.answer.Rule.{Rule}
 use Rattle.elaborate.specs.declared.answer.StepAnswer.TheVariants as step
 use Rattle.input_proofs.specs.Functions.{functions_of}
@@ -106,9 +106,13 @@ derived_writable t cites entries line derived = no_more_writable t (with_formula
 accepted_writable : (is_leaf : Bool) (t : Statements) (d : Derivation) (cited : Bool) (parents : List Parent) (form : Form) (rule : Rule) (cites : List ℕ) (entries : List Entry) → AnswersKind is_leaf t d cited parents form (step.Accepted rule cites entries) → AreWritable entries
 accepted_writable is_leaf t d cited parents form rule cites entries answers = by (kind_ways is_leaf t d cited parents form rule cites entries answers)
   where
+    found_writable : (sources : List Parent) → IsDerivedFrom t (numbers_of sources) entries form ⊎ IsSearchedFrom t sources entries form → AreWritable entries
+    found_writable sources (inl derived) = derived_writable t (numbers_of sources) entries form derived
+    found_writable sources (inr searched) = searched_writable t sources entries form searched
+
     by : ByARule is_leaf t d.given cited parents form rule cites entries ⊎ ByASearch is_leaf t d.given cited parents form rule cites entries → AreWritable entries
     by (inl ruled) = derived_writable t cites entries form ruled.derived
-    by (inr found) = searched_writable t (sources_of is_leaf d.given cited parents) entries form found.searched
+    by (inr found) = found_writable (sources_of is_leaf d.given cited parents) found.found
 
 none_writable : (entries : List Entry) → entries ≡ [] → AreWritable entries
 none_writable entries is = subst AreWritable (sym is) tt

@@ -1,4 +1,5 @@
--- Lines for which no search is made, since a rule gives them, or they are skipped, or a search may not be asked for them.
+-- Lines that are answered by rules alone: a rule gives them, or they are skipped, or they are leaves that name no given
+-- formula. For another line that is left open, one answer may have found the functions that another has not.
 use Rattle.std.specs.Prelude.{⊤, ℕ, ◌≡◌, List, Some, slice_get}
 use Rattle.elaborate.specs.declared.answer.Rule.TheVariants.{Search}
 use Rattle.elaborate.specs.declared.answer.Reason.TheVariants.{Dry, Full, Heavy, Wide, Leaf}
@@ -10,7 +11,7 @@ IsUnsearched (Accepted rule cites) = rule ≡ Search → ⊥
 IsUnsearched (Unverified Dry) = ⊥
 IsUnsearched (Unverified Full) = ⊥
 IsUnsearched (Unverified Heavy) = ⊥
-IsUnsearched (Unverified Wide) = ⊤
+IsUnsearched (Unverified Wide) = ⊥
 IsUnsearched (Unverified Leaf) = ⊤
 IsUnsearched Skipped = ⊤
 

@@ -89,9 +89,9 @@ pub fn a_good_derivation_has_room()
         → HaveRoom start.vocabulary d → IsStopped start d order place entries end → ⊥ }
 {}
 
-/// A derivation is good where a run accepts each line without a search and one of them is falsehood. Where no answer
-/// cites a formula that is marked, the lines cite none that is marked by their texts. So of the derivations that need no
-/// search the law on good ones asks for no more than is found.
+/// A derivation is good where a run accepts each line by a rule and one of them is falsehood. Where no answer cites a
+/// formula that is marked, the lines cite none that is marked by their texts. So of the derivations that rules alone give
+/// the law on good ones asks for no more than is found.
 pub fn an_accepted_derivation_is_good()
     ensures { (start : Statements) (d : Derivation) (order : List ℕ) (answers : List Answered) (entries : List LogEntry)
         (end : Statements)
@@ -102,10 +102,10 @@ pub fn an_accepted_derivation_is_good()
         → some_marked_ref marks cites ≡ false) }
 {}
 
-/// Two runs of a derivation from one theory, the first of which makes no search, answer each line alike: what is said of
-/// it is the same, and a formula that is marked is cited in the one exactly where it is cited in the other. Their entries
-/// may differ. (Where lines are searched for, the lists of clauses that two searches keep may differ, and with them what
-/// is found.)
+/// Two runs of a derivation from one theory, the first of which goes by rules alone, answer each line alike: what is said
+/// of it is the same, and a formula that is marked is cited in the one exactly where it is cited in the other. Their
+/// entries may differ. (Of other lines the functions that two runs choose, and the lists of clauses that their searches
+/// keep, may differ, and with them what is found.)
 pub fn a_run_has_one_report()
     ensures said { (start : Statements) (d : Derivation) (order : List ℕ) (answers others : List Answered)
         (entries more : List LogEntry) (end last : Statements)

@@ -8,6 +8,8 @@ use Rattle.kernel.specs.Statements.{Statements}
 use Rattle.kernel.specs.declared.entry.Entry.{Entry}
 use Rattle.kernel.specs.declared.proof.Proof.{Proof}
 use Rattle.clause_proofs.specs.Shown.{ShowsLine}
+use Rattle.clausified_steps.specs.Clausified.{IsClausifiedBy}
+use Rattle.norm_parts.specs.ByParts.{ByParts}
 use Rattle.elaborate.specs.Answers.{IsSearchAnswer}
 use Rattle.elaborate.specs.ByRule.{IsFirst, IsNone, shape_rules, symbol_rules}
 use Rattle.elaborate.specs.declared.answer.Reason.TheVariants.{Leaf}
@@ -64,6 +66,11 @@ IsFirstCover w candidates line (Some from) = IsFromFirst w candidates line from
 abbrev pub IsByEntries : Statements → List ℕ → Form → Type 0 → Option (List Entry) → Type 0
 IsByEntries t cites line holds None = holds → ⊥
 IsByEntries t cites line holds (Some entries) = holds × IsDerivedFrom t cites entries line
+
+-- entries that derive the line part by part or with new functions, or it does not follow part by part
+abbrev pub IsFoundAtOnce : Statements → List Parent → Form → Option (List Entry) → Type 0
+IsFoundAtOnce t parents line None = ByParts t.vocabulary parents line → ⊥
+IsFoundAtOnce t parents line (Some entries) = (ByParts t.vocabulary parents line × IsDerivedFrom t (numbers_of parents) entries line) ⊎ IsClausifiedBy t parents line entries
 
 -- what is answered to a leaf that no rule gives
 abbrev pub IsLeftLeaf : Statements → List Parent → Bool → Form → ℕ → StepAnswer → Type 0
