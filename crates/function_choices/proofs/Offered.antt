@@ -44,7 +44,7 @@ pub record AreFound (t : Statements) (line : Form) (all : List ℕ) (i : ℕ) (f
   pub few : length found ≤ 100
   pub each : length found < 100 → (f : ℕ) → IsFresh f t → is_listed (take i all) f ≡ true → is_listed found f ≡ true
 
-each_snoc : {X : Type 0} (P : X → Type 0) (xs : List X) (x : X) → Each P xs → P x → Each P (xs ++ x ∷ [])
+pub each_snoc : {X : Type 0} (P : X → Type 0) (xs : List X) (x : X) → Each P xs → P x → Each P (xs ++ x ∷ [])
 each_snoc P [] x all h = (h, tt)
 each_snoc P (y ∷ xs) x all h = (all.0, each_snoc P xs x all.1 h)
 

@@ -1,5 +1,5 @@
 -- What is chosen takes the places of existential variables as the rule `skolem` has it.
-use Rattle.std.specs.Prelude.{ℕ, zero, suc, ◌≡◌, ◌+◌, ◌<◌, ◌≤◌, ◌==◌, ◌||◌, nat_eq, nat_lt, cond, if◌then◌else◌, Bool, true, false, List, [], ◌∷◌, ◌++◌, length, filter, Some, refl}
+use Rattle.std.specs.Prelude.{ℕ, zero, suc, ◌≡◌, ◌+◌, ◌<◌, ◌≤◌, ◌==◌, ◌||◌, nat_eq, nat_lt, cond, if◌then◌else◌, not, Bool, true, false, List, [], ◌∷◌, ◌++◌, length, take, filter, Option, Some, refl}
 use Rattle.std.specs.List.{AllByRecursion as Each, IsDistinct, list_all}
 use Rattle.std.proofs.Common.{ap, sym, subst, ◌∙◌, ◌⊎◌, inl, inr, arith}
 use Rattle.std.proofs.lemmas.Bool.Decides.{nat_tests}
@@ -21,8 +21,10 @@ use Rattle.skolem_fresh.proofs.Distinct.{among_contains, distinct_none}
 use Rattle.step_clauses.specs.Skolems.{nearest}
 use Rattle.step_clauses.proofs.FreeFacts.{below}
 use Rattle.function_choices.specs.declared.atoms.Placed.{Placed}
-use Rattle.function_choices.specs.Arguments.{needed, argument_count}
-use Rattle.function_choices.specs.Choices.{use_of, MayStand, IsChosen, AreChosen, an_atom, an_equation, a_negation, a_conjunction, a_disjunction, for_each, for_some, none, more}
+use Rattle.function_choices.specs.Arguments.{needed, argument_count, variables_for, arguments_of}
+use Rattle.function_choices.specs.Order.{as_told, all_different, may_be_arguments}
+use Rattle.function_choices.specs.Reading.{told}
+use Rattle.function_choices.specs.Choices.{use_of, with_its_variable, MayStand, IsChosen, AreChosen, an_atom, an_equation, a_negation, a_conjunction, a_disjunction, for_each, for_some, none, more}
 
 or_right : (a b : Bool) → b ≡ true → (a || b) ≡ true
 or_right true b e = refl
@@ -97,21 +99,75 @@ every : (xs : List ℕ) → filter (λ k. true) xs ≡ xs
 every [] = refl
 every (x ∷ xs) = ap (λ (ys : List ℕ). x ∷ ys) (every xs)
 
+-- Lists that pass the test of arguments.
+not_true : (b : Bool) → not b ≡ true → b ≡ false
+not_true true e = sym e
+not_true false e = refl
+
+neither : (a b : Bool) → (a || b) ≡ false → (a ≡ false) × (b ≡ false)
+neither true b e = absurd (cc)
+neither false b e = (refl, e)
+
+other_number : (x y : ℕ) → (y == x) ≡ false → nat_eq x y ≡ false
+other_number x y e = grind (arith, nat_tests)
+
+apart_from : (xs : List ℕ) (x : ℕ) → is_listed xs x ≡ false → Each (λ y. nat_eq x y ≡ false) xs
+apart_from [] x e = tt
+apart_from (y ∷ xs) x e = let parts = neither (y == x) (is_listed xs x) e in (other_number x y parts.0, apart_from xs x parts.1)
+
+all_distinct : (xs : List ℕ) → all_different xs ≡ true → IsDistinct nat_eq xs
+all_distinct [] e = distinct_none
+all_distinct (x ∷ xs) e =
+    let parts = both (not (is_listed xs x)) (all_different xs) e in
+    IsDistinct-cons nat_eq x xs (apart_from xs x (not_true (is_listed xs x) parts.0)) (all_distinct xs parts.1)
+
+among_all : (xs ys : List ℕ) (k : ℕ) → list_all (is_listed xs) ys ≡ true → is_listed ys k ≡ true → is_listed xs k ≡ true
+among_all xs [] k h e = cc
+among_all xs (y ∷ ys) k h e =
+    let parts = both (is_listed xs y) (list_all (is_listed xs) ys) h in
+    elim (one_of (y == k) (is_listed ys k) e) [
+      | inl here ↦ subst (λ n. is_listed xs n ≡ true) (same_number y k here) parts.0
+      | inr there ↦ among_all xs ys k parts.1 there
+    ]
+
 module _ (v : Vocabulary) (atoms : List Placed) (fs : List ℕ) where
-  arguments : (scope : List ℕ) (s : ℕ) (a : Form) (b : Bool) → is_sorted v scope (Ex s a) ≡ true → AreArguments (if b then nearest (length scope) else needed (length scope) a) (Ex s a)
-  arguments scope s a true e = record {
+  -- the variables that stand free in the formula are among those that are needed
+  are_needed : (scope : List ℕ) (s : ℕ) (a : Form) → is_sorted v scope (Ex s a) ≡ true → (k : ℕ) → has_variable k (Ex s a) ≡ true → is_listed (needed (length scope) a) k ≡ true
+  are_needed scope s a e k h = kept (λ j. has_variable (j + 1) a) (nearest (length scope)) k (listed (length scope) k (below v (Ex s a) scope k e h)) (sym (has_variable-Ex k s a) ∙ h)
+
+  as_they_stand : (scope : List ℕ) (s : ℕ) (a : Form) (b : Bool) → is_sorted v scope (Ex s a) ≡ true → AreArguments (if b then nearest (length scope) else needed (length scope) a) (Ex s a)
+  as_they_stand scope s a true e = record {
     distinct = subst (IsDistinct nat_eq) (every (nearest (length scope))) (distinct (λ k. true) (length scope));
     all_free = λ k h. among_contains (nearest (length scope)) k (listed (length scope) k (below v (Ex s a) scope k e h));
   }
-  arguments scope s a false e = record {
+  as_they_stand scope s a false e = record {
     distinct = distinct (λ k. has_variable (k + 1) a) (length scope);
-    all_free = λ k h. among_contains (needed (length scope) a) k (kept (λ j. has_variable (j + 1) a) (nearest (length scope)) k (listed (length scope) k (below v (Ex s a) scope k e h)) (sym (has_variable-Ex k s a) ∙ h));
+    all_free = λ k h. among_contains (needed (length scope) a) k (are_needed scope s a e k h);
   }
 
-  may_replace : (scope : List ℕ) (before : List Use) (s : ℕ) (a : Form) (f : ℕ) (u : Use) → u ≡ use_of v (length scope) s a f → MayStand v atoms scope before s a f → is_sorted v scope (Ex s a) ≡ true → MayReplace v scope u s a
+  -- in the order that is told, where those may be arguments
+  by_test : (b : Bool) (xs ys : List ℕ) (a : Form) → ((b ≡ true) → AreArguments xs a) → AreArguments ys a → AreArguments (if b then xs else ys) a
+  by_test true xs ys a f h = f refl
+  by_test false xs ys a f h = h
+
+  arguments : (scope : List ℕ) (s : ℕ) (a : Form) (told : List (Option ℕ)) (f : ℕ) → is_sorted v scope (Ex s a) ≡ true → AreArguments (arguments_of v told (length scope) a f) (Ex s a)
+  arguments scope s a told f e =
+      let n = length scope in
+      let ks : List ℕ = variables_for v n a f in
+      let xs : List ℕ = as_told told ks in
+      by_test (may_be_arguments (needed n a) xs) xs ks (Ex s a)
+      (λ h.
+      let parts = both (all_different xs) (list_all (is_listed xs) (needed n a)) h in
+      record {
+        distinct = all_distinct xs parts.0;
+        all_free = λ k g. among_contains xs k (among_all xs (needed n a) k parts.1 (are_needed scope s a e k g));
+      })
+      (as_they_stand scope s a (argument_count v f == n) e)
+
+  may_replace : (scope : List ℕ) (before : List Use) (s : ℕ) (a : Form) (f : ℕ) (u : Use) → u ≡ use_of v atoms (length scope) s a f → MayStand v atoms scope before s a f → is_sorted v scope (Ex s a) ≡ true → MayReplace v scope u s a
   may_replace scope before s a f u eu m e = subst (λ x. MayReplace v scope x s a) (sym eu) (record {
     sort = refl;
-    arguments = arguments scope s a (argument_count v f == length scope) e;
+    arguments = arguments scope s a (told f (take 8 (with_its_variable a)) atoms) f e;
     fits = m.fits;
   })
 

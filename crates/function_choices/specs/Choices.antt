@@ -13,21 +13,23 @@ use Rattle.function_choices.specs.declared.atoms.Placed.{Placed}
 use Rattle.function_choices.specs.Alike.{each_alike}
 use Rattle.function_choices.specs.Arguments.{arguments_of}
 use Rattle.function_choices.specs.Atoms.{atoms_at, stands_in}
-
--- the symbol in place of the variable of an existential formula over the body, under n universal quantifiers
-abbrev pub use_of : Vocabulary → ℕ → ℕ → Form → ℕ → Use
-use_of v n s body f = record { function = f; variables = arguments_of v n body f; sort = s }
+use Rattle.function_choices.specs.Reading.{told}
 
 -- the atoms of the body in which the variable of an existential quantifier over it stands
 abbrev pub with_its_variable : Form → List Placed
 with_its_variable body = filter (λ (p : Placed). stands_in p.depth p.atom) (atoms_at 0 body)
+
+-- The symbol in place of the variable of an existential formula over the body, under n universal quantifiers, with its
+-- arguments in the order that these atoms of a line tell, by the first eight atoms with the variable.
+abbrev pub use_of : Vocabulary → List Placed → ℕ → ℕ → Form → ℕ → Use
+use_of v atoms n s body f = record { function = f; variables = arguments_of v (told f (take 8 (with_its_variable body)) atoms) n body f; sort = s }
 
 -- The symbol may stand for the variable of an existential formula under universal quantifiers over these sorts, of
 -- which there are a hundred at most: it is a function whose sorts fit, it stands for no variable before, and with it
 -- each of the first eight atoms with the variable is alike to one of these.
 pub record MayStand (v : Vocabulary) (atoms : List Placed) (scope : List ℕ) (before : List Use) (s : ℕ) (body : Form) (f : ℕ) : Type 0 where
   pub few : length scope ≤ 100
-  pub fits : Fits v scope (use_of v (length scope) s body f)
+  pub fits : Fits v scope (use_of v atoms (length scope) s body f)
   pub other : AreOthers f before
   pub alike : each_alike f (take 8 (with_its_variable body)) atoms ≡ true
 
@@ -49,7 +51,7 @@ mutual
     a_conjunction : (scope : List ℕ) (before uses : List Use) (as_ bs : List Form) → AreChosen v atoms fs scope before as_ uses bs → IsChosen v atoms fs scope before (And as_) uses (And bs)
     a_disjunction : (scope : List ℕ) (before uses : List Use) (as_ bs : List Form) → AreChosen v atoms fs scope before as_ uses bs → IsChosen v atoms fs scope before (Or as_) uses (Or bs)
     for_each : (scope : List ℕ) (before uses : List Use) (s : ℕ) (a b : Form) → IsChosen v atoms fs (s ∷ scope) before a uses b → IsChosen v atoms fs scope before (All s a) uses (All s b)
-    for_some : (scope : List ℕ) (before uses : List Use) (s : ℕ) (a b : Form) (f : ℕ) (u : Use) → u ≡ use_of v (length scope) s a f → IsFirst v atoms fs scope before s a f
+    for_some : (scope : List ℕ) (before uses : List Use) (s : ℕ) (a b : Form) (f : ℕ) (u : Use) → u ≡ use_of v atoms (length scope) s a f → IsFirst v atoms fs scope before s a f
         → IsChosen v atoms fs scope (before ++ u ∷ []) (instance_of a (value_of u)) uses b → IsChosen v atoms fs scope before (Ex s a) (u ∷ uses) b
 
   -- the same of each of the formulas
@@ -68,7 +70,7 @@ mutual
     in_disjunction : (scope : List ℕ) (before : List Use) (as_ : List Form) → AreRefused v atoms fs scope before as_ → IsRefused v atoms fs scope before (Or as_)
     under_each : (scope : List ℕ) (before : List Use) (s : ℕ) (a : Form) → IsRefused v atoms fs (s ∷ scope) before a → IsRefused v atoms fs scope before (All s a)
     no_function : (scope : List ℕ) (before : List Use) (s : ℕ) (a : Form) → Each (λ g. MayStand v atoms scope before s a g → ⊥) fs → IsRefused v atoms fs scope before (Ex s a)
-    under_some : (scope : List ℕ) (before : List Use) (s : ℕ) (a : Form) (f : ℕ) (u : Use) → u ≡ use_of v (length scope) s a f → IsFirst v atoms fs scope before s a f
+    under_some : (scope : List ℕ) (before : List Use) (s : ℕ) (a : Form) (f : ℕ) (u : Use) → u ≡ use_of v atoms (length scope) s a f → IsFirst v atoms fs scope before s a f
         → IsRefused v atoms fs scope (before ++ u ∷ []) (instance_of a (value_of u)) → IsRefused v atoms fs scope before (Ex s a)
 
   -- for one of the formulas, after those before it

@@ -3,5 +3,9 @@ pub mod Arguments
 pub mod Atoms
 pub mod Choice
 pub mod Choices
+pub mod Matched
 pub mod NewSymbols
+pub mod Order
+pub mod Reading
+pub mod Told
 pub mod code

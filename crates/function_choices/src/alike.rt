@@ -34,7 +34,7 @@ fn some_alike(pattern: &Placed, function: SymId, atoms: &[Placed]) -> bool
 }
 
 // Whether the atoms are alike, the sides of an equation in either order.
-fn alike_atom(pattern: &AtomOf, function: SymId, variable: u32, atom: &AtomOf) -> bool
+pub(crate) fn alike_atom(pattern: &AtomOf, function: SymId, variable: u32, atom: &AtomOf) -> bool
     ensures { result ≡ atoms_alike function variable pattern.now atom.now }
 {
     match pattern {
@@ -57,7 +57,7 @@ fn alike_atom(pattern: &AtomOf, function: SymId, variable: u32, atom: &AtomOf) -
 }
 
 // Whether both terms are alike to their partners.
-fn alike_both(
+pub(crate) fn alike_both(
     first: &Term,
     second: &Term,
     function: SymId,

@@ -40,7 +40,7 @@ pub(crate) fn needed(alloc: Global, count: u32, body: &Form) -> Result<List<u32>
 }
 
 // All the variables, if the symbol takes so many arguments, and else those that are needed.
-pub(crate) fn arguments<'a>(
+pub(crate) fn variables_for<'a>(
     sig: &Signature,
     symbol: SymId,
     outer: u32,

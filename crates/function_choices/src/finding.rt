@@ -1,20 +1,19 @@
 // The first symbol that may stand for an existential variable.
-ghost use Rattle.std.specs.Prelude.{◌≡◌, ◌↔◌, ◌≤◌, ◌<◌, IfOk, IsTrue, length, Some, take, true, ◌^◌, ◌==◌, if◌then◌else◌};
-ghost use Rattle.std.specs.List.{AllByRecursion as Each};
+ghost use Rattle.std.specs.Prelude.{◌≡◌, ◌↔◌, ◌<◌, IfOk, IsTrue, length, take, ◌^◌};
 ghost use Rattle.fof_terms.specs.Scope.{scope_sorts};
 ghost use Rattle.fof_terms.specs.Sorts.{binder_depth};
 ghost use Rattle.fof_terms.specs.declared.form.Form.{Ex};
 ghost use Rattle.skolem_fresh.specs.Choosing.{IsWithin};
 ghost use Rattle.skolem_fresh.specs.Uses.{Fits, value_of as value_in};
 ghost use Rattle.skolem_proofs.specs.Choosing.{AreOthers};
-ghost use Rattle.function_choices.specs.Alike.{each_alike};
-ghost use Rattle.function_choices.specs.Arguments.{argument_count as count_in};
-ghost use Rattle.function_choices.specs.Choices.{use_of, with_its_variable};
-ghost use Rattle.function_choices.specs.code.Walked.{IsFound, IsReplaced};
+ghost use Rattle.function_choices.specs.Choices.{with_its_variable};
+ghost use Rattle.function_choices.specs.code.Walked.{IsFound, IsReplaced, IsTried, applied as applied_in};
 
 use crate::alike::all_alike;
-use crate::arguments::{arguments, needed, outermost_first};
+use crate::arguments::{needed, outermost_first, variables_for};
 use crate::atoms::{Placed, push_atoms, with_variable};
+use crate::order::ordered;
+use crate::reading::told;
 use fof_terms::{Form, Scope, Signature, SortId, SymId, instantiate, sort_of};
 use skolem_fresh::{Use, value_of};
 use std::alloc::Global;
@@ -82,16 +81,52 @@ fn found(
     let patterns = patterns(alloc, body)?;
     let patterns = first_patterns(patterns.as_slice());
     for symbol in symbols {
-        let applied = applied(alloc, sig, *symbol, sort, outer, all, needed)?;
-        if may_stand(alloc, sig, scope, &applied, patterns, atoms, before)? {
-            return Ok(Some(applied));
+        let tried = tried(
+            alloc, sig, scope, *symbol, sort, outer, all, needed, patterns, atoms, before,
+        )?;
+        if let Some(function) = tried {
+            return Ok(Some(function));
         }
     }
     Ok(None)
 }
 
+// The symbol in place of a variable of that sort, with these universal variables around it, all and those that are
+// needed, if it serves: it stands for none before, its sorts fit, and with it each of the patterns is alike to one of
+// the atoms.
+fn tried(
+    alloc: Global,
+    sig: &Signature,
+    scope: &Scope<'_>,
+    symbol: SymId,
+    sort: SortId,
+    outer: u32,
+    all: &[u32],
+    needed: &[u32],
+    patterns: &[Placed],
+    atoms: &[Placed],
+    before: &[Use],
+) -> Result<Option<Use>, Memory>
+    ensures { IfOk result (IsTried sig.now patterns.now atoms.now (scope_sorts scope.now) before.now
+        (applied_in sig.now patterns.now atoms.now outer sort all.now needed.now symbol)) }
+{
+    if !are_others(symbol, before) {
+        return Ok(None);
+    }
+    if !all_alike(patterns, symbol, atoms) {
+        return Ok(None);
+    }
+    let function = applied(
+        alloc, sig, symbol, sort, outer, all, needed, patterns, atoms,
+    )?;
+    if fits(alloc, sig, scope, &function)? {
+        return Ok(Some(function));
+    }
+    Ok(None)
+}
+
 // The symbol in place of a variable of that sort, under so many universal quantifiers: at all these variables if it
-// takes as many arguments, and else at those that are needed.
+// takes as many arguments, and else at those that are needed, in the order that the atoms tell.
 fn applied(
     alloc: Global,
     sig: &Signature,
@@ -100,14 +135,14 @@ fn applied(
     outer: u32,
     all: &[u32],
     needed: &[u32],
+    patterns: &[Placed],
+    atoms: &[Placed],
 ) -> Result<Use, Memory>
-    ensures { IfOk result (λ made. made ≡ record {
-      function = symbol;
-      variables = if count_in sig.now symbol == outer then all.now else needed.now;
-      sort = sort;
-    }) }
+    ensures { IfOk result (λ made. made ≡ applied_in sig.now patterns.now atoms.now outer sort all.now needed.now symbol) }
 {
-    let variables = List::from_slice(alloc, arguments(sig, symbol, outer, all, needed))?;
+    let told = told(alloc, symbol, patterns, atoms)?;
+    let variables = variables_for(sig, symbol, outer, all, needed);
+    let variables = ordered(alloc, needed, told.as_slice(), variables)?;
     Ok(Use {
         function: symbol,
         variables,
@@ -134,30 +169,6 @@ fn first_patterns(patterns: &[Placed]) -> &[Placed]
     } else {
         patterns
     }
-}
-
-// Whether the function may stand for the variable of its sort: it stands for none before, its sorts fit, and with it
-// each of the patterns is alike to one of the atoms.
-fn may_stand(
-    alloc: Global,
-    sig: &Signature,
-    scope: &Scope<'_>,
-    function: &Use,
-    patterns: &[Placed],
-    atoms: &[Placed],
-    before: &[Use],
-) -> Result<bool, Memory>
-    ensures { IfOk result (λ answer. IsTrue answer ↔ AreOthers function.now.function before.now
-        × Fits sig.now (scope_sorts scope.now) function.now
-        × (each_alike function.now.function patterns.now atoms.now ≡ true)) }
-{
-    if !are_others(function.function, before) {
-        return Ok(false);
-    }
-    if !fits(alloc, sig, scope, function)? {
-        return Ok(false);
-    }
-    Ok(all_alike(patterns, function.function, atoms))
 }
 
 // Whether none of the functions is this symbol.

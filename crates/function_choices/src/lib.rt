@@ -9,7 +9,11 @@ mod choosing;
 mod finding;
 mod laws;
 mod lines;
+mod matched;
+mod order;
+mod reading;
 mod symbols;
+mod told;
 
 pub use choice::{Choice, choose_functions};
 pub use laws::chosen_as_skolemized;

@@ -1,9 +1,9 @@
 // New symbols of a line.
-ghost use Rattle.std.specs.Prelude.{◌≡◌, IfOk, OnOk};
-ghost use Rattle.fof_terms.specs.Standing.{is_listed};
+ghost use Rattle.std.specs.Prelude.{IfOk, OnOk};
 ghost use Rattle.function_choices.specs.NewSymbols.{AreNewSymbols};
 ghost use Rattle.function_choices.specs.code.Offered.{IsAdded};
 
+use crate::order::is_among;
 use fof_terms::{Form, SymId, symbols_of};
 use kernel::Theory;
 use std::alloc::Global;
@@ -45,16 +45,4 @@ fn add_new(theory: &Theory, symbol: SymId, found: &mut List<SymId>) -> Result<()
     }
     found.push(symbol)?;
     Ok(())
-}
-
-// Whether the symbol is one of these.
-fn is_among(symbols: &[SymId], symbol: SymId) -> bool
-    ensures { result ≡ is_listed symbols.now symbol }
-{
-    for other in symbols {
-        if *other == symbol {
-            return true;
-        }
-    }
-    false
 }
