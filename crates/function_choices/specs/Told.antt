@@ -1,6 +1,6 @@
 -- What a match tells of a function's arguments. The term of the function stands in the place of variable k, which is
 -- existential, and the universal variables around it are counted from k + 1 on.
-use Rattle.std.specs.Prelude.{ℕ, ◌+◌, ◌-◌, ◌==◌, ◌&&◌, nat_lt, Bool, false, List, [], ◌∷◌, map, find, take, Option, Some, None}
+use Rattle.std.specs.Prelude.{ℕ, ◌-◌, ◌==◌, ◌&&◌, nat_lt, Bool, false, List, [], ◌∷◌, map, find, take, Option, Some, None}
 use Rattle.std.specs.Option.{option_map, option_or}
 use Rattle.fof_terms.specs.declared.term.Term.{Term}
 use Rattle.fof_terms.specs.declared.term.Term.TheViews.{out-Term}
