@@ -14,6 +14,7 @@ use Rattle.norm_parts.specs.ByParts.{ByParts}
 use Rattle.norm_parts.specs.Shown.{IsLineByParts}
 use Rattle.clausified_steps.specs.Clausified.{IsClausifiedBy}
 use Rattle.step_search.specs.Search.{IsSearched}
+use Rattle.step_search.specs.declared.outcome.Searched.{Searched}
 use Rattle.step_search.specs.declared.outcome.Searched.TheVariants.{Refuted}
 use Rattle.elaborate.specs.declared.answer.Rule.TheVariants.{Search}
 use Rattle.elaborate.specs.declared.answer.StepAnswer.TheVariants.{Accepted}
@@ -43,8 +44,13 @@ module _ (t : Statements) (parents : List Parent) (line : Form) (limit : ℕ) wh
   pub at_once_answer : (o : Option (List Entry)) (entries : List Entry) → o ≡ Some entries → IsFoundAtOnce t parents line o → IsSearchAnswer t parents line limit (Accepted Search (numbers_of parents) entries)
   at_once_answer o entries is found = (refl, refl, at_once entries (subst (IsFoundAtOnce t parents line) is found))
 
-  pub not_by_parts : (o : Option (List Entry)) → o ≡ None → IsFoundAtOnce t parents line o → ByParts t.vocabulary parents line → ⊥
-  not_by_parts o is found = subst (IsFoundAtOnce t parents line) is found
+  -- the way in which a search that follows ends
+  module _ (s end : Searched) (is : s ≡ end) (searched : IsSearched t parents line limit s) where
+    ends : IsSearched t parents line limit end
+    ends = subst (IsSearched t parents line limit) is searched
 
-  pub refuted_answer : (entries : List Entry) → IsSearched t parents line limit (Refuted entries) → IsSearchAnswer t parents line limit (Accepted Search (numbers_of parents) entries)
-  refuted_answer entries refuted = (refl, refl, inr (inr refuted))
+    pub open_answer : (o : Option (List Entry)) → o ≡ None → IsFoundAtOnce t parents line o → (ByParts t.vocabulary parents line → ⊥) × IsSearched t parents line limit end
+    open_answer o none found = (subst (IsFoundAtOnce t parents line) none found, ends)
+
+  pub refuted_answer : (s : Searched) (entries : List Entry) → s ≡ Refuted entries → IsSearched t parents line limit s → IsSearchAnswer t parents line limit (Accepted Search (numbers_of parents) entries)
+  refuted_answer s entries is searched = (refl, refl, inr (inr (ends s (Refuted entries) is searched)))
