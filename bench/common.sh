@@ -25,7 +25,8 @@ seconds() {
 # The processor's seconds that $program takes on these words. What it prints is left in the file answer.
 processor() {
     /usr/bin/time -f "%U %S" -o "$folder/processor" "$program" "$@" > "$folder/answer"
-    awk '{ printf "%.2f", $1 + $2 }' "$folder/processor"
+    # A status other than 0 has a line of its own before.
+    tail -n 1 "$folder/processor" | awk '{ printf "%.2f", $1 + $2 }'
 }
 
 # The most memory that a command takes, in bytes.

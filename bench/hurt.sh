@@ -7,14 +7,14 @@
 #     bench/hurt.sh [PROGRAM]
 #
 # The program is the one that LLVM makes, if none is named. SCALE divides the numbers of parts, and ONLY names the texts
-# that are tried. A run that takes more than WAIT of the processor's seconds is ended, with status 152, and it gets no
-# more than MEMORY KB of addresses, which is status 6. docs/RULES.md, docs/LOG.md and docs/USING.md say what may take
-# long, or much memory, and why.
+# that are tried. A run that takes more than WAIT of the processor's seconds is ended, with status 152. It gets no more
+# than MEMORY KB of addresses, which is status 6, and STACK KB of stack: 8 MB are not enough for formulas of a log that
+# nest 100,000 deep. docs/RULES.md, docs/LOG.md and docs/USING.md say what may take long, or much memory, and why.
 set -eu
 . "$(dirname "$0")/common.sh"
 tptp=$(realpath "${1:-$(program_of tptp_tool verify data/pq.p data/pq.s)}")
 cd "$folder"
-scale=${SCALE:-1} only=${ONLY:-} limit=${WAIT:-600} memory=${MEMORY:-16000000}
+scale=${SCALE:-1} only=${ONLY:-} limit=${WAIT:-600} memory=${MEMORY:-16000000} stack=${STACK:-65536}
 wrong=0
 
 # A text, so many times.
@@ -56,6 +56,7 @@ run() {
     (
         ulimit -c 0
         ulimit -v "$memory"
+        ulimit -s "$stack"
         ulimit -t "$limit"
         exec /usr/bin/time -f '%U %S %M' -o measured "$tptp" "$@" > answer 2> /dev/null
     ) || status=$?

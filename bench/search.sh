@@ -32,7 +32,7 @@ while read -r input size; do
     checked=-
     test "$said" != "l ok search" || checked=$(processor check x.p x.log)
     printf '%-8s %5d  %-22s %7.2f s  x%4.1f  %7d entries %9d bytes  check %s s\n' "$input" "$size" "$said" "$time" \
-        "$(calculate "$time / ($half + 0.001)")" $(($(wc -l < x.log) - 1)) "$(wc -c < x.log)" "$checked"
+        "$(calculate "$time / ($half + 0.01)")" $(($(wc -l < x.log) - 1)) "$(wc -c < x.log)" "$checked"
 done << END
 chain 500
 chain 1000
