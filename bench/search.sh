@@ -5,12 +5,11 @@
 #
 #     bench/search.sh [PROGRAM]
 #
-# The program is the one that LLVM makes, if none is named. LIMIT is that of the search (10,000).
+# The program is the one that LLVM makes, if none is named.
 set -eu
 . "$(dirname "$0")/common.sh"
 program=$(realpath "${1:-$(program_of tptp_tool verify data/pq.p data/pq.s)}")
 cd "$folder"
-limit=${LIMIT:-10000}
 
 # The problem and the derivation of an input of this size.
 write() {
@@ -23,7 +22,7 @@ verifying() {
     processor --limit "$limit" verify x.p x.s x.log || true
 }
 
-while read -r input size; do
+while read -r input size limit; do
     write "$input" $((size / 2))
     half=$(verifying)
     write "$input" "$size"
@@ -34,17 +33,15 @@ while read -r input size; do
     printf '%-8s %5d  %-22s %7.2f s  x%4.1f  %7d entries %9d bytes  check %s s\n' "$input" "$size" "$said" "$time" \
         "$(calculate "$time / ($half + 0.01)")" $(($(wc -l < x.log) - 1)) "$(wc -c < x.log)" "$checked"
 done << END
-chain 500
-chain 1000
-chain 2000
-deep 60
-deep 120
-sets 20
-sets 40
-pigeons 3
-pigeons 4
-lattice 1
-lattice 4
-group 1
-group 2
+chain 500 10000
+chain 1000 10000
+chain 2000 10000
+deep 60 1000
+deep 120 1000
+sets 20 1000
+sets 40 1000
+pigeons 2 1000
+pigeons 3 1000
+lattice 2 200
+group 2 1000
 END
