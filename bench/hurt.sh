@@ -142,7 +142,7 @@ selected() {
     (printf "include('x.ax',["; joined 'n@,' "$1"; echo 'n0]).') > x.p
     numbered 'cnf(n@,axiom,p).' "$1" > x.ax
 }
-hurt many_includes 4194304 0 parse x.p
+hurt many_includes 3900000 0 parse x.p
 hurt selected 2400000 0 parse x.p
 
 # Derivations: lines that all wait for the last one, each for the next one, long names, many parents.
@@ -256,13 +256,13 @@ colours() {
         print ",inference(r,[],[a]))."
     }' > x.s
 }
-hurt literals_resolved 10000 1 verify x.p x.s x.log
+hurt literals_resolved 1250 1 verify x.p x.s x.log
 hurt literals_of_none 10000 1 verify x.p x.s x.log
 hurt deep_terms 245 0 verify x.p x.s x.log
 hurt images 16 0 verify x.p x.s x.log
 hurt large_parent 2000 1 verify x.p x.s x.log
 hurt parts_turned 10000 1 verify x.p x.s x.log
-hurt growing_terms 400 1 verify x.p x.s x.log
+hurt growing_terms 12 1 verify x.p x.s x.log
 hurt colours 8 1 verify x.p x.s x.log
 echo "$wrong are wrong"
 test "$wrong" -eq 0
