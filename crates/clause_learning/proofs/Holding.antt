@@ -1,6 +1,6 @@
 -- What is held while clauses are resolved.
-use Rattle.std.proofs.Common.{◌≡◌, ◌≢◌, ℕ, zero, suc, ◌+◌, ◌<◌, not, eqb, cond, Bool, true, false, List, [], ◌∷◌, ◌++◌, length, Option, Some, None, slice_get, Contains, ◌⊎◌, refl, sym, ap, ◌∙◌, subst, inl, inr, arith}
-use Rattle.std.proofs.lemmas.Bool.{cases_eq, cases_Bool, eq-eqb, ne_eqb, false≢true}
+use Rattle.std.proofs.Common.{◌≡◌, ◌≢◌, ℕ, not, eqb, cond, Bool, true, false, List, [], ◌∷◌, ◌++◌, Option, Some, None, slice_get, Contains, refl, sym, ap, ◌∙◌, subst, inl, inr}
+use Rattle.std.proofs.lemmas.Bool.{cases_eq, eq-eqb, ne_eqb, false≢true}
 use Rattle.std.proofs.lemmas.List.Elements.{Contains-append_cases, Contains-append_left, Contains-append_right}
 use Rattle.clause_learning.specs.declared.literal.Literal.{Literal}
 use Rattle.clause_learning.specs.declared.trail.Value.{Value}
@@ -10,11 +10,11 @@ use Rattle.clause_learning.specs.declared.marks.Marks.{Marks}
 use Rattle.clause_learning.specs.Literals.{complement}
 use Rattle.clause_learning.specs.Refutations.{HasSame, IsResolvent, IsDerived}
 use Rattle.clause_learning.specs.code.Trails.{value_at, Fails, AllFail, IsConflict, IsReason, IsJustified, IsUndone}
-use Rattle.clause_learning.specs.code.Marked.{mark_at, AreClear, AreListed, AreMarked, IsUnmarkedAt}
-use Rattle.clause_learning.specs.code.Held.{IsFollowing, IsHeld, IsHeldAt, IsMerged, IsPassed, IsCollected, IsBegun}
+use Rattle.clause_learning.specs.code.Marked.{mark_at, AreClear, AreListed, AreMarked}
+use Rattle.clause_learning.specs.code.Held.{IsHeld, IsHeldAt, IsMerged, IsCollected}
 use Rattle.clause_learning.proofs.Members.{nothing_in, in_cons, head_in, tail_in, some_same, none_some}
 use Rattle.clause_learning.proofs.Resolving.{derived_more, derived_one, derived_same}
-use Rattle.clause_learning.proofs.Trailing.{Undone, fails_before, apart_from_free, one_false, lit_same, twice}
+use Rattle.clause_learning.proofs.Trailing.{Undone, fails_before, apart_from_free, one_false, one_sign, lit_same, twice}
 
 -- ---- a clause without the literals of an atom
 
@@ -56,6 +56,14 @@ without_keeps a (y ∷ xs) x h apart =
 
 double : (l : Literal) → complement (complement l) ≡ l
 double l = lit_same (complement (complement l)) l refl (sym (twice l.positive))
+
+-- a literal and its opposite are not both false
+one_fails : (values : List (Option Value)) (x : Literal) → Fails values x → Fails values (complement x) → ⊥
+one_fails values x f g = both x.positive (one_sign (value_at values x.atom) (not x.positive) (not (not x.positive)) f.0 g.0 f.1 g.1)
+  where
+    both : (b : Bool) → not b ≡ not (not b) → ⊥
+    both true h = false≢true h
+    both false h = false≢true (sym h)
 
 -- ---- the literal at which what is held is resolved
 
@@ -151,10 +159,14 @@ module _ (clauses : List (List Literal)) (from : List ℕ) (m : Marks) (values :
       apart_of : (x : Literal) → Fails values x → x.atom ≢ l.atom
       apart_of x f = apart_from_free values x l.atom h.free f
 
-      resolvent : IsResolvent (complement l) (complement (complement l)) h.lits q all
+      resolvent : IsResolvent complement (complement l) h.lits q all
       resolvent = record {
         first = pivot_held marked;
         second = subst (λ (z : Literal). Contains q z) (sym (double l)) reason.has;
+        alone = λ x there other. elim (h.fails x there) [
+          | inl f ↦ absurd (one_fails values x f (reason.others (complement x) other (λ e. apart_of x f (ap (λ (z : Literal). z.atom) e))))
+          | inr e ↦ e
+        ];
         literals = λ x. (
           λ there. elim (Contains-append_cases left right x there) [
             | inl a ↦ let kept = without_kept l.atom h.lits x a in inl (kept.0, λ e. kept.1 (ap (λ (z : Literal). z.atom) e))

@@ -6,3 +6,5 @@ pub mod Turning
 pub mod Weighing
 pub mod Holding
 pub mod Stating
+pub mod Cutting
+pub mod Keeping

@@ -1,9 +1,9 @@
 -- Loops over marks, literals and atoms.
 use mathlib.Core.Bool.{beq}
-use Rattle.std.proofs.Common.{◌≡◌, ◌≢◌, ℕ, zero, suc, ◌+◌, ◌<◌, ◌≤◌, not, Bool, true, false, List, [], ◌∷◌, ◌++◌, length, take, replicate, get_or, Option, Some, None, is_some, Contains, ◌⊎◌, refl, sym, ap, ◌∙◌, subst, inl, inr, arith}
-use Rattle.std.proofs.lemmas.Bool.{cases_Bool, cases_eq, false≢true, false_from_ne_true}
+use Rattle.std.proofs.Common.{◌≡◌, ◌≢◌, ℕ, zero, suc, ◌+◌, ◌<◌, ◌≤◌, not, Bool, true, false, List, [], ◌∷◌, ◌++◌, length, take, replicate, get_or, Option, Some, None, is_some, Contains, ◌⊎◌, refl, sym, ap, ◌∙◌, subst, inl, inr}
+use Rattle.std.proofs.lemmas.Bool.{cases_eq, false≢true, false_from_ne_true}
 use Rattle.std.proofs.lemmas.List.{take_more, take_all, get_or_default, length-replicate}
-use Rattle.std.proofs.lemmas.List.Elements.{Contains-push, Contains-push_cases, Contains-append_left, Contains-get_or}
+use Rattle.std.proofs.lemmas.List.Elements.{Contains-push, Contains-push_cases, Contains-append_left}
 use Rattle.clause_learning.specs.declared.literal.Literal.{Literal}
 use Rattle.clause_learning.specs.declared.trail.Value.{Value}
 use Rattle.clause_learning.specs.declared.marks.Marks.{Marks}
@@ -11,7 +11,6 @@ use Rattle.clause_learning.specs.declared.examining.Finding.{Finding}
 use Rattle.clause_learning.specs.declared.examining.Finding.TheVariants.{Broken, Unit as Forced, Loose}
 use Rattle.clause_learning.specs.code.Trails.{value_at, Fails, AllFail, IsReason}
 use Rattle.clause_learning.specs.code.Marked.{mark_at, AreClear, AreListed, IsMarkedAt, IsUnmarkedAt, AreMarked}
-use Rattle.clause_learning.specs.code.Held.{IsCollected}
 use Rattle.clause_learning.specs.code.States.{IsFound, AllLoose}
 use Rattle.clause_learning.proofs.Members.{nothing_in}
 use Rattle.clause_learning.proofs.Trailing.{lit_same, one_sign, twice}

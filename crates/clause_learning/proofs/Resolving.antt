@@ -1,9 +1,9 @@
 -- How derivations grow.
-use Rattle.std.proofs.Common.{◌≡◌, ◌≢◌, ℕ, List, [], ◌∷◌, ◌++◌, map, Option, Some, slice_get, Contains, ◌⊎◌, ◌↔◌, refl, sym, ap, ◌∙◌, subst, inl, inr, append_assoc, append-nil}
+use Rattle.std.proofs.Common.{◌≡◌, ℕ, List, [], ◌∷◌, ◌++◌, map, Some, slice_get, sym, subst, inl, inr, append_assoc, append-nil}
 use Rattle.clause_learning.specs.declared.literal.Literal.{Literal}
 use Rattle.clause_learning.specs.declared.clauses.Learned.{Learned}
 use Rattle.clause_learning.specs.Literals.{complement}
-use Rattle.clause_learning.specs.Refutations.{HasSame, IsResolvent, Resolves, IsDerived, Entry, IsLog}
+use Rattle.clause_learning.specs.Refutations.{HasSame, IsResolvent, Resolves, IsDerived, IsLog}
 use Rattle.clause_learning.specs.Valuations.{entry_of}
 
 module _ {X : Type 0} (opposite : X → X) (clauses : List (List X)) where
@@ -21,23 +21,24 @@ module _ {X : Type 0} (opposite : X → X) (clauses : List (List X)) where
   derived_same [] r s h e = absurd h
   derived_same (k ∷ from) r s h e = (h.0, h.1, resolves_same h.0 from r s h.2 e)
 
-  resolvent_of_same : (l m : X) (p r q s : List X) → HasSame p r → IsResolvent l m r q s → IsResolvent l m p q s
-  resolvent_of_same l m p r q s e h = record {
+  resolvent_of_same : (l : X) (p r q s : List X) → HasSame p r → IsResolvent opposite l r q s → IsResolvent opposite l p q s
+  resolvent_of_same l p r q s e h = record {
     first = (e l).0 h.first;
     second = h.second;
+    alone = λ x there other. h.alone x ((e x).1 there) other;
     literals = λ x. (
       λ there. elim ((h.literals x).0 there) [ inl a ↦ inl ((e x).0 a.0, a.1) | inr b ↦ inr b ],
       λ either. (h.literals x).1 (elim either [ inl a ↦ inl ((e x).1 a.0, a.1) | inr b ↦ inr b ]),
     );
   }
 
-  resolves_more : (p : List X) (from : List ℕ) (r : List X) (k : ℕ) (q : List X) (l : X) (s : List X) → Resolves opposite clauses p from r → slice_get clauses k ≡ Some q → IsResolvent l (opposite l) r q s
+  resolves_more : (p : List X) (from : List ℕ) (r : List X) (k : ℕ) (q : List X) (l : X) (s : List X) → Resolves opposite clauses p from r → slice_get clauses k ≡ Some q → IsResolvent opposite l r q s
       → Resolves opposite clauses p (from ++ k ∷ []) s
-  resolves_more p [] r k q l s h at step = (l, q, s, at, resolvent_of_same l (opposite l) p r q s h step, same_itself s)
+  resolves_more p [] r k q l s h at step = (l, q, s, at, resolvent_of_same l p r q s h step, same_itself s)
   resolves_more p (n ∷ from) r k q l s h at step = (h.0, h.1, h.2, h.3, h.4, resolves_more h.2 from r k q l s h.5 at step)
 
   -- one resolution more
-  pub derived_more : (from : List ℕ) (r : List X) (k : ℕ) (q : List X) (l : X) (s : List X) → IsDerived opposite clauses from r → slice_get clauses k ≡ Some q → IsResolvent l (opposite l) r q s
+  pub derived_more : (from : List ℕ) (r : List X) (k : ℕ) (q : List X) (l : X) (s : List X) → IsDerived opposite clauses from r → slice_get clauses k ≡ Some q → IsResolvent opposite l r q s
       → IsDerived opposite clauses (from ++ k ∷ []) s
   derived_more [] r k q l s h at step = absurd h
   derived_more (n ∷ from) r k q l s h at step = (h.0, h.1, resolves_more h.0 from r k q l s h.2 at step)

@@ -1,8 +1,7 @@
 -- What holds between the turns of a search.
-use Rattle.std.proofs.Common.{◌≡◌, ◌≢◌, ℕ, zero, suc, ◌+◌, ◌-◌, ◌*◌, ◌^◌, ◌<◌, ◌≤◌, not, Bool, true, false, List, [], ◌∷◌, ◌++◌, length, map, reverse, get_or, Option, Some, None, IfSome, slice_get, Contains, ◌⊎◌, refl, sym, ap, ap₂, ◌∙◌, subst, inl, inr, arith, append_assoc}
-use Rattle.std.proofs.lemmas.Bool.{cases_Bool, false≢true}
-use Rattle.std.proofs.lemmas.List.{map-append, length-append, length-map, length-reverse, length-set, reverse-append, get_or-map}
-use Rattle.std.proofs.lemmas.List.Elements.{Contains-push_cases, Contains-append_left}
+use Rattle.std.proofs.Common.{◌≡◌, ℕ, suc, ◌+◌, ◌-◌, ◌*◌, ◌^◌, ◌<◌, ◌≤◌, not, Bool, true, false, List, [], ◌∷◌, ◌++◌, length, map, reverse, get_or, Option, Some, None, Contains, refl, sym, ap, ◌∙◌, subst, inl, inr, arith, append_assoc}
+use Rattle.std.proofs.lemmas.List.{map-append, length-reverse, length-set, reverse-append, get_or-map}
+use Rattle.std.proofs.lemmas.List.Elements.{Contains-push_cases}
 use Rattle.clause_learning.specs.declared.literal.Literal.{Literal}
 use Rattle.clause_learning.specs.declared.trail.Value.{Value}
 use Rattle.clause_learning.specs.declared.trail.Step.{Step}
@@ -10,22 +9,24 @@ use Rattle.clause_learning.specs.declared.trail.Trail.{Trail}
 use Rattle.clause_learning.specs.declared.marks.Marks.{Marks}
 use Rattle.clause_learning.specs.declared.clauses.Learned.{Learned}
 use Rattle.clause_learning.specs.declared.clauses.Clauses.{Clauses}
-use Rattle.clause_learning.specs.declared.examining.Finding.{Finding}
-use Rattle.clause_learning.specs.declared.examining.Finding.TheVariants.{Broken, Unit as Forced, Loose}
+use Rattle.clause_learning.specs.declared.examining.Finding.TheVariants.{Broken, Unit as Forced}
 use Rattle.clause_learning.specs.declared.solver.Solver.{Solver}
 use Rattle.clause_learning.specs.Literals.{complement}
 use Rattle.clause_learning.specs.Refutations.{IsDerived, IsLog, IsRefutation}
 use Rattle.clause_learning.specs.Valuations.{HasAtoms, MakesTrue, entry_of}
-use Rattle.clause_learning.specs.code.Trails.{clauses_of, value_at, Fails, AllFail, IsReason, IsJustified, Gives, IsTrail, IsPushed, IsUndone, IsConflict}
-use Rattle.clause_learning.specs.code.Marked.{mark_at, AreClear, AreListed}
-use Rattle.clause_learning.specs.code.Held.{IsHeld, IsHeldAt, IsCollected, IsPassed, IsStopped, IsWalked}
-use Rattle.clause_learning.specs.code.States.{IsFound, IsFoundAt, AllLoose, AllValued, AreLearned, IsState, IsFurther, IsSettled, NotesOne, IsPropagated, sign_of}
-use Rattle.clause_learning.specs.code.Weights.{weight, weight_of, ceiling, ceiling_of}
-use Rattle.clause_learning.proofs.Members.{got_in, got_push, place_of}
+use Rattle.clause_learning.specs.code.Trails.{clauses_of, value_at, Fails, IsJustified, Gives, IsTrail, IsPushed, IsUndone}
+use Rattle.clause_learning.specs.code.Marked.{AreClear}
+use Rattle.clause_learning.specs.code.Held.{IsHeld, IsHeldAt, IsCollected, IsPassed, IsStoppedAt, IsStopped}
+use Rattle.clause_learning.specs.code.States.{IsFoundAt, AllLoose, AllValued, AreLearned, NotesOne, IsPropagated, sign_of}
+use Rattle.clause_learning.specs.code.Weights.{weight, weight_of, ceiling}
+use Rattle.clause_learning.proofs.Members.{got_in, got_push}
 use Rattle.clause_learning.proofs.Resolving.{derived_same, log_more}
-use Rattle.clause_learning.proofs.Trailing.{trail_pushed, trail_undone, trail_short, gives_more, fails_within, valued_within, Undone}
+use Rattle.clause_learning.proofs.Trailing.{trail_pushed, trail_undone, trail_short, gives_more, fails_within, Undone}
+use Rattle.clause_learning.specs.declared.analysis.Stop.{Stop}
+use Rattle.clause_learning.specs.code.Cuts.{IsCutTo}
+use Rattle.clause_learning.proofs.Cutting.{cut_held, ceiling_cut}
 use Rattle.clause_learning.proofs.Holding.{held_popped, collected_same, collected_reason, held_empty}
-use Rattle.clause_learning.proofs.Weighing.{weight_more, weight_below, ceiling_popped, ceiling_free}
+use Rattle.clause_learning.proofs.Weighing.{ceiling_of, weight_more, weight_below, ceiling_popped}
 
 -- ---- one clause more
 
@@ -109,20 +110,20 @@ module _ (clauses : List (List Literal)) (from : List ℕ) (m : Marks) (first ol
         omega (arith, e, more, below);
   }
 
-  pub walk_stopped : (from' : List ℕ) (m' : Marks) → IsPassed clauses from' m' new.values s true → IsStopped clauses from' m' first new s.literal
-  walk_stopped from' m' passed = record {
-    held = passed.0;
-    marked = passed.1;
-    within = let many = last.many in let within = last.step.within in omega (arith, many, within);
+  pub walk_stopped : (from' : List ℕ) (m' : Marks) (k : ℕ) → IsPassed clauses from' m' new s (Some k) → IsStopped clauses from' m' first new (record { literal = s.literal; keep = k })
+  walk_stopped from' m' k passed = record {
+    here = record {
+      held = passed.0;
+      marked = passed.1;
+      within = let many = last.many in let within = last.step.within in omega (arith, many, within);
+      trail = last.trail;
+      short = let short = walk_short in let same = length-reverse new.steps in omega (arith, short, same);
+      step = s;
+      free = passed.2;
+      unmarked = passed.3;
+    };
     many = last.many ∙ w.many;
-    trail = last.trail;
-    before =
-        let e = old_ceiling in
-        let free = ceiling_free (length new.values) s (reverse new.steps) passed.2 in
-        let below = w.below in
-        let steps : 3 ^ (length new.values - suc (length (reverse new.steps))) ≡ 3 ^ (length new.values - suc (length new.steps))
-        = ap (λ (n : ℕ). 3 ^ (length new.values - suc n)) (length-reverse new.steps) in
-        omega (arith, e, free, below, steps);
+    before = let e = old_ceiling in let below = w.below in omega (arith, e, below);
   }
 
 -- the walk came to the begin
@@ -163,56 +164,69 @@ propagated_then clauses a b c found h g = record {
 
 -- ---- what is learned
 
-pub noted : (old new : Solver) (l : Literal) (r : Learned) → AreLearned (length old.trail.values) old.clauses → IsTrail (clauses_of old.clauses) old.trail
-    → l.atom < length old.trail.values → IsHeldAt (clauses_of old.clauses) r.from old.marks old.trail.values l → mark_at old.marks l.atom ≡ true → IsCollected (complement l) old.trail.values old.marks r.lits
-    → AreClear (length old.trail.values) new.marks → new.clauses.inputs ≡ old.clauses.inputs → new.clauses.log ≡ old.clauses.log ++ r ∷ []
-    → IsPushed old.trail (complement l) (Some (length (clauses_of old.clauses))) new.trail → NotesOne old new
-noted old new l r clauses trail within held marked collected clear inputs log pushed = record {
+pub noted : (old new : Solver) (t : Trail) (stop : Stop) (r : Learned) → AreLearned (length old.trail.values) old.clauses → IsStoppedAt (clauses_of old.clauses) r.from old.marks old.trail stop → IsCutTo old.trail stop.keep t
+    → IsCollected (complement stop.literal) t.values old.marks r.lits → AreClear (length old.trail.values) new.marks → new.clauses.inputs ≡ old.clauses.inputs → new.clauses.log ≡ old.clauses.log ++ r ∷ []
+    → new.restarts.left ≡ old.restarts.left → IsPushed t (complement stop.literal) (Some (length (clauses_of old.clauses))) new.trail → NotesOne old stop new
+noted old new t stop r clauses stopped cut collected clear inputs log left pushed = record {
   state = record {
     clauses =
         let L : ℕ → Type 0 = λ n. AreLearned n new.clauses in
         subst L (sym many) (learned_more (length old.trail.values) old.clauses new.clauses r clauses inputs log derived in_atoms);
     trail =
         let G : List (List Literal) → Type 0 = λ cs. IsTrail cs new.trail in
-        subst G (sym more) (trail_pushed (clauses_of old.clauses ++ r.lits ∷ []) old.trail new.trail (complement l) (Some (length (clauses_of old.clauses)))
-        (gives_more (clauses_of old.clauses) (r.lits ∷ []) (reverse old.trail.steps) old.trail.values trail) within held.free
-        (r.lits, got_push (clauses_of old.clauses) r.lits, collected_reason (clauses_of old.clauses) r.from old.marks old.trail.values l held r.lits collected) pushed);
+        subst G (sym more) (trail_pushed (clauses_of old.clauses ++ r.lits ∷ []) t new.trail (complement stop.literal) (Some (length (clauses_of old.clauses)))
+        (gives_more (clauses_of old.clauses) (r.lits ∷ []) (reverse t.steps) t.values (cut.trail (clauses_of old.clauses) stopped.trail)) within held.free
+        (r.lits, got_push (clauses_of old.clauses) r.lits, collected_reason (clauses_of old.clauses) r.from old.marks t.values stop.literal held r.lits collected) pushed);
     marks = let C : ℕ → Type 0 = λ n. AreClear n new.marks in subst C (sym many) clear;
   };
   inputs = inputs;
   many = many;
-  weight = pushed_weight old.trail new.trail (complement l) (Some (length (clauses_of old.clauses))) pushed ∙ digits;
+  left = left;
+  weight = λ s free.
+      let top = ceiling_cut (length old.trail.values) old.trail.steps t.steps cut.gone s stop.keep cut.steps cut.left free stopped.short in
+      let e = weighs in
+      omega (arith, top, e);
 }
   where
+    held : IsHeldAt (clauses_of old.clauses) r.from old.marks t.values stop.literal
+    held = cut_held (clauses_of old.clauses) r.from old.marks old.trail t stop stopped cut
+
+    within : stop.literal.atom < length t.values
+    within = let many = cut.many in let within = stopped.within in omega (arith, many, within)
+
     many : length new.trail.values ≡ length old.trail.values
-    many = pushed_many old.trail new.trail (complement l) (Some (length (clauses_of old.clauses))) pushed
+    many = pushed_many t new.trail (complement stop.literal) (Some (length (clauses_of old.clauses))) pushed ∙ cut.many
 
     more : clauses_of new.clauses ≡ clauses_of old.clauses ++ r.lits ∷ []
     more = clauses_pushed old.clauses new.clauses r inputs log
 
     derived : IsDerived complement (clauses_of old.clauses) r.from r.lits
-    derived = derived_same complement (clauses_of old.clauses) r.from held.lits r.lits held.follows.derived (collected_same (clauses_of old.clauses) r.from old.marks old.trail.values l held r.lits marked collected)
+    derived =
+        derived_same complement (clauses_of old.clauses) r.from held.lits r.lits held.follows.derived
+        (collected_same (clauses_of old.clauses) r.from old.marks t.values stop.literal held r.lits stopped.marked collected)
 
     in_atoms : (x : Literal) → Contains r.lits x → x.atom < length old.trail.values
     in_atoms x there = elim (collected.only x there) [
-      | inl e ↦ subst (λ (z : Literal). z.atom < length old.trail.values) (sym e) within
-      | inr both ↦ fails_within old.trail.values x both.1
+      | inl e ↦ subst (λ (z : Literal). z.atom < length old.trail.values) (sym e) stopped.within
+      | inr both ↦ let many = cut.many in let f = fails_within t.values x both.1 in omega (arith, many, f)
     ]
 
-    digits : weight (length old.trail.values) (record { literal = complement l; reason = Some (length (clauses_of old.clauses)) } ∷ reverse old.trail.steps)
-        ≡ weight_of old.trail + 2 * 3 ^ (length old.trail.values - suc (length old.trail.steps))
-    digits =
-        let steps : 3 ^ (length old.trail.values - suc (length (reverse old.trail.steps))) ≡ 3 ^ (length old.trail.values - suc (length old.trail.steps))
-        = ap (λ (n : ℕ). 3 ^ (length old.trail.values - suc n)) (length-reverse old.trail.steps) in
-        omega (arith, steps)
+    weighs : weight_of new.trail ≡ weight (length old.trail.values) (reverse t.steps) + 2 * 3 ^ (length old.trail.values - suc (length t.steps))
+    weighs =
+        let steps : 3 ^ (length t.values - suc (length (reverse t.steps))) ≡ 3 ^ (length old.trail.values - suc (length t.steps))
+        = ap (λ (n : ℕ). 3 ^ (n - suc (length (reverse t.steps)))) cut.many ∙ ap (λ (n : ℕ). 3 ^ (length old.trail.values - suc n)) (length-reverse t.steps) in
+        let rest : weight (length t.values) (reverse t.steps) ≡ weight (length old.trail.values) (reverse t.steps) = ap (λ (n : ℕ). weight n (reverse t.steps)) cut.many in
+        let pushed_on = pushed_weight t new.trail (complement stop.literal) (Some (length (clauses_of old.clauses))) pushed in
+        omega (arith, steps, rest, pushed_on)
 
 -- a refutation
 pub refuted : (old new : Clauses) (from : List ℕ) (atoms : ℕ) → AreLearned atoms old → new.inputs ≡ old.inputs → new.log ≡ old.log ++ record { lits = []; from = from } ∷ []
-    → IsDerived complement (clauses_of old) from [] → IsRefutation complement old.inputs (map entry_of new.log)
+    → IsDerived complement (clauses_of old) from [] → IsRefutation complement new.inputs (map entry_of new.log)
 refuted old new from atoms h inputs log d = record {
   steps =
+      let P : List (List Literal) → Type 0 = λ is. IsLog complement is (map entry_of new.log) in
       let Q : List Learned → Type 0 = λ ls. IsLog complement old.inputs (map entry_of ls) in
-      subst Q (sym log) (log_more old.inputs old.log (record { lits = []; from = from }) h.log d);
+      subst P (sym inputs) (subst Q (sym log) (log_more old.inputs old.log (record { lits = []; from = from }) h.log d));
   before = map entry_of old.log;
   from = from;
   last = ap (map entry_of) log ∙ map-append entry_of old.log (record { lits = []; from = from } ∷ []);

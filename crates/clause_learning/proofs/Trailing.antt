@@ -1,13 +1,13 @@
 -- How trails grow and shrink.
-use Rattle.std.proofs.Common.{◌≡◌, ◌≢◌, ℕ, zero, suc, ◌+◌, ◌<◌, ◌≤◌, not, Bool, true, false, List, [], ◌∷◌, ◌++◌, length, map, reverse, replicate, set, get_or, Option, Some, None, slice_get, Contains, ◌⊎◌, refl, sym, ap, ◌∙◌, subst, inl, inr, arith}
-use Rattle.std.proofs.lemmas.List.{get_or-set_same, get_or-set_other, set-set, set-get_or, length-set, reverse-append, length-reverse, get_or_past, get_or-replicate}
+use Rattle.std.proofs.Common.{◌≡◌, ◌≢◌, ℕ, zero, suc, ◌+◌, ◌<◌, ◌≤◌, not, Bool, true, false, List, [], ◌∷◌, ◌++◌, length, reverse, replicate, set, Option, Some, None, ◌⊎◌, refl, sym, ap, ◌∙◌, subst, inl, inr, arith}
+use Rattle.std.proofs.lemmas.List.{get_or-set_same, get_or-set_other, set-set, set-get_or, length-set, reverse-append, length-reverse, get_or_past}
 use Rattle.std.proofs.lemmas.Bool.{cases_lt, cases_eq}
 use Rattle.clause_learning.specs.declared.literal.Literal.{Literal}
 use Rattle.clause_learning.specs.declared.trail.Value.{Value}
 use Rattle.clause_learning.specs.declared.trail.Step.{Step}
 use Rattle.clause_learning.specs.declared.trail.Trail.{Trail}
 use Rattle.clause_learning.specs.Literals.{complement}
-use Rattle.clause_learning.specs.code.Trails.{value_at, Fails, IsReason, IsJustified, IsStep, Gives, IsTrail, IsFresh, IsPushed, IsUndone}
+use Rattle.clause_learning.specs.code.Trails.{value_at, Fails, IsJustified, IsStep, Gives, IsTrail, IsFresh, IsPushed, IsUndone}
 use Rattle.clause_learning.proofs.Members.{got_left}
 
 -- ---- values

@@ -1,12 +1,12 @@
 -- What trails weigh.
-use Rattle.std.proofs.Common.{◌≡◌, ℕ, zero, suc, ◌+◌, ◌-◌, ◌*◌, ◌^◌, ◌<◌, ◌≤◌, List, [], ◌∷◌, ◌++◌, length, reverse, Option, Some, None, refl, sym, ap, ◌∙◌, subst, arith, pow-suc}
-use Rattle.std.proofs.lemmas.List.{reverse-append, length-reverse}
-use Rattle.clause_learning.specs.declared.literal.Literal.{Literal}
+use Rattle.std.proofs.Common.{◌≡◌, ℕ, zero, suc, ◌+◌, ◌-◌, ◌*◌, ◌^◌, ◌<◌, ◌≤◌, List, [], ◌∷◌, length, reverse, Option, Some, None, ap, ◌∙◌, arith, pow-suc}
 use Rattle.clause_learning.specs.declared.trail.Step.{Step}
 use Rattle.clause_learning.specs.declared.trail.Trail.{Trail}
-use Rattle.clause_learning.specs.code.Trails.{IsTrail, IsPushed}
-use Rattle.clause_learning.specs.code.Weights.{digit, weight, weight_of, ceiling, ceiling_of}
-use Rattle.clause_learning.proofs.Trailing.{trail_short}
+use Rattle.clause_learning.specs.code.Weights.{digit, weight, ceiling}
+
+-- what every trail that begins with the steps of this one weighs less than
+abbrev pub ceiling_of : Trail → ℕ
+ceiling_of t = ceiling (length t.values) (reverse t.steps)
 
 pub positive : (k : ℕ) → 0 < 3 ^ k
 positive zero = omega arith

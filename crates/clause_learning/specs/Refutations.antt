@@ -6,17 +6,18 @@ use Rattle.std.specs.List.{Contains}
 abbrev pub HasSame : {X : Type 0} → List X → List X → Type 0
 HasSame {X} p r = (x : X) → Contains r x ↔ Contains p x
 
--- p has l and q its opposite m; r has the others of p and of q, and no more
-pub record IsResolvent {X : Type 0} (l m : X) (p q r : List X) : Type 0 where
+-- l is the one literal of p whose opposite q has; r has the others of p and of q, and no more
+pub record IsResolvent {X : Type 0} (opposite : X → X) (l : X) (p q r : List X) : Type 0 where
   pub first : Contains p l
-  pub second : Contains q m
-  pub literals : (x : X) → Contains r x ↔ ((Contains p x × (x ≢ l)) ⊎ (Contains q x × (x ≢ m)))
+  pub second : Contains q (opposite l)
+  pub alone : (x : X) → Contains p x → Contains q (opposite x) → x ≡ l
+  pub literals : (x : X) → Contains r x ↔ ((Contains p x × (x ≢ l)) ⊎ (Contains q x × (x ≢ opposite l)))
 
 -- p, resolved with the clauses of these numbers one after another, gives r
 abbrev pub Resolves : {X : Type 0} → (X → X) → List (List X) → List X → List ℕ → List X → Type 0
 Resolves opposite clauses p [] r = HasSame p r
 Resolves {X} opposite clauses p (k ∷ from) r = (l : X) × (q : List X) × (s : List X)
-    × (slice_get clauses k ≡ Some q) × IsResolvent l (opposite l) p q s × Resolves opposite clauses s from r
+    × (slice_get clauses k ≡ Some q) × IsResolvent opposite l p q s × Resolves opposite clauses s from r
 
 -- the clause of the first number, resolved with those of the others one after another, gives r
 abbrev pub IsDerived : {X : Type 0} → (X → X) → List (List X) → List ℕ → List X → Type 0

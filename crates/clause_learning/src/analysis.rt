@@ -1,72 +1,109 @@
 //! What is learned from a clause that is false.
-ghost use Rattle.std.specs.Prelude.{◌≡◌, ◌≤◌, ◌<◌, ◌++◌, ◌∷◌, [], List as Items, Option as Maybe, MatchOption, length, slice_get, Some, IfOk, OnOk};
-ghost use Rattle.clause_learning.specs.declared.trail.Value.{Value};
-ghost use Rattle.clause_learning.specs.Refutations.{HasSame};
+ghost use Rattle.std.specs.Prelude.{◌≡◌, ◌++◌, ◌∷◌, [], length, IfOk, IfSome, OnOk};
 ghost use Rattle.clause_learning.specs.Valuations.{HasAtoms};
-ghost use Rattle.clause_learning.specs.code.Trails.{clauses_of, value_at, AllFail, IsTrail, IsJustified};
-ghost use Rattle.clause_learning.specs.code.Marked.{AreClear, AreWithin, mark_at};
+ghost use Rattle.clause_learning.specs.code.Trails.{clauses_of, IsTrail, IsJustified};
+ghost use Rattle.clause_learning.specs.code.Marked.{AreWithin};
+ghost use Rattle.clause_learning.specs.code.Cuts.{IsCut};
 ghost use Rattle.clause_learning.specs.code.Held.{IsHeld, IsHeldAt, IsMerged, IsPassed, IsWalked, IsCollected, IsBegun};
 
 use crate::clauses::Clauses;
+use crate::level::Level;
 use crate::literal::Literal;
 use crate::marks::Marks;
+use crate::order::Order;
+use crate::retreating::cut;
 use crate::trail::{Step, Trail};
 use sqlite_items::Items as List;
 use std::alloc::{AllocError, Global};
+
+/// Where a walk stops: at this literal, and that many steps are to be kept.
+#[derive(Clone, Copy, Drop)]
+pub struct Stop {
+    pub literal: Literal,
+    pub keep: usize,
+}
 
 // Resolves what is held with the clause of this number, on this atom.
 fn resolve(
     clause: &[Literal],
     number: usize,
     atom: usize,
+    trail: &Trail,
     marks: &mut Marks,
+    level: &mut Level,
     from: &mut List<u64>,
 ) -> Result<(), AllocError>
     requires { AreWithin (length marks.old.marks) clause.now }
     ensures marks { OnOk result (IsMerged marks.old clause.now atom marks.new) }
     ensures from { OnOk result (from.new ≡ from.old ++ number ∷ []) }
 {
-    marks.mark_all(clause)?;
+    marks.mark_all(clause, trail, level)?;
     marks.unmark(atom);
     from.push(number as u64)?;
     Ok(())
 }
 
-// Whether the walk stops at this step, which was taken back: where what is held has the opposite of its literal, and no
-// clause gave it. If one did, it is resolved with that.
+// How many steps are to be kept, if the last step was the only one of its level that is marked.
+fn cut_at_last(trail: &Trail, marks: &Marks, level: &mut Level) -> Option<usize>
+    ensures { IfSome result (IsCut trail.now.steps marks.now) }
+{
+    if level.leave() {
+        return cut(trail, marks);
+    }
+    None
+}
+
+// How many steps are to be kept, if the walk stops at this step, which was taken back: where what is held has the
+// opposite of its literal, and no clause gave it, or no other literal of its level is held. If it does not stop, what is
+// held is resolved with the clause that gave the literal.
 fn pass(
     clauses: &Clauses,
+    trail: &Trail,
     step: Step,
     marks: &mut Marks,
+    level: &mut Level,
     from: &mut List<u64>,
-) -> Result<bool, AllocError>
+) -> Result<Option<usize>, AllocError>
     requires { HasAtoms (length marks.old.marks) (clauses_of clauses.now) }
     ensures many { OnOk result (length marks.new.marks ≡ length marks.old.marks) }
-    ensures passed { IfOk result (λ stops. (values : Items (Maybe Value))
-        → IsJustified (clauses_of clauses.now) step.reason step.literal values
-        → IsHeldAt (clauses_of clauses.now) from.old marks.old values step.literal
-        → IsPassed (clauses_of clauses.now) from.new marks.new values step stops) }
+    ensures passed { IfOk result (λ keep.
+        IsJustified (clauses_of clauses.now) step.reason step.literal trail.now.values
+        → IsHeldAt (clauses_of clauses.now) from.old marks.old trail.now.values step.literal
+        → IsPassed (clauses_of clauses.now) from.new marks.new trail.now step keep) }
 {
     if !marks.has(step.literal.atom) {
-        return Ok(false);
+        return Ok(None);
     }
     let Some(number) = step.reason else {
-        return Ok(true);
+        return Ok(Some(trail.steps.len()));
     };
-    if let Some(clause) = clauses.get(number) {
-        resolve(clause.as_slice(), number, step.literal.atom, marks, from)?;
+    if let Some(keep) = cut_at_last(trail, marks, level) {
+        return Ok(Some(keep));
     }
-    Ok(false)
+    if let Some(clause) = clauses.get(number) {
+        resolve(
+            clause.as_slice(),
+            number,
+            step.literal.atom,
+            trail,
+            marks,
+            level,
+            from,
+        )?;
+    }
+    Ok(None)
 }
 
 /// Walks back over the trail from a clause that is false, and resolves it with the reasons of its literals, until none
-/// is left or the last of them was taken freely. Answers that literal.
+/// is left, or one that alone is of its level, or that was taken freely.
 pub fn walk(
     clauses: &Clauses,
     trail: &mut Trail,
     marks: &mut Marks,
+    level: &mut Level,
+    order: &mut Order,
     from: &mut List<u64>,
-) -> Result<Option<Literal>, AllocError>
+) -> Result<Option<Stop>, AllocError>
     requires within { HasAtoms (length marks.old.marks) (clauses_of clauses.now) }
     requires trail { IsTrail (clauses_of clauses.now) trail.old }
     requires held { IsHeld (clauses_of clauses.now) from.old marks.old trail.old.values }
@@ -74,8 +111,12 @@ pub fn walk(
     ensures walked { IfOk result (IsWalked (clauses_of clauses.now) from.new marks.new trail.old trail.new) }
 {
     'walk: while let Some(step) = trail.undo() {
-        if pass(clauses, step, marks, from)? {
-            return Ok(Some(step.literal));
+        order.put(step.literal)?;
+        if let Some(keep) = pass(clauses, trail, step, marks, level, from)? {
+            return Ok(Some(Stop {
+                literal: step.literal,
+                keep,
+            }));
         }
     }
     Ok(None)
@@ -110,7 +151,9 @@ pub fn collect(
 pub fn begin(
     clauses: &Clauses,
     number: usize,
+    trail: &Trail,
     marks: &mut Marks,
+    level: &mut Level,
     from: &mut List<u64>,
 ) -> Result<(), AllocError>
     requires { HasAtoms (length marks.old.marks) (clauses_of clauses.now) }
@@ -118,7 +161,7 @@ pub fn begin(
     ensures begun { OnOk result (IsBegun (clauses_of clauses.now) number from.old marks.old from.new marks.new) }
 {
     if let Some(clause) = clauses.get(number) {
-        marks.mark_all(clause.as_slice())?;
+        marks.mark_all(clause.as_slice(), trail, level)?;
     }
     from.push(number as u64)?;
     Ok(())

@@ -8,7 +8,7 @@ use sqlite_items::Items as List;
 use std::alloc::Global;
 
 /// A clause that follows: its literals, and the numbers of the clauses from which it was made, each after the first
-/// resolved with what came before.
+/// resolved with what came before on one literal, the only one of the first that has its opposite in the second.
 #[derive(Drop)]
 pub struct Learned {
     pub lits: List<Literal>,

@@ -4,11 +4,17 @@
 mod analysis;
 mod clauses;
 mod examining;
+mod guide;
+mod level;
 mod literal;
 mod marks;
+mod order;
 mod propagation;
+mod restarts;
+mod retreating;
 mod solver;
 mod trail;
+mod trimming;
 mod watches;
 
 pub use clauses::Learned;

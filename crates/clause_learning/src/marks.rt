@@ -3,7 +3,9 @@ ghost use Rattle.std.specs.Prelude.{◌≡◌, ◌<◌, length, ℕ, true, IfOk,
 ghost use Rattle.std.specs.List.{Contains};
 ghost use Rattle.clause_learning.specs.code.Marked.{mark_at, AreClear, AreWithin, IsMarkedAt, IsUnmarkedAt, AreMarked};
 
+use crate::level::Level;
 use crate::literal::Literal;
+use crate::trail::Trail;
 use sqlite_items::Items as List;
 use std::alloc::{AllocError, Global};
 
@@ -51,12 +53,18 @@ impl Marks {
         Ok(())
     }
 
-    /// Marks the atoms of the literals.
-    pub fn mark_all(&mut self, lits: &[Literal]) -> Result<(), AllocError>
+    /// Marks the atoms of the literals, and counts those of the level.
+    pub fn mark_all(
+        &mut self,
+        lits: &[Literal],
+        trail: &Trail,
+        level: &mut Level,
+    ) -> Result<(), AllocError>
         requires { AreWithin (length self.old.marks) lits.now }
         ensures { OnOk result (AreMarked self.old lits.now self.new) }
     {
         for lit in lits {
+            level.meet(self, trail, lit.atom);
             self.mark(lit.atom)?;
         }
         Ok(())

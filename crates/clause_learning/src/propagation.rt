@@ -21,11 +21,28 @@ pub fn propagate(
     requires trail { IsTrail (clauses_of clauses.now) trail.old }
     ensures { IfOk result (λ found. IsPropagated (clauses_of clauses.now) trail.old trail.new found) }
 {
-    if watches.is_empty() {
-        watch_all(clauses, trail, watches)?;
-        return sweep(clauses, trail);
+    if let Some(number) = prepare(clauses, trail, watches)? {
+        return Ok(Some(number));
     }
     follow(clauses, trail, watches)
+}
+
+// Where no clause is watched yet, watches each and concludes what it gives by itself. Answers the number of a clause
+// that is false, if one is found.
+fn prepare(
+    clauses: &Clauses,
+    trail: &mut Trail,
+    watches: &mut Watches,
+) -> Result<Option<usize>, AllocError>
+    requires within { HasAtoms (length trail.old.values) (clauses_of clauses.now) }
+    requires trail { IsTrail (clauses_of clauses.now) trail.old }
+    ensures { IfOk result (λ found. IsPropagated (clauses_of clauses.now) trail.old trail.new found) }
+{
+    if !watches.is_empty() {
+        return Ok(None);
+    }
+    watch_all(clauses, trail, watches)?;
+    sweep(clauses, trail)
 }
 
 // Watches each clause.

@@ -1,20 +1,26 @@
 //! The search.
-ghost use Rattle.std.specs.Prelude.{◌≡◌, ◌<◌, true, map, MatchOption, length, IfOk};
-ghost use Rattle.clause_learning.specs.declared.solver.Outcome.TheVariants.{Refuted};
-ghost use Rattle.clause_learning.specs.Valuations.{Answers, HasAtoms};
-ghost use Rattle.clause_learning.specs.code.Trails.{clauses_of, IsConflict, IsTrail};
-ghost use Rattle.clause_learning.specs.code.Marked.{mark_at};
-ghost use Rattle.clause_learning.specs.code.Held.{IsHeldAt};
-ghost use Rattle.clause_learning.specs.code.States.{sign_of as sign_at, AllLoose, AllValued, AreLearned, IsBegun, IsNoted, IsOpen, IsState, IsTurned};
+ghost use Rattle.std.specs.Prelude.{◌≡◌, ◌<◌, map, MatchOption, length, IfOk, IsTrue};
+ghost use Rattle.clause_learning.specs.Literals.{complement};
+ghost use Rattle.clause_learning.specs.Refutations.{IsRefutation};
+ghost use Rattle.clause_learning.specs.Valuations.{entry_of, Answers, HasAtoms};
+ghost use Rattle.clause_learning.specs.code.Trails.{clauses_of, IsConflict};
+ghost use Rattle.clause_learning.specs.code.Held.{IsStoppedAt};
+ghost use Rattle.clause_learning.specs.code.States.{sign_of as sign_at, AllLoose, AllValued, AreLearned, IsBegun};
+ghost use Rattle.clause_learning.specs.code.States.{IsNoted, IsOpen, IsState, IsTurned};
 
-use crate::analysis::{begin, collect, walk};
+use crate::analysis::{Stop, begin, collect, walk};
 use crate::clauses::{Clauses, Learned};
 use crate::examining::{Finding, examine};
+use crate::guide::Guide;
+use crate::level::Level;
 use crate::literal::Literal;
 use crate::marks::Marks;
+use crate::order::Order;
 use crate::propagation::propagate;
+use crate::restarts::Restarts;
+use crate::retreating::{cut, retreat};
 use crate::trail::{Trail, Value};
-use crate::watches::Watches;
+use crate::trimming::trim;
 use sqlite_items::Items as List;
 use std::alloc::{AllocError, Global};
 
@@ -33,12 +39,13 @@ pub enum Turn {
     Settled,
 }
 
-/// The clauses, what is held true, and marks for an analysis.
+/// The clauses, what is held true, marks for an analysis, and when the next restart comes.
 #[derive(Drop)]
 pub struct Solver {
     pub clauses: Clauses,
     pub trail: Trail,
     pub marks: Marks,
+    pub restarts: Restarts,
 }
 
 /// Decides clauses over that many atoms.
@@ -50,12 +57,12 @@ pub fn solve(
     requires { HasAtoms atoms inputs }
     ensures { IfOk result (Answers atoms inputs) }
 {
-    let mut watches = Watches::new(alloc, atoms)?;
+    let mut guide = Guide::new(alloc, atoms)?;
     let mut solver = Solver::new(alloc, atoms, inputs)?;
     'turns: loop {
-        match solver.turn(alloc, &mut watches)? {
+        match solver.turn(alloc, &mut guide)? {
             Turn::Further => {}
-            Turn::Refuted => return Ok(solver.refuted()),
+            Turn::Refuted => return Ok(Outcome::Refuted(solver.refuted(alloc)?)),
             Turn::Settled => return Ok(Outcome::Valuation(solver.signs(alloc)?)),
         }
     }
@@ -71,19 +78,22 @@ impl Solver {
             clauses: Clauses::new(alloc, inputs),
             trail: Trail::new(alloc, atoms)?,
             marks: Marks::new(alloc, atoms)?,
+            restarts: Restarts::new(),
         })
     }
 
-    // The log.
-    fn refuted(self) -> Outcome
-        ensures { result ≡ Refuted self.clauses.log }
+    // What is needed of the log.
+    fn refuted(self, alloc: Global) -> Result<List<Learned>, AllocError>
+        requires { IsRefutation complement self.clauses.inputs (map entry_of self.clauses.log) }
+        ensures { IfOk result (λ log. IsRefutation complement self.clauses.inputs (map entry_of log)) }
     {
         let Solver {
-            clauses: Clauses { inputs: _, log },
+            clauses,
             trail: _,
             marks: _,
+            restarts: _,
         } = self;
-        Outcome::Refuted(log)
+        trim(alloc, clauses)
     }
 
     // The signs of the atoms.
@@ -98,44 +108,76 @@ impl Solver {
         Ok(signs)
     }
 
-    // Concludes what clauses give, and learns where one is false. If none is, takes an atom that has no value; and where
-    // each has one, looks whether a clause is false.
-    fn turn(&mut self, alloc: Global, watches: &mut Watches) -> Result<Turn, AllocError>
+    // Concludes what clauses give, and learns where one is false. If none is, begins anew where it is time for that, or
+    // takes an atom that has no value.
+    fn turn(&mut self, alloc: Global, guide: &mut Guide) -> Result<Turn, AllocError>
         requires { IsState self.old }
         ensures { IfOk result (IsTurned self.old self.new) }
     {
-        if let Some(number) = propagate(&self.clauses, &mut self.trail, watches)? {
-            return self.learn(alloc, number, watches);
+        if let Some(number) = propagate(&self.clauses, &mut self.trail, &mut guide.watches)? {
+            return self.learn(alloc, number, guide);
         }
-        if let Some(atom) = open_atom(&self.trail) {
-            let literal = Literal {
-                atom,
-                positive: false,
-            };
+        if self.restarts.is_due() {
+            return self.restart(guide);
+        }
+        self.choose(alloc, guide)
+    }
+
+    // Takes every step back that was taken freely, and those behind.
+    fn restart(&mut self, guide: &mut Guide) -> Result<Turn, AllocError>
+        requires state { IsState self.old }
+        requires left { 0 < self.old.restarts.left }
+        ensures { IfOk result (IsTurned self.old self.new) }
+    {
+        self.restarts.restart();
+        let Some(keep) = cut(&self.trail, &self.marks) else {
+            return Ok(Turn::Further);
+        };
+        retreat(&mut self.trail, keep, &mut guide.order)?;
+        guide.watches.shorten(keep);
+        Ok(Turn::Further)
+    }
+
+    // Takes an atom that has no value; and where each has one, looks whether a clause is false.
+    fn choose(&mut self, alloc: Global, guide: &mut Guide) -> Result<Turn, AllocError>
+        requires { IsState self.old }
+        ensures { IfOk result (IsTurned self.old self.new) }
+    {
+        if let Some(literal) = open_literal(&self.trail, &mut guide.order) {
             self.trail.push(literal, None)?;
             return Ok(Turn::Further);
         }
         match broken(&self.clauses, &self.trail) {
-            Some(number) => self.learn(alloc, number, watches),
+            Some(number) => self.learn(alloc, number, guide),
             None => Ok(Turn::Settled),
         }
     }
 
     // Learns from the clause of this number, which is false.
-    fn learn(
-        &mut self,
-        alloc: Global,
-        number: usize,
-        watches: &mut Watches,
-    ) -> Result<Turn, AllocError>
+    fn learn(&mut self, alloc: Global, number: usize, guide: &mut Guide) -> Result<Turn, AllocError>
         requires state { IsState self.old }
         requires conflict { IsConflict (clauses_of self.old.clauses) self.old.trail.values number }
         ensures { IfOk result (IsTurned self.old self.new) }
     {
         let mut from = List::new(alloc);
-        begin(&self.clauses, number, &mut self.marks, &mut from)?;
-        match walk(&self.clauses, &mut self.trail, &mut self.marks, &mut from)? {
-            Some(literal) => self.note(alloc, literal, from, watches),
+        let mut level = Level::new(&self.trail);
+        begin(
+            &self.clauses,
+            number,
+            &self.trail,
+            &mut self.marks,
+            &mut level,
+            &mut from,
+        )?;
+        match walk(
+            &self.clauses,
+            &mut self.trail,
+            &mut self.marks,
+            &mut level,
+            &mut guide.order,
+            &mut from,
+        )? {
+            Some(stop) => self.note(alloc, stop, from, guide),
             None => {
                 self.clauses.log.push(Learned {
                     lits: List::new(alloc),
@@ -146,28 +188,26 @@ impl Solver {
         }
     }
 
-    // Learns what is held where the walk has stopped at this literal, and concludes the opposite of that from it.
+    // Learns what is held where the walk has stopped, and concludes the opposite of the literal there from it.
     fn note(
         &mut self,
         alloc: Global,
-        literal: Literal,
+        stop: Stop,
         from: List<u64>,
-        watches: &mut Watches,
+        guide: &mut Guide,
     ) -> Result<Turn, AllocError>
         requires clauses { AreLearned (length self.old.trail.values) self.old.clauses }
         requires many { length self.old.marks.marks ≡ length self.old.trail.values }
-        requires trail { IsTrail (clauses_of self.old.clauses) self.old.trail }
-        requires within { literal.atom < length self.old.trail.values }
-        requires held { IsHeldAt (clauses_of self.old.clauses) from self.old.marks self.old.trail.values literal }
-        requires marked { mark_at self.old.marks literal.atom ≡ true }
-        ensures { IfOk result (IsNoted self.old self.new) }
+        requires stopped { IsStoppedAt (clauses_of self.old.clauses) from self.old.marks self.old.trail stop }
+        ensures { IfOk result (IsNoted self.old stop self.new) }
     {
-        let asserted = literal.opposite();
+        retreat(&mut self.trail, stop.keep, &mut guide.order)?;
+        let asserted = stop.literal.opposite();
         let lits = collect(alloc, asserted, &self.trail, &self.marks)?;
-        watches.shorten(self.trail.steps.len());
-        watches.add(lits.as_slice(), &self.trail)?;
+        guide.learn(lits.as_slice(), self.marks.touched.as_slice(), &self.trail)?;
         let number = self.clauses.len();
         self.marks.clear();
+        self.restarts.count();
         self.clauses.log.push(Learned { lits, from })?;
         self.trail.push(asserted, Some(number))?;
         Ok(Turn::Further)
@@ -182,6 +222,29 @@ fn sign_of(value: Option<Value>) -> bool
         Some(value) => value.positive,
         None => false,
     }
+}
+
+// A literal of an atom that has no value.
+fn open_literal(trail: &Trail, order: &mut Order) -> Option<Literal>
+    ensures { MatchOption result (AllValued trail.now.values) (λ l. IsOpen trail.now.values l.atom) }
+{
+    if let Some(literal) = order.next(trail) {
+        if is_open(trail, literal.atom) {
+            return Some(literal);
+        }
+    }
+    let atom = open_atom(trail)?;
+    Some(Literal {
+        atom,
+        positive: false,
+    })
+}
+
+// Whether the atom has no value.
+fn is_open(trail: &Trail, atom: usize) -> bool
+    ensures { IsTrue result → IsOpen trail.now.values atom }
+{
+    atom < trail.values.len() && trail.value(atom).is_none()
 }
 
 // An atom that has no value.

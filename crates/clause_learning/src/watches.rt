@@ -135,8 +135,8 @@ impl Watches {
         }
     }
 
-    /// Moves the watch to a literal of its clause that is not false and not the other watched one. Where there is none,
-    /// it goes back to its own, and the answer is that the clause is to be examined.
+    /// Moves the watch to a literal of its clause that is not false and not the other watched one, which is not true.
+    /// Where there is none, it goes back to its own, and the answer is that the clause is to be examined.
     pub fn must_examine(&mut self, clauses: &Clauses, trail: &Trail, link: Link) -> bool {
         let Some(pair) = self.pairs.get(link.clause) else {
             return false;
@@ -146,6 +146,10 @@ impl Watches {
         } else {
             (pair.first.literal, pair.second.literal)
         };
+        if is_true(other, trail) {
+            self.file(link, own);
+            return false;
+        }
         match clauses.get(link.clause) {
             Some(lits) => match free_literal(lits.as_slice(), trail, other) {
                 Some(literal) => {
@@ -220,6 +224,14 @@ fn latest(lits: &[Literal], trail: &Trail) -> Option<Literal> {
         }
     }
     best
+}
+
+// Whether the literal is true.
+fn is_true(literal: Literal, trail: &Trail) -> bool {
+    match trail.value(literal.atom) {
+        Some(value) => value.positive == literal.positive,
+        None => false,
+    }
 }
 
 // A literal that is not false, of another atom than this one has.

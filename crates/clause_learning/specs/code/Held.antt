@@ -1,15 +1,17 @@
 -- What is held while clauses are resolved: a clause that follows, whose atoms are marked.
-use Rattle.std.specs.Prelude.{◌≡◌, ◌<◌, ◌+◌, ◌-◌, ◌*◌, ◌^◌, ◌⊎◌, ◌++◌, ◌∷◌, [], ℕ, suc, length, Bool, true, false, List, Option, Some, None, slice_get}
+use Rattle.std.specs.Prelude.{◌≡◌, ◌<◌, ◌⊎◌, ◌++◌, ◌∷◌, [], ℕ, length, true, List, Option, Some, None, reverse}
 use Rattle.std.specs.List.{Contains}
 use Rattle.clause_learning.specs.declared.literal.Literal.{Literal}
 use Rattle.clause_learning.specs.declared.trail.Value.{Value}
 use Rattle.clause_learning.specs.declared.trail.Step.{Step}
 use Rattle.clause_learning.specs.declared.trail.Trail.{Trail}
 use Rattle.clause_learning.specs.declared.marks.Marks.{Marks}
+use Rattle.clause_learning.specs.declared.analysis.Stop.{Stop}
 use Rattle.clause_learning.specs.Literals.{complement}
-use Rattle.clause_learning.specs.Refutations.{IsDerived, HasSame}
-use Rattle.clause_learning.specs.code.Trails.{value_at, Fails, IsConflict, IsJustified, IsTrail}
-use Rattle.clause_learning.specs.code.Weights.{weight_of}
+use Rattle.clause_learning.specs.Refutations.{IsDerived}
+use Rattle.clause_learning.specs.code.Trails.{value_at, Fails, IsConflict, IsTrail}
+use Rattle.clause_learning.specs.code.Weights.{weight_of, ceiling}
+use Rattle.clause_learning.specs.code.Cuts.{IsFreeAt, AreUnmarkedFrom}
 use Rattle.clause_learning.specs.code.Marked.{mark_at, AreClear, AreListed, AreMarked, IsUnmarkedAt}
 
 -- a clause that follows, and its marks
@@ -38,25 +40,35 @@ pub record IsMerged (old : Marks) (clause : List Literal) (atom : ℕ) (new : Ma
   pub marked : AreMarked old clause mid
   pub unmarked : IsUnmarkedAt mid atom new
 
--- The walk stops at a step that was taken freely, where what is held has the opposite of its literal; else what it holds
--- is false.
-abbrev pub IsPassed : List (List Literal) → List ℕ → Marks → List (Option Value) → Step → Bool → Type 0
-IsPassed clauses from m values s true = IsHeldAt clauses from m values s.literal × (mark_at m s.literal.atom ≡ true) × (s.reason ≡ None)
-IsPassed clauses from m values s false = IsHeld clauses from m values
+-- The walk stops at a step, where what is held has the opposite of its literal, and steps can be taken back to one that
+-- was taken freely, none of which it has; else what it holds is false.
+abbrev pub IsPassed : List (List Literal) → List ℕ → Marks → Trail → Step → Option ℕ → Type 0
+IsPassed clauses from m t s (Some k) = IsHeldAt clauses from m t.values s.literal × (mark_at m s.literal.atom ≡ true)
+    × IsFreeAt (t.steps ++ s ∷ []) k × AreUnmarkedFrom t.steps m k
+IsPassed clauses from m t s None = IsHeld clauses from m t.values
 
--- the walk stops at l: what is held has its opposite, and the trail ends before it
-pub record IsStopped (clauses : List (List Literal)) (from : List ℕ) (m : Marks) (old new : Trail) (l : Literal) : Type 0 where
-  pub held : IsHeldAt clauses from m new.values l
-  pub marked : mark_at m l.atom ≡ true
-  pub within : l.atom < length new.values
+-- The walk stopped: what is held has the opposite of the literal there, whose step is gone; and of the steps up to that,
+-- the one behind those to be kept was taken freely, and no later one is of an atom that is held.
+pub record IsStoppedAt (clauses : List (List Literal)) (from : List ℕ) (m : Marks) (t : Trail) (stop : Stop) : Type 0 where
+  pub held : IsHeldAt clauses from m t.values stop.literal
+  pub marked : mark_at m stop.literal.atom ≡ true
+  pub within : stop.literal.atom < length t.values
+  pub trail : IsTrail clauses t
+  pub short : length t.steps < length t.values
+  pub step : Step
+  pub free : IsFreeAt (t.steps ++ step ∷ []) stop.keep
+  pub unmarked : AreUnmarkedFrom t.steps m stop.keep
+
+-- the same, and the trail with that step weighs as much as before or can grow so
+pub record IsStopped (clauses : List (List Literal)) (from : List ℕ) (m : Marks) (old new : Trail) (stop : Stop) : Type 0 where
+  pub here : IsStoppedAt clauses from m new stop
   pub many : length new.values ≡ length old.values
-  pub trail : IsTrail clauses new
-  pub before : weight_of old < weight_of new + 2 * 3 ^ (length new.values - suc (length new.steps))
+  pub before : weight_of old < ceiling (length new.values) (here.step ∷ reverse new.steps)
 
--- the walk came to the trail's begin, and what is held has no literal; or it stops at a literal that was taken freely
-abbrev pub IsWalked : List (List Literal) → List ℕ → Marks → Trail → Trail → Option Literal → Type 0
+-- the walk came to the trail's begin, and what is held has no literal; or it stopped
+abbrev pub IsWalked : List (List Literal) → List ℕ → Marks → Trail → Trail → Option Stop → Type 0
 IsWalked clauses from m old new None = IsDerived complement clauses from []
-IsWalked clauses from m old new (Some l) = IsStopped clauses from m old new l
+IsWalked clauses from m old new (Some stop) = IsStopped clauses from m old new stop
 
 -- l is the asserted literal, and the others are those of marked atoms that are false
 pub record IsCollected (l : Literal) (values : List (Option Value)) (m : Marks) (lits : List Literal) : Type 0 where

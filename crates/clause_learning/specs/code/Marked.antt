@@ -1,5 +1,5 @@
 -- Marks on atoms.
-use Rattle.std.specs.Prelude.{◌≡◌, ◌≢◌, ◌<◌, ◌⊎◌, ℕ, Bool, true, false, List, [], length, slice_index_or}
+use Rattle.std.specs.Prelude.{◌≡◌, ◌≢◌, ◌<◌, ◌⊎◌, ℕ, Bool, true, false, List, length, slice_index_or}
 use Rattle.std.specs.List.{Contains}
 use Rattle.clause_learning.specs.declared.literal.Literal.{Literal}
 use Rattle.clause_learning.specs.declared.marks.Marks.{Marks}

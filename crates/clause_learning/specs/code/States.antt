@@ -1,9 +1,11 @@
 -- What holds between the turns of a search.
-use Rattle.std.specs.Prelude.{◌≡◌, ◌<◌, ◌≤◌, ◌+◌, ◌-◌, ◌*◌, ◌^◌, ℕ, suc, Bool, false, List, Option, Some, None, IfSome, map, length, slice_get}
+use Rattle.std.specs.Prelude.{◌≡◌, ◌<◌, ◌≤◌, ◌⊎◌, ◌++◌, ◌∷◌, [], ℕ, Bool, false, List, Option, Some, None, IfSome, map, length, reverse, slice_get}
 use Rattle.std.specs.List.{Contains}
 use Rattle.clause_learning.specs.declared.literal.Literal.{Literal}
 use Rattle.clause_learning.specs.declared.trail.Value.{Value}
+use Rattle.clause_learning.specs.declared.trail.Step.{Step}
 use Rattle.clause_learning.specs.declared.trail.Trail.{Trail}
+use Rattle.clause_learning.specs.declared.analysis.Stop.{Stop}
 use Rattle.clause_learning.specs.declared.clauses.Clauses.{Clauses}
 use Rattle.clause_learning.specs.declared.examining.Finding.{Finding}
 use Rattle.clause_learning.specs.declared.examining.Finding.TheVariants.{Broken, Unit as Forced, Loose}
@@ -14,8 +16,9 @@ use Rattle.clause_learning.specs.Literals.{complement}
 use Rattle.clause_learning.specs.Refutations.{IsLog, IsRefutation}
 use Rattle.clause_learning.specs.Valuations.{HasAtoms, entry_of}
 use Rattle.clause_learning.specs.code.Trails.{clauses_of, value_at, Fails, AllFail, IsConflict, IsReason, IsTrail}
+use Rattle.clause_learning.specs.code.Cuts.{IsFreeAt}
 use Rattle.clause_learning.specs.code.Marked.{AreClear}
-use Rattle.clause_learning.specs.code.Weights.{weight_of}
+use Rattle.clause_learning.specs.code.Weights.{weight_of, ceiling}
 
 -- a clause that is false; or one with one literal that has no value, and else false ones; or one with a literal that is
 -- not false
@@ -69,12 +72,17 @@ pub record IsPropagated (clauses : List (List Literal)) (old new : Trail) (found
   pub heavier : weight_of old ≤ weight_of new
   pub conflict : IfSome found (IsConflict clauses new.values)
 
+-- fewer restarts are left, or as many, and the trail weighs more
+abbrev pub IsNearer : Solver → Solver → Type 0
+IsNearer old new = (new.restarts.left < old.restarts.left)
+    ⊎ ((new.restarts.left ≡ old.restarts.left) × (weight_of old.trail < weight_of new.trail))
+
 -- the same clauses were given, and the search is further on
 pub record IsFurther (old new : Solver) : Type 0 where
   pub state : IsState new
   pub inputs : new.clauses.inputs ≡ old.clauses.inputs
   pub many : length new.trail.values ≡ length old.trail.values
-  pub heavier : weight_of old.trail < weight_of new.trail
+  pub nearer : IsNearer old new
 
 -- each atom has a value, and no clause that was given is false
 pub record IsSettled (old new : Solver) : Type 0 where
@@ -83,21 +91,29 @@ pub record IsSettled (old new : Solver) : Type 0 where
   pub valued : AllValued new.trail.values
   pub loose : AllLoose new.trail.values old.clauses.inputs
 
+-- the log refutes the clauses that were given
+pub record IsOver (old new : Solver) : Type 0 where
+  pub inputs : new.clauses.inputs ≡ old.clauses.inputs
+  pub refuted : IsRefutation complement new.clauses.inputs (map entry_of new.clauses.log)
+
 -- the search is further on, or it is at its end
 abbrev pub IsTurned : Solver → Solver → Turn → Type 0
 IsTurned old new Further = IsFurther old new
-IsTurned old new Refuted = IsRefutation complement old.clauses.inputs (map entry_of new.clauses.log)
+IsTurned old new Refuted = IsOver old new
 IsTurned old new Settled = IsSettled old new
 
--- one step more that follows
-pub record NotesOne (old new : Solver) : Type 0 where
+-- One step more that follows, behind those to be kept. So the trail weighs as much as any other with the same steps up to
+-- the one that is not kept, which was taken freely.
+pub record NotesOne (old : Solver) (stop : Stop) (new : Solver) : Type 0 where
   pub state : IsState new
   pub inputs : new.clauses.inputs ≡ old.clauses.inputs
   pub many : length new.trail.values ≡ length old.trail.values
-  pub weight : weight_of new.trail ≡ weight_of old.trail + 2 * 3 ^ (length old.trail.values - suc (length old.trail.steps))
+  pub left : new.restarts.left ≡ old.restarts.left
+  pub weight : (s : Step) → IsFreeAt (old.trail.steps ++ s ∷ []) stop.keep
+      → ceiling (length old.trail.values) (s ∷ reverse old.trail.steps) ≤ weight_of new.trail
 
 -- a clause is learned, and gives one step more
-abbrev pub IsNoted : Solver → Solver → Turn → Type 0
-IsNoted old new Further = NotesOne old new
-IsNoted old new Refuted = ⊥
-IsNoted old new Settled = ⊥
+abbrev pub IsNoted : Solver → Stop → Solver → Turn → Type 0
+IsNoted old stop new Further = NotesOne old stop new
+IsNoted old stop new Refuted = ⊥
+IsNoted old stop new Settled = ⊥

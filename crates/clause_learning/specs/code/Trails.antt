@@ -5,7 +5,6 @@ use Rattle.clause_learning.specs.declared.literal.Literal.{Literal}
 use Rattle.clause_learning.specs.declared.trail.Value.{Value}
 use Rattle.clause_learning.specs.declared.trail.Step.{Step}
 use Rattle.clause_learning.specs.declared.trail.Trail.{Trail}
-use Rattle.clause_learning.specs.declared.clauses.Learned.{Learned}
 use Rattle.clause_learning.specs.declared.clauses.Clauses.{Clauses}
 
 -- the literals of each clause, in the order of the numbers

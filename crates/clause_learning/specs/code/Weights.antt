@@ -20,6 +20,3 @@ weight_of t = weight (length t.values) (reverse t.steps)
 -- what every trail that begins with these steps weighs less than
 abbrev pub ceiling : ℕ → List Step → ℕ
 ceiling atoms steps = weight atoms steps + 3 ^ (atoms - length steps)
-
-abbrev pub ceiling_of : Trail → ℕ
-ceiling_of t = ceiling (length t.values) (reverse t.steps)

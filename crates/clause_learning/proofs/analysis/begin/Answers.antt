@@ -1,4 +1,4 @@
-use Rattle.std.proofs.Common.{◌≡◌, Some, slice_get, option_copied, List, sym, ap, subst, ◌∙◌}
+use Rattle.std.proofs.Common.{option_copied, List, sym, ap, subst, ◌∙◌}
 use Rattle.clause_learning.specs.declared.literal.Literal.{Literal}
 use Rattle.clause_learning.specs.code.Trails.{clauses_of}
 use Rattle.std.specs.List.{Contains}

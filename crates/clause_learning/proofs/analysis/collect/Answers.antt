@@ -1,4 +1,4 @@
-use Rattle.std.proofs.Common.{ℕ, ◌+◌, ◌≡◌, List, Bool, true, false, None, take, get_or, sym, ap, subst, ◌∙◌}
+use Rattle.std.proofs.Common.{ℕ, ◌+◌, List, take, get_or, sym, ap, subst, ◌∙◌}
 use Rattle.std.proofs.lemmas.Bool.{false≢true}
 use Rattle.clause_learning.specs.declared.literal.Literal.{Literal}
 use Rattle.clause_learning.specs.code.Trails.{value_at}

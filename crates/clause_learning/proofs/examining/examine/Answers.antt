@@ -1,4 +1,4 @@
-use Rattle.std.proofs.Common.{◌≡◌, ◌+◌, rules, List, Option, Some, None, is_some, true, false, take, length, get_or, sym, subst, ◌∙◌}
+use Rattle.std.proofs.Common.{◌≡◌, ◌+◌, rules, List, Option, None, is_some, false, take, get_or, sym, subst, ◌∙◌}
 use Rattle.clause_learning.specs.declared.literal.Literal.{Literal}
 use Rattle.std.proofs.lemmas.List.Elements.{Contains-get_or}
 use Rattle.clause_learning.proofs.Marking.{IsScanned, scanned_none, scanned_false, scanned_free, scanned_broken, scanned_forced, fails_by, not_failing, not_failing_free, beq_same, beq_differ, none_of, taken_all, read_again}

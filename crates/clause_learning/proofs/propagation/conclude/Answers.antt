@@ -1,4 +1,4 @@
-use Rattle.std.proofs.Common.{ℕ, length}
+use Rattle.std.proofs.Common.{length}
 use Rattle.clause_learning.specs.declared.examining.Finding.TheVariants.{Unit as Forced}
 use Rattle.clause_learning.specs.code.Trails.{clauses_of}
 use Rattle.clause_learning.specs.code.States.{IsFoundAt}

@@ -1,4 +1,4 @@
-use Rattle.std.proofs.Common.{List, Some, None, slice_get, option_copied, sym, ap, subst, ◌∙◌}
+use Rattle.std.proofs.Common.{List, option_copied, sym, ap, subst, ◌∙◌}
 use Rattle.clause_learning.specs.declared.literal.Literal.{Literal}
 use Rattle.clause_learning.specs.code.Trails.{clauses_of}
 use Rattle.clause_learning.specs.code.States.{IsFound}

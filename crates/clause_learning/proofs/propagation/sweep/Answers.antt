@@ -1,7 +1,7 @@
-use Rattle.std.proofs.Common.{ℕ, ◌<◌, List, None, length, sym, subst}
+use Rattle.std.proofs.Common.{ℕ, ◌<◌, None, length, sym, subst}
 use Rattle.clause_learning.specs.code.Trails.{clauses_of}
 use Rattle.clause_learning.specs.declared.trail.Trail.{Trail}
-use Rattle.clause_learning.specs.declared.examining.Finding.TheVariants.{Broken, Unit as Forced}
+use Rattle.clause_learning.specs.declared.examining.Finding.TheVariants.{Unit as Forced}
 use Rattle.clause_learning.specs.code.States.{IsFoundAt, IsPropagated}
 use Rattle.clause_learning.proofs.Stating.{propagated_none, propagated_more, propagated_broken, unit_within}
 use Rattle.clause_learning.proofs.propagation.sweep.Goals.{in-Unit+in_ok-push-in-Unit, in-Loose}

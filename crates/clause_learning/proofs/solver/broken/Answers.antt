@@ -1,4 +1,4 @@
-use Rattle.std.proofs.Common.{ℕ, ◌≡◌, ◌<◌, List, Some, slice_get, length, map, refl, sym, ap, subst, ◌∙◌}
+use Rattle.std.proofs.Common.{◌≡◌, List, Some, slice_get, length, map, refl, sym, ap, subst, ◌∙◌}
 use Rattle.clause_learning.specs.declared.literal.Literal.{Literal}
 use Rattle.std.proofs.lemmas.Option.{slice_get_read}
 use Rattle.clause_learning.specs.code.Trails.{AllFail}

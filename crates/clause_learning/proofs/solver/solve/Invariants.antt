@@ -1,4 +1,4 @@
-use Rattle.std.proofs.Common.{◌≡◌, ◌-◌, ◌^◌, length}
+use Rattle.std.proofs.Common.{◌≡◌, ◌+◌, ◌-◌, ◌*◌, ◌^◌, length}
 use Rattle.clause_learning.specs.code.States.{IsState}
 use Rattle.clause_learning.specs.code.Weights.{weight_of}
 use Rattle.clause_learning.proofs.solver.solve.Given as goal
@@ -11,4 +11,4 @@ invariant-turns l = record {
 }
 
 abbrev pub decreases-turns : goal.decreases-turns
-decreases-turns l = 3 ^ length l.solver.trail.values - weight_of l.solver.trail
+decreases-turns l = l.solver.restarts.left * 3 ^ length l.solver.trail.values + (3 ^ length l.solver.trail.values - weight_of l.solver.trail)

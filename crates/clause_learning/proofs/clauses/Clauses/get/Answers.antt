@@ -1,5 +1,4 @@
-use Rattle.std.proofs.Common.{ℕ, ◌≡◌, ◌-◌, ◌<◌, ◌≤◌, List, map, length, Option, Some, slice_get, option_map, option_copied, sym, ap, subst, ◌∙◌}
-use Rattle.clause_learning.specs.declared.literal.Literal.{Literal}
+use Rattle.std.proofs.Common.{ℕ, ◌-◌, ◌<◌, ◌≤◌, map, slice_get, option_map, option_copied, sym, ap, subst, ◌∙◌}
 use Rattle.clause_learning.specs.declared.clauses.Learned.{Learned}
 use Rattle.clause_learning.proofs.Members.{got_front, got_behind}
 use Rattle.clause_learning.proofs.clauses.Clauses.get.Goals as goal

@@ -1,4 +1,4 @@
-use Rattle.std.proofs.Common.{ℕ, ◌<◌, List, false, take, length, get_or, sym, subst}
+use Rattle.std.proofs.Common.{ℕ, ◌<◌, List, false, get_or, sym, subst}
 use Rattle.clause_learning.specs.declared.literal.Literal.{Literal}
 use Rattle.std.proofs.lemmas.List.Elements.{Contains-get_or}
 use Rattle.clause_learning.specs.code.Marked.{AreMarked}

@@ -1,0 +1,36 @@
+//! What leads a search: which clauses are looked at, and which atom is taken freely. What it answers rests on none of
+//! this.
+use crate::literal::Literal;
+use crate::order::Order;
+use crate::trail::Trail;
+use crate::watches::Watches;
+use std::alloc::{AllocError, Global};
+
+/// The watches of the clauses, and the order of the atoms.
+#[derive(Drop)]
+pub struct Guide {
+    pub watches: Watches,
+    pub order: Order,
+}
+
+impl Guide {
+    /// Before the first turn.
+    pub fn new(alloc: Global, atoms: usize) -> Result<Guide, AllocError> {
+        Ok(Guide {
+            watches: Watches::new(alloc, atoms)?,
+            order: Order::new(alloc, atoms)?,
+        })
+    }
+
+    /// Takes account of a clause that is learned, from a conflict in which these atoms took part.
+    pub fn learn(
+        &mut self,
+        lits: &[Literal],
+        atoms: &[usize],
+        trail: &Trail,
+    ) -> Result<(), AllocError> {
+        self.order.count(atoms);
+        self.watches.shorten(trail.steps.len());
+        self.watches.add(lits, trail)
+    }
+}
