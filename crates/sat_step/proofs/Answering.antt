@@ -90,7 +90,7 @@ module _ (clauses : List Clause) (n : Numbered) (h : IsNumbered clauses n) (log 
       let R : List (List Lit) → Type 0 = λ cs. IsRefutation opposite cs (map entry_of (map (read_learned n.atoms) log)) in
       let S : List (Entry Lit) → Type 0 = λ es. IsRefutation opposite (map (map (read_lit n.atoms)) n.clauses) es in
       subst R (clauses_same n.atoms n.clauses clauses h.read) (subst S (entries_same n.atoms log)
-      (refutation_renamed (read_lit n.atoms) complement opposite (λ x. x.atom < length n.atoms) (λ x. refl) once n.clauses (numbered_within clauses n h) (map step_entry log) r))
+      (refutation_renamed (read_lit n.atoms) complement opposite (λ x. x.atom < length n.atoms) (λ x. refl) once (λ x k. k) n.clauses (numbered_within clauses n h) (map step_entry log) r))
 
 -- ---- valuations
 

@@ -28,7 +28,7 @@ module _ {X Y : Type 0} (f : X → Y) where
   abbrev pub renamed : Entry X → Entry Y
   renamed e = record { from = e.from; lits = map f e.lits }
 
-module _ {X Y : Type 0} (f : X → Y) (opp : X → X) (opposite : Y → Y) (Known : X → Type 0) (turns : (x : X) → f (opp x) ≡ opposite (f x)) (once : (x y : X) → Known x → Known y → f x ≡ f y → x ≡ y) where
+module _ {X Y : Type 0} (f : X → Y) (opp : X → X) (opposite : Y → Y) (Known : X → Type 0) (turns : (x : X) → f (opp x) ≡ opposite (f x)) (once : (x y : X) → Known x → Known y → f x ≡ f y → x ≡ y) (stays : (x : X) → Known x → Known (opp x)) where
   -- each literal is known
   abbrev pub AllKnown : List X → Type 0
   AllKnown c = (x : X) → Contains c x → Known x
@@ -42,13 +42,18 @@ module _ {X Y : Type 0} (f : X → Y) (opp : X → X) (opposite : Y → Y) (Know
   same_known : (p r : List X) → HasSame p r → AllKnown p → AllKnown r
   same_known p r h k x there = k x ((h x).0 there)
 
-  resolvent_known : (l m : X) (p q r : List X) → IsResolvent l m p q r → AllKnown p → AllKnown q → AllKnown r
-  resolvent_known l m p q r h kp kq x there = elim ((h.literals x).0 there) [ inl a ↦ kp x a.0 | inr b ↦ kq x b.0 ]
+  resolvent_known : (l : X) (p q r : List X) → IsResolvent opp l p q r → AllKnown p → AllKnown q → AllKnown r
+  resolvent_known l p q r h kp kq x there = elim ((h.literals x).0 there) [ inl a ↦ kp x a.0 | inr b ↦ kq x b.0 ]
 
-  resolvent_renamed : (l : X) (p q r : List X) → IsResolvent l (opp l) p q r → AllKnown p → AllKnown q → IsResolvent (f l) (opposite (f l)) (map f p) (map f q) (map f r)
+  resolvent_renamed : (l : X) (p q r : List X) → IsResolvent opp l p q r → AllKnown p → AllKnown q → IsResolvent opposite (f l) (map f p) (map f q) (map f r)
   resolvent_renamed l p q r h kp kq = record {
     first = map_in f p l h.first;
     second = subst (Contains (map f q)) (turns l) (map_in f q (opp l) h.second);
+    alone = λ y there other.
+        let one = in_map f p y there in
+        let two = in_map f q (opposite y) other in
+        let same : two.0 ≡ opp one.0 = once two.0 (opp one.0) (kq two.0 two.1) (stays one.0 (kp one.0 one.1)) (two.2 ∙ ap opposite (sym one.2) ∙ sym (turns one.0)) in
+        sym one.2 ∙ ap f (h.alone one.0 one.1 (subst (Contains q) same two.1));
     literals = λ y. (
       λ there.
           let one = in_map f r y there in
@@ -75,7 +80,7 @@ module _ {X Y : Type 0} (f : X → Y) (opp : X → X) (opposite : Y → Y) (Know
     resolves_renamed p [] r kp h = (same_renamed p r h, same_known p r h kp)
     resolves_renamed p (k ∷ from) r kp h =
         let kq = known h.1 (got_in clauses k h.1 h.3) in
-        let rest = resolves_renamed h.2 from r (resolvent_known h.0 (opp h.0) p h.1 h.2 h.4 kp kq) h.5 in
+        let rest = resolves_renamed h.2 from r (resolvent_known h.0 p h.1 h.2 h.4 kp kq) h.5 in
         ((f h.0, map f h.1, map f h.2, got_renamed clauses k h.1 h.3, resolvent_renamed h.0 p h.1 h.2 h.4 kp kq, rest.0), rest.1)
 
     derived_renamed : (from : List ℕ) (r : List X) → IsDerived opp clauses from r → IsDerived opposite (map (map f) clauses) from (map f r) × AllKnown r

@@ -13,7 +13,7 @@ module _ {X : Type 0} (opposite : X → X) (Holds : X → Type 0) (clash : (x : 
   abbrev pub HasSome : List X → Type 0
   HasSome c = (HasTrue c → ⊥) → ⊥
 
-  resolvent_true : (l : X) (p q r : List X) → IsResolvent l (opposite l) p q r → HasTrue p → HasTrue q → HasSome r
+  resolvent_true : (l : X) (p q r : List X) → IsResolvent opposite l p q r → HasTrue p → HasTrue q → HasSome r
   resolvent_true l p q r h tp tq never =
       let not_first : (tp.0 ≡ l → ⊥) → ⊥ = λ apart. never (tp.0, (h.literals tp.0).1 (inl (tp.1, apart)), tp.2) in
       let not_second : (tq.0 ≡ opposite l → ⊥) → ⊥ = λ apart. never (tq.0, (h.literals tq.0).1 (inr (tq.1, apart)), tq.2) in

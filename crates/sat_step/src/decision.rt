@@ -9,7 +9,7 @@ use std::alloc::Global;
 use tptp_base::{List, Memory};
 
 /// A clause that follows: its literals, and the numbers of the clauses from which it was made, each after the first
-/// resolved with what came before on one atom.
+/// resolved with what came before on one literal, the only one of the first that has its opposite in the second.
 #[derive(Drop)]
 pub struct Learned {
     pub lits: List<Lit>,
