@@ -1,5 +1,5 @@
 -- From what is decided of numbered clauses to what is decided of clauses.
-use Rattle.std.proofs.Common.{◌≡◌, ◌≢◌, ℕ, zero, suc, ◌+◌, ◌<◌, ◌≤◌, not, cond, Bool, true, false, List, [], ◌∷◌, ◌++◌, length, map, filter, take, get_or, Option, Some, None, slice_get, Contains, ◌⊎◌, refl, sym, ap, ◌∙◌, subst, inl, inr, arith}
+use Rattle.std.proofs.Common.{◌≡◌, ℕ, zero, suc, ◌+◌, ◌<◌, ◌≤◌, Bool, true, false, List, [], ◌∷◌, ◌++◌, length, map, take, get_or, Some, slice_get, Contains, refl, sym, ap, ◌∙◌, subst, inl, inr, arith}
 use Rattle.std.specs.List.{AllZip}
 use Rattle.std.proofs.lemmas.Bool.{false≢true}
 use Rattle.std.proofs.lemmas.List.{take_more, length-take-le}
@@ -15,7 +15,6 @@ use Rattle.clause_learning.specs.Refutations.{Entry, IsRefutation}
 use Rattle.clause_learning.specs.Valuations.{HasAtoms, IsModel, entry_of as step_entry}
 use Rattle.clause_learning.proofs.Trailing.{lit_same}
 use Rattle.clause_learning.proofs.Members.{nothing_in, in_cons, head_in, tail_in}
-use Rattle.sat_step.specs.declared.decision.Learned.{Learned}
 use Rattle.sat_step.specs.declared.numbering.Numbered.{Numbered}
 use Rattle.sat_step.specs.Decisions.{opposite, HasSign, Satisfies, entry_of, IsRefuted, positive_atoms}
 use Rattle.sat_step.specs.code.Atoms.{AreDistinct}

@@ -1,9 +1,8 @@
 -- Atoms of one code are the same.
-use Rattle.std.proofs.Common.{◌≡◌, ℕ, suc, List, [], ◌∷◌, ◌++◌, length, map, flat_map, refl, sym, ap, ◌∙◌, subst, arith, append_assoc, append-nil}
+use Rattle.std.proofs.Common.{◌≡◌, ℕ, List, [], ◌∷◌, ◌++◌, length, map, flat_map, refl, sym, ap, ◌∙◌, arith, append_assoc, append-nil}
 use Rattle.std.specs.List.{AllByRecursion}
 use Rattle.std.proofs.lemmas.List.{length-map}
 use Rattle.fof_terms.specs.declared.term.Term.{Term, Var, App}
-use Rattle.fof_terms.specs.declared.term.Term.TheFolds.{fold-Term}
 use Rattle.fof_terms.proofs.Trees.{fold-Var, fold-App}
 use Rattle.fof_terms.proofs.Induction.{term_induction}
 use Rattle.clause_form.specs.declared.clause.AtomOf.{AtomOf}

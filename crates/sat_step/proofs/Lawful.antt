@@ -1,11 +1,11 @@
 -- Clauses that are refuted have no valuation.
-use Rattle.std.proofs.Common.{◌≡◌, Bool, true, false, not, List, map, Contains, subst}
+use Rattle.std.proofs.Common.{Bool, true, false, not, List, map, Contains, subst}
 use Rattle.clause_form.specs.declared.clause.AtomOf.{AtomOf}
 use Rattle.clause_form.specs.declared.clause.Lit.{Lit}
 use Rattle.clause_form.specs.declared.clause.Clause.{Clause}
 use Rattle.sat_step.specs.declared.decision.Learned.{Learned}
 use Rattle.sat_step.specs.Decisions.{opposite, HasSign, Satisfies, entry_of, IsRefuted}
-use Rattle.sat_step.proofs.Sound.{HasTrue, refuted_not_true}
+use Rattle.sat_step.proofs.Sound.{refuted_not_true}
 use Rattle.sat_step.proofs.Renaming.{in_map}
 
 both_signs : (s : Bool) (atoms : List AtomOf) (a : AtomOf) → HasSign s atoms a → HasSign (not s) atoms a → ⊥

@@ -4,3 +4,5 @@ pub mod Renaming
 pub mod Codes
 pub mod Table
 pub mod Answering
+pub mod Truth
+pub mod Deciding

@@ -1,7 +1,7 @@
 -- What follows by resolution is true wherever all that it is made from is.
-use Rattle.std.proofs.Common.{◌≡◌, ◌≢◌, ℕ, List, [], ◌∷◌, ◌++◌, map, Some, slice_get, Contains, ◌⊎◌, refl, sym, ap, ◌∙◌, subst, inl, inr}
+use Rattle.std.proofs.Common.{◌≡◌, ℕ, List, [], ◌∷◌, ◌++◌, Contains, sym, subst, inl, inr}
 use Rattle.std.proofs.lemmas.List.Elements.{Contains-push, Contains-push_cases}
-use Rattle.clause_learning.specs.Refutations.{HasSame, IsResolvent, Resolves, IsDerived, Entry, IsLog, IsRefutation}
+use Rattle.clause_learning.specs.Refutations.{IsResolvent, Resolves, IsDerived, Entry, IsLog, IsRefutation}
 use Rattle.clause_learning.proofs.Members.{nothing_in, in_cons, got_in}
 
 module _ {X : Type 0} (opposite : X → X) (Holds : X → Type 0) (clash : (x : X) → Holds x → Holds (opposite x) → ⊥) where

@@ -8,4 +8,7 @@ mod numbering;
 mod reading;
 
 pub use decision::{Decision, Learned, decide};
-pub use laws::refuted_clauses_have_no_valuation;
+pub use laws::{
+    norms_are_true_by_their_clauses, propositional_steps_are_decided,
+    refuted_clauses_have_no_valuation,
+};

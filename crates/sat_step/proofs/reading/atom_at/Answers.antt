@@ -1,6 +1,5 @@
 use Rattle.std.proofs.Common.{sym, ap, ◌∙◌}
 use Rattle.std.specs.Option.{option_copied}
-use Rattle.std.proofs.lemmas.Option.{get_or_from_slice_get}
 use Rattle.clause_form.specs.declared.clause.AtomOf.TheVariants.{False}
 use Rattle.clause_learning.proofs.Members.{none_or}
 use Rattle.sat_step.proofs.reading.atom_at.Goals as goal
