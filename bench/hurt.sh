@@ -257,7 +257,7 @@ colours() {
     }' > x.s
 }
 hurt literals_resolved 1250 1 verify x.p x.s x.log
-hurt literals_of_none 10000 1 verify x.p x.s x.log
+hurt literals_of_none 100000 1 verify x.p x.s x.log
 hurt deep_terms 245 0 verify x.p x.s x.log
 hurt images 16 0 verify x.p x.s x.log
 hurt large_parent 2000 1 verify x.p x.s x.log
