@@ -91,6 +91,24 @@ pub node_body : (g : Bool) (as_ : List Form) → (loose (node g as_)).body ≡ n
 node_body true as_ = ap (λ (p : Pulled). p.body) (loose-And as_)
 node_body false as_ = ap (λ (p : Pulled). p.body) (loose-Or as_)
 
+abbrev parts : Form → List ℕ → Form → Pulled
+parts w ss b = record { whole = w; sorts = ss; body = b }
+
+parts_kept : (w : Form) (ss : List ℕ) (b a : Form) → w ≡ a → ss ≡ [] → b ≡ a → parts w ss b ≡ kept a
+parts_kept w ss b a ew es eb = ap (λ (c : Form). parts c ss b) ew ∙ (ap (λ (xs : List ℕ). parts a xs b) es ∙ ap (λ (c : Form). parts a [] c) eb)
+
+-- a node out of which nothing is pulled
+pub kept_node : (g : Bool) (as_ : List Form) → (loose (node g as_)).sorts ≡ [] → (loose (node g as_)).body ≡ node g as_ → loose (node g as_) ≡ kept (node g as_)
+kept_node true as_ es eb =
+    let e = loose-And as_ in
+    let ps = map loose as_ in
+    e
+    ∙ parts_kept (And (map whole_of ps)) (sorts_of ps) (And (bodies_of 0 ps)) (And as_) (sym (ap (λ (p : Pulled). p.whole) e) ∙ loose_whole (And as_)) (sym (ap (λ (p : Pulled). p.sorts) e) ∙ es) (sym (ap (λ (p : Pulled). p.body) e) ∙ eb)
+kept_node false as_ es eb =
+    let e = loose-Or as_ in
+    let ps = map loose as_ in
+    e ∙ parts_kept (Or (map whole_of ps)) (sorts_of ps) (Or (bodies_of 0 ps)) (Or as_) (sym (ap (λ (p : Pulled). p.whole) e) ∙ loose_whole (Or as_)) (sym (ap (λ (p : Pulled). p.sorts) e) ∙ es) (sym (ap (λ (p : Pulled). p.body) e) ∙ eb)
+
 pub all_sorts : (s : ℕ) (a : Form) → (loose (All s a)).sorts ≡ s ∷ (loose a).sorts
 all_sorts s a = ap (λ (p : Pulled). p.sorts) (loose-All s a)
 

@@ -68,7 +68,7 @@ linked_shows t v h false from to ps sc sf st i =
 
 -- the members of a node
 module _ (t : Statements) (v : List ℕ) (n : ℕ) (room : n + length v < 2147483647) where
-  closed_sorted : (forth : Bool) (as_ : List Form) (ps : List Proof) → AreMoved forth n as_ ps → AllByRecursion (Sorted t.vocabulary v) as_ → AllByRecursion (Sorted t.vocabulary v) (map closed_of (map loose as_))
+  pub closed_sorted : (forth : Bool) (as_ : List Form) (ps : List Proof) → AreMoved forth n as_ ps → AllByRecursion (Sorted t.vocabulary v) as_ → AllByRecursion (Sorted t.vocabulary v) (map closed_of (map loose as_))
   closed_sorted forth [] [] m s = tt
   closed_sorted forth [] (p ∷ ps) m s = absurd m
   closed_sorted forth (a ∷ as_) [] m s = absurd m
@@ -86,7 +86,7 @@ module _ (t : Statements) (v : List ℕ) (n : ℕ) (room : n + length v < 214748
   imply_back (a ∷ as_) [] m s = absurd m
   imply_back (a ∷ as_) (p ∷ ps) m s = (λ g. m.0 t v g room s.0, imply_back as_ ps m.1 s.1)
 
-members_sorted : (kind : Bool) (as_ : List Form) (t : Statements) (v : List ℕ) → Sorted t.vocabulary v (node kind as_) → AllByRecursion (Sorted t.vocabulary v) as_
+pub members_sorted : (kind : Bool) (as_ : List Form) (t : Statements) (v : List ℕ) → Sorted t.vocabulary v (node kind as_) → AllByRecursion (Sorted t.vocabulary v) as_
 members_sorted true as_ t v s = sorted_of_and t.vocabulary v 2147483647 as_ s
 members_sorted false as_ t v s = sorted_of_or t.vocabulary v 2147483647 as_ s
 
@@ -99,7 +99,7 @@ link_shows kind false n as_ ps m t v h room s =
     let sa = members_sorted kind as_ t v s in
     linked_shows t v h kind (map closed_of (map loose as_)) as_ ps s.scope_fits (closed_sorted t v n room false as_ ps m sa) sa (imply_back t v n room as_ ps m sa)
 
-closed_within : (t : Statements) (v : List ℕ) (d : ℕ) (as_ : List Form) → Bounded d as_ → AllByRecursion (Sorted t.vocabulary v) (map closed_of (map loose as_)) → AreClosed t.vocabulary d v (map loose as_)
+pub closed_within : (t : Statements) (v : List ℕ) (d : ℕ) (as_ : List Form) → Bounded d as_ → AllByRecursion (Sorted t.vocabulary v) (map closed_of (map loose as_)) → AreClosed t.vocabulary d v (map loose as_)
 closed_within t v d [] b s = tt
 closed_within t v d (a ∷ as_) b s = (record { scope_fits = s.0.scope_fits; few_binders = b.0; fits = s.0.fits }, closed_within t v d as_ b.1 s.1)
 

@@ -50,7 +50,7 @@ module _ (w : Vocabulary) (d : ℕ) where
   pub opened_sorts : (sorts v : List ℕ) (a : Form) → length sorts + length v ≤ 2147483647 → SortedTo d w v (closed_by sorts a) → AllByRecursion (λ s. s < length w.sorts) sorts
   opened_sorts sorts v a room r = (around_parts (λ s. s < length w.sorts) sorts v (opened sorts v a room r).scope_fits.sorts_exist).0
 
-  depth_lifted : (by n : ℕ) (a : Form) → binder_depth (lifted by n a) ≡ binder_depth a
+  pub depth_lifted : (by n : ℕ) (a : Form) → binder_depth (lifted by n a) ≡ binder_depth a
   depth_lifted by n a = let same : n + 0 ≡ n = omega arith in (rw same at (same_depth _ _ (lifting by (λ d. n + d) (λ d. omega arith)) a 0))
 
   -- a body with variables nearer and further out

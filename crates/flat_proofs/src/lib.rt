@@ -1,8 +1,16 @@
-//! Between a normal form and its flat form: what the parts of the proofs show, in both directions.
+//! Proofs between a formula and its flat form, in both directions.
 #![tactic(auto)]
 
+mod denying;
+mod flats;
+mod gathering;
+mod instances;
 mod laws;
+mod leading;
+mod linking;
+mod members;
+mod moving;
+mod turning;
 
-pub use laws::{
-    gather_shows, loose_body_joins, moves_show, order_shows, order_turns, variables_stand,
-};
+pub use flats::{flat_back, flat_forth};
+pub use laws::variables_stand;

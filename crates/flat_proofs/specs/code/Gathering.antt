@@ -26,12 +26,17 @@ abbrev pub or_arms : List Form → ℕ → List Pulled → List Proof
 or_arms bs k [] = []
 or_arms bs k (p ∷ ps) = OrI bs k (near (length (sorts_of ps)) (length p.sorts) (Hyp 0)) ∷ or_arms bs (k + 1) ps
 
--- from all over the conjunction of the bodies each closed body, the variables of those before having these sorts
+-- from all over the conjunction of the bodies the closed body of that number, the variables of those before and behind having
+-- these sorts: f before, and n in all
+abbrev pub back_arm : List ℕ → ℕ → ℕ → Pulled → Form → List ℕ → ℕ → Proof
+back_arm before f k p c later n =
+    inhabited before c (general p.sorts (inhabited later (lifted f (length p.sorts) p.body) (AndE k (near 0 n (Hyp 0)))))
+
+-- the same for each, the variables of those before having these sorts
 abbrev pub back_arms : List ℕ → ℕ → List Pulled → List Proof
 back_arms before k [] = []
 back_arms before k (p ∷ ps) =
-    inhabited before (closed_of p)
-    (general p.sorts (inhabited (sorts_of ps) (lifted (length before) (length p.sorts) p.body) (AndE k (near 0 (length (before ++ (p.sorts ++ sorts_of ps))) (Hyp 0)))))
+    back_arm before (length before) k p (closed_of p) (sorts_of ps) (length (before ++ (p.sorts ++ sorts_of ps)))
     ∷ back_arms (before ++ p.sorts) (k + 1) ps
 
 -- falsehood under each of n formulas, whose negations are the hypotheses, the last being that of the last formula
@@ -39,12 +44,16 @@ abbrev pub clashes : ℕ → List Proof
 clashes zero = []
 clashes (suc n) = NotE (Hyp (suc n)) (Hyp 0) ∷ clashes n
 
--- falsehood from all over the disjunction of the bodies, where i bodies over f variables are denied, and so is the
--- disjunction of the closed bodies
+-- falsehood where i bodies over f variables are denied, and so is the disjunction of the closed bodies, by falsehood where the
+-- next body is denied too
+abbrev pub denied_arm : List Form → ℕ → ℕ → Pulled → Proof → Proof
+denied_arm cs i f p q =
+    NotE (Hyp i) (OrI (map (lifted f 0) cs) i (general p.sorts (Raa (lifted f (length p.sorts) p.body) q)))
+
+-- the same from all over the disjunction of the bodies
 abbrev pub refuted : List Form → ℕ → ℕ → List Pulled → Proof
 refuted cs i f [] = OrE (Or []) (near 0 f (Hyp (i + 1))) (clashes i)
-refuted cs i f (p ∷ ps) =
-    NotE (Hyp i) (OrI (map (lifted f 0) cs) i (general p.sorts (Raa (lifted f (length p.sorts) p.body) (refuted cs (i + 1) (f + length p.sorts) ps))))
+refuted cs i f (p ∷ ps) = denied_arm cs i f p (refuted cs (i + 1) (f + length p.sorts) ps)
 
 -- from the node of closed bodies to all over the node of the bodies, or back
 abbrev pub gather_tree : Bool → Bool → List Pulled → Proof

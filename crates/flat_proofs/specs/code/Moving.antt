@@ -1,12 +1,14 @@
 -- Proofs between a formula and the quantifiers that are pulled out of it over the rest.
-use Rattle.std.specs.Prelude.{ℕ, Bool, true, false, ◌+◌, ◌≤◌, List, [], ◌∷◌}
+use Rattle.std.specs.Prelude.{ℕ, Bool, true, false, ◌+◌, ◌≤◌, List, [], ◌∷◌, Option}
 use Rattle.std.specs.List.{AllByRecursion}
 use Rattle.fof_terms.specs.Sorts.{binder_depth}
 use Rattle.fof_terms.specs.declared.term.Term.{Var}
 use Rattle.fof_terms.specs.declared.form.Form.{Form, And, Or, All}
 use Rattle.kernel.specs.declared.proof.Proof.{Proof, Hyp, AndI, AndE, OrI, OrE, ImpI, ImpE, AllI, AllE}
 use Rattle.norm_proofs.specs.code.Steps.{Between}
+use Rattle.flat_proofs.specs.code.Leading.{Leads}
 use Rattle.flat_proofs.specs.code.Loose.{loose, closed_of}
+use Rattle.flat_proofs.specs.code.Members.{room_of}
 
 -- by the conjunction what the parts say of its members, the first of which has number k
 abbrev pub and_links : ℕ → List Proof → List Proof
@@ -17,6 +19,16 @@ and_links k (p ∷ ps) = ImpE p (AndE k (Hyp 0)) ∷ and_links (k + 1) ps
 abbrev pub or_links : List Form → ℕ → List Proof → List Proof
 or_links to k [] = []
 or_links to k (p ∷ ps) = OrI to k (ImpE p (Hyp 0)) ∷ or_links to (k + 1) ps
+
+-- what the part says of the member of number k of a conjunction, or under minus the disjunction by that
+abbrev pub link_arm : Bool → List Form → ℕ → Proof → Proof
+link_arm true to k p = ImpE p (AndE k (Hyp 0))
+link_arm false to k p = OrI to k (ImpE p (Hyp 0))
+
+-- the same for each of the parts
+abbrev pub link_arms : Bool → List Form → ℕ → List Proof → List Proof
+link_arms true to k ps = and_links k ps
+link_arms false to k ps = or_links to k ps
 
 -- from a node to the node of what the parts lead to
 abbrev pub linked : Bool → List Form → List Form → List Proof → Proof
@@ -50,3 +62,7 @@ AreMoved forth n (a ∷ as_) (p ∷ ps) = IsMoved forth n a p × AreMoved forth 
 -- the formulas' quantifiers and bodies have at most d binders inside each other
 abbrev pub Bounded : ℕ → List Form → Type 0
 Bounded d = AllByRecursion (λ a. binder_depth (closed_of (loose a)) ≤ d)
+
+-- the proof is between the formula and these quantifiers, or they are one
+abbrev pub IsLed : Bool → Form → Option Proof → Type 0
+IsLed forth a part = Leads forth (room_of a) part a (closed_of (loose a))

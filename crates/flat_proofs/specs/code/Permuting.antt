@@ -21,11 +21,13 @@ StandIn scope [] (s ∷ sorts) = ⊥
 StandIn scope (k ∷ ks) [] = ⊥
 StandIn scope (k ∷ ks) (s ∷ sorts) = (slice_get scope k ≡ Some s) × StandIn scope ks sorts
 
+-- quantifiers of these sorts over the body, in that order
+abbrev pub turned_by : List ℕ → List ℕ → Form → Form
+turned_by order sorts u = closed_by (map (sort_of sorts) order) (renumbered (new_number order (length sorts)) 0 u)
+
 -- the quantifiers that are pulled out, in the order of their variables, over the body whose nodes aren't joined
 abbrev pub loose_flat : Form → Form
-loose_flat a =
-    closed_by (map (sort_of (pulled a).sorts) (order_of (length (pulled a).sorts) (pulled a).body))
-    (renumbered (new_number (order_of (length (pulled a).sorts) (pulled a).body) (length (pulled a).sorts)) 0 (loose a).body)
+loose_flat a = turned_by (order_of (length (pulled a).sorts) (pulled a).body) (pulled a).sorts (loose a).body
 
 -- the numbers below n, from the greatest
 abbrev pub down : ℕ → List ℕ
@@ -36,4 +38,4 @@ down (suc n) = n ∷ down n
 abbrev pub turned_tree : Bool → List ℕ → List ℕ → Form → Proof
 turned_tree true sorts order u = ImpI (closed_by sorts u) (general (map (sort_of sorts) order) (at_numbers (map (new_number order (length sorts)) (down (length sorts))) (Hyp 0)))
 turned_tree false sorts order u =
-    ImpI (closed_by (map (sort_of sorts) order) (renumbered (new_number order (length sorts)) 0 u)) (general sorts (at_numbers order (Hyp 0)))
+    ImpI (turned_by order sorts u) (general sorts (at_numbers order (Hyp 0)))
