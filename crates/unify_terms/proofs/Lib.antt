@@ -1,4 +1,5 @@
 pub mod Adding
+pub mod Binds
 pub mod Heads
 pub mod Making
 pub mod Orders
@@ -6,6 +7,7 @@ pub mod Pairs
 pub mod Partitions
 pub mod Remaining
 pub mod Searches
+pub mod Shows
 pub mod Step
 pub mod Turn
 pub mod Unifier

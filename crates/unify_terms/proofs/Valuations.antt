@@ -16,13 +16,13 @@ use Rattle.unify_terms.specs.declared.pair.Pair.{Pair}
 use Rattle.unify_terms.specs.code.Graph.{IsGraph, term_of, term_at, Fit, IsAdded, AreVariables, Stand, AddedPairs, ArePairsAdded, AddsPairs, IsGraphOf}
 use Rattle.unify_terms.specs.code.Classes.{AllBelow, Joins, IsValuation}
 use Rattle.unify_terms.proofs.SubstitutionFacts.{applied-Var, applied-App}
-use Rattle.unify_terms.specs.Substitution.{image_at, instance, IsSubstitution}
+use Rattle.unify_terms.specs.Substitution.{applied, image_at, instance, IsSubstitution}
 use Rattle.unify_terms.specs.Unifiers.{IsMostGeneral, Unifies, AreSorted}
 use Rattle.unify_terms.specs.code.Solved.{value_at}
 use Rattle.unify_terms.proofs.SolvedFacts.{IsGeneral}
 use Rattle.unify_terms.proofs.Adding.{fit_args, term_stays, below_or_past}
 
-module _ (v : Vocabulary) (sorts : List ℕ) (rigid : ℕ) (target : List ℕ) (other : List Term) (sub : IsSubstitution v sorts rigid target other) where
+module _ (v : Vocabulary) (sorts target : List ℕ) (image : ℕ → Term) (fits : (k : ℕ) → k < length sorts → sort_of_term v target (image k) ≡ slice_get sorts k) where
   in_scope : (i : ℕ) → slice_get sorts i ≢ None → i < length sorts
   in_scope i ne = elim (below_or_past i (length sorts)) [
     | inl h ↦ h
@@ -30,23 +30,24 @@ module _ (v : Vocabulary) (sorts : List ℕ) (rigid : ℕ) (target : List ℕ) (
   ]
 
   abbrev Keeps : Term → Type 0
-  Keeps t = sort_of_term v sorts t ≢ None → sort_of_term v target (instance other t) ≡ sort_of_term v sorts t
+  Keeps t = sort_of_term v sorts t ≢ None → sort_of_term v target (applied image t) ≡ sort_of_term v sorts t
 
-  keeps_all : (ts : List Term) → AllByRecursion Keeps ts → Fit v sorts ts → map (sort_of_term v target) (map (instance other) ts) ≡ map (sort_of_term v sorts) ts
+  keeps_all : (ts : List Term) → AllByRecursion Keeps ts → Fit v sorts ts → map (sort_of_term v target) (map (applied image) ts) ≡ map (sort_of_term v sorts) ts
   keeps_all [] all fit = refl
   keeps_all (t ∷ ts) all fit = rw (all.0 fit.0, keeps_all ts all.1 fit.1) refl
 
-  -- an instance has the sort of the term
-  pub keeps_sort : (t : Term) → Keeps t
-  keeps_sort = term_induction Keeps (record {
+  -- where images have the sorts of their variables, an instance has the sort of the term
+  pub keeps_sorts : (t : Term) → Keeps t
+  keeps_sorts = term_induction Keeps (record {
     var = λ k ne.
         let is = sort_of_term-Var v sorts k in
-        ap (sort_of_term v target) (applied-Var (image_at other) k) ∙ sub.sorted k (in_scope k (λ e. ne (is ∙ e))) ∙ sym is;
+        ap (sort_of_term v target) (applied-Var image k) ∙ fits k (in_scope k (λ e. ne (is ∙ e))) ∙ sym is;
     app = λ f ts all ne.
-        ap (sort_of_term v target) (applied-App (image_at other) f ts) ∙ sort_of_term-App v target f (map (instance other) ts)
+        ap (sort_of_term v target) (applied-App image f ts) ∙ sort_of_term-App v target f (map (applied image) ts)
         ∙ ap (result_of (slice_get v.symbols f)) (keeps_all ts all (fit_args v sorts f ts ne)) ∙ sym (sort_of_term-App v sorts f ts);
   })
 
+module _ (v : Vocabulary) (sorts : List ℕ) (rigid : ℕ) (target : List ℕ) (other : List Term) (sub : IsSubstitution v sorts rigid target other) where
   module _ (nodes : List Node) (g : IsGraph v sorts rigid nodes) where
     pub valuation : IsValuation v sorts target nodes (value_at nodes other)
     valuation = record {
@@ -55,7 +56,7 @@ module _ (v : Vocabulary) (sorts : List ℕ) (rigid : ℕ) (target : List ℕ) (
           ∙ ap (λ ts. App f (map (instance other) ts)) (g.function i f args numbers at).1 ∙ ap (App f) (map-map (instance other) (term_at nodes) numbers);
       rigids = λ i at.
           ap (λ o. instance other (term_of o i)) at ∙ applied-Var (image_at other) i ∙ sub.rigids i (g.rigids i at).0 (g.rigids i at).1;
-      sorted = λ i h. keeps_sort (term_at nodes i) (g.sorted i h);
+      sorted = λ i h. keeps_sorts v sorts target (image_at other) sub.sorted (term_at nodes i) (g.sorted i h);
     }
 
 module _ (nodes : List Node) (images : List Term) where

@@ -1,4 +1,6 @@
 -- What private contracts alone say of the code. Nothing public rests on this.
+pub mod Attempts
+pub mod Binding
 pub mod Chosen
 pub mod Classes
 pub mod Graph
@@ -7,4 +9,5 @@ pub mod Order
 pub mod Partition
 pub mod Pending
 pub mod Searched
+pub mod Shown
 pub mod Solved

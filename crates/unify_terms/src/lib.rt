@@ -1,8 +1,11 @@
 //! Most general unifiers of terms with sorts, and and-or goals over pairs of terms.
 #![tactic(auto)]
 
+mod attempt;
+mod binding;
 mod chosen;
 mod classes;
+mod equating;
 mod goal;
 mod images;
 mod node;
@@ -12,6 +15,7 @@ mod partition;
 mod pending;
 mod reversal;
 mod scope;
+mod showing;
 mod solving;
 mod sorting;
 mod substitution;

@@ -5,6 +5,7 @@ ghost use Rattle.unify_terms.specs.code.Chosen.{chosen_pairs};
 ghost use Rattle.unify_terms.specs.Unifiers.{AreSorted, Unified};
 ghost use Rattle.unify_terms.specs.code.Solved.{Arranged};
 
+use crate::attempt::{Attempt, try_pairs};
 use crate::chosen::Chosen;
 use crate::classes::close;
 use crate::images::first_images;
@@ -20,8 +21,26 @@ use tptp_base::{List, Memory};
 /// A most general well-sorted unifier of the pairs, which fixes the rigid variables; None exactly where there is none.
 /// Each variable of the scope has an image. Images are written out: where variables stand for each other's
 /// arguments, as in x0 = f(x1, x1), x1 = f(x2, x2) and so on, they are exponentially larger than the pairs. Whether
-/// there is a unifier is found before any image is made, in a time that does not depend on their size.
+/// there is a unifier is found with few images made, in a time that does not depend on their size.
 pub fn unify(
+    alloc: Global,
+    signature: &Signature,
+    scope: &Scope,
+    pairs: &[Pair],
+) -> Result<Option<Subst>, Memory>
+    requires few { length scope.now.sorts ≤ 2 ^ 32 }
+    requires sorted { AreSorted signature.now scope.now.sorts pairs.now }
+    ensures { IfOk result (λ answer. Unified signature.now scope.now.sorts scope.now.rigid pairs.now answer) }
+{
+    match try_pairs(alloc, signature, scope, pairs)? {
+        Attempt::Found(subst) => Ok(Some(subst)),
+        Attempt::Clash => Ok(None),
+        Attempt::Unknown => unify_by_classes(alloc, signature, scope, pairs),
+    }
+}
+
+// The same by classes of terms.
+fn unify_by_classes(
     alloc: Global,
     signature: &Signature,
     scope: &Scope,
