@@ -20,7 +20,7 @@ use crate::reporting::{is_verified, report_of};
 use crate::running::run_derivation;
 use derivation_text::Derivation;
 use fof_terms::Signature;
-use kernel::Theory;
+use proof_check::Theory;
 use std::alloc::{AllocError, Global};
 use szs_report::Verdict;
 use tptp_base::{Sink, Text};

@@ -16,7 +16,7 @@ ghost use Rattle.derivation_check.specs.Logs.{TakesSomeOfLog};
 
 use derivation_text::Derivation;
 use fof_terms::Signature;
-use kernel::Theory;
+use proof_check::Theory;
 use proof_log::write_header;
 use std::alloc::Global;
 use tptp_base::Sink;

@@ -15,7 +15,7 @@ use crate::searching::{by_search, lemma};
 use clause_form::Parent;
 use derive_kit::Part;
 use fof_terms::{Form, Signature};
-use kernel::Theory;
+use proof_check::Theory;
 use rule_proofs::{by_cover, normed};
 use rule_steps::first_norm;
 use std::alloc::Global;

@@ -12,7 +12,8 @@ ghost use Rattle.elaborate.specs.code.Proofs.{IsByEntries};
 
 use clause_form::Parent;
 use fof_terms::Form;
-use kernel::{Entry, Theory};
+use kernel::Entry;
+use proof_check::Theory;
 use skolem_fresh::{choice_entries, choice_step, skolem_step};
 use skolem_proofs::skolem_entries;
 use split_defs::{SplitJust, definition_entries, definition_step, split_entries, split_step};

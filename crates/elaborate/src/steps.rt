@@ -15,7 +15,8 @@ use crate::searching::{by_search, lemma, numbers};
 use clause_form::Parent;
 use derive_kit::Part;
 use fof_terms::Form;
-use kernel::{Entry, Theory};
+use kernel::Entry;
+use proof_check::Theory;
 use rule_proofs::{
     by_cover, by_eqfactor, by_norm, by_paramodulation, by_resolution, by_rewrite, by_tautology,
 };

@@ -10,7 +10,7 @@ use crate::choosing::choose_whole;
 use crate::symbols::new_symbols;
 use clause_form::{FormFault, norm};
 use fof_terms::{Form, SymId};
-use kernel::Theory;
+use proof_check::Theory;
 use skolem_fresh::Use;
 use std::alloc::Global;
 use tptp_base::{Boxed, List, Memory};

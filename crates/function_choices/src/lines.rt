@@ -10,7 +10,8 @@ use crate::symbols::new_symbols;
 use clause_form::Parent;
 use clausified_steps::clausified_by;
 use fof_terms::{Form, SymId};
-use kernel::{Entry, Theory};
+use kernel::Entry;
+use proof_check::Theory;
 use std::alloc::Global;
 use tptp_base::{List, Memory};
 

@@ -5,7 +5,7 @@ ghost use Rattle.function_choices.specs.code.Offered.{IsAdded};
 
 use crate::order::is_among;
 use fof_terms::{Form, SymId, symbols_of};
-use kernel::Theory;
+use proof_check::Theory;
 use std::alloc::Global;
 use tptp_base::{List, Memory};
 

@@ -15,7 +15,8 @@ use crate::forms::{Opening, Source, open_form};
 use crate::pending::{cite_all, further};
 use clause_form::Parent;
 use fof_terms::{Form, SymId};
-use kernel::{Entry, Proof, Theory};
+use kernel::{Entry, Proof};
+use proof_check::Theory;
 use std::alloc::Global;
 use tptp_base::{Boxed, List, Memory};
 

@@ -1,11 +1,5 @@
-pub mod Concluded
-pub mod ConcludedOver
-pub mod ConcludedLists
-pub mod Added
-pub mod Marked
 pub mod OneFormula
 pub mod Building
 pub mod EntryLaws
-pub mod HypothesesFacts
 pub mod RuleEquivalences
 pub mod Weakening

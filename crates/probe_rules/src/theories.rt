@@ -1,7 +1,7 @@
 // Theories and deductions.
 ghost use Rattle.fof_terms.specs.Occurs.{occurs_in};
 ghost use Rattle.fof_terms.specs.Sorts.{Sorted};
-ghost use Rattle.kernel.specs.Concludes.{Concludes, IsContext};
+ghost use Rattle.proof_check.specs.Concludes.{Concludes, IsContext};
 ghost use Rattle.kernel.specs.Entries.{After, Legal};
 ghost use Rattle.kernel.specs.Statements.{IsRefuted};
 ghost use Rattle.std.specs.List.{All as Each, list_any};
@@ -10,7 +10,8 @@ ghost use Rattle.std.specs.Prelude.{IfOk, IfSome, IsErrOf, IsTrue, OnErr, OnOk, 
 
 use crate::{Control, Probe};
 use fof_terms::{Form, Signature, SymId};
-use kernel::{AdmitFault, Context, Entry, Proof, Theory, conclude};
+use kernel::{Entry, Proof};
+use proof_check::{AdmitFault, Context, Theory, conclude};
 use std::alloc::Global;
 use tptp_base::{List, Memory};
 

@@ -13,7 +13,7 @@ use crate::{Control, Probe};
 use derivation_check::{Asked, Report, check_derivation};
 use derivation_text::Derivation;
 use fof_terms::Signature;
-use kernel::Theory;
+use proof_check::Theory;
 use std::alloc::Global;
 use tptp_base::Sink;
 use verifier::RunFault;

@@ -16,7 +16,7 @@ ghost use Rattle.verifier.specs.Logged.{CanAdmit, LeadTo, LogsSome, LogsRun, Log
 
 use crate::{Control, Probe};
 use fof_terms::{Form, Signature};
-use kernel::Theory;
+use proof_check::Theory;
 use std::alloc::Global;
 use szs_report::Verdict;
 use tptp_base::Sink;

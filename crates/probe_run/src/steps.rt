@@ -11,7 +11,7 @@ use crate::{Control, Probe};
 use clause_form::Parent;
 use elaborate::{StepAnswer, leaf, step};
 use fof_terms::Form;
-use kernel::Theory;
+use proof_check::Theory;
 use std::alloc::Global;
 use tptp_base::Memory;
 

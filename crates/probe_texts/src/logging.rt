@@ -12,7 +12,8 @@ ghost use Rattle.tptp_base.specs.Sink.{Takes, TakesPrefix};
 ghost use Rattle.tptp_base.specs.declared.read.TheConstants.{FILE_SIZE as max_size};
 
 use crate::{Control, Probe};
-use kernel::{Entry, Theory};
+use kernel::Entry;
+use proof_check::Theory;
 use proof_log::{
     CheckFault, HEADER, LogFault, MAX_NESTING, check_entries, read_log, write_entry, write_header,
 };

@@ -3,7 +3,8 @@ ghost use Rattle.std.specs.Prelude.{◌≡◌, ℕ, IfErr, OnOk};
 ghost use Rattle.kernel.specs.Entries.{Refutes};
 ghost use Rattle.proof_log.specs.Checks.{IsCheckFault, IsFaultedFor, IsFirstIllegal, IsNotRefuted, Leaves};
 
-use kernel::{AdmitFault, Entry, Theory};
+use kernel::Entry;
+use proof_check::{AdmitFault, Theory};
 use thiserror::Error;
 
 /// Why entries do not refute a theory.

@@ -11,7 +11,7 @@ ghost use Rattle.proof_log.specs.Rejected.{rejected};
 
 use crate::log_entries::LogEntries;
 use crate::reader::{LogFault, MAX_NESTING};
-use kernel::{AdmitFault, Theory};
+use proof_check::{AdmitFault, Theory};
 use std::alloc::Global;
 use thiserror::Error;
 

@@ -13,7 +13,7 @@ use crate::just::{SkolemJust, Use};
 use crate::leaves::push_leaves;
 use crate::opening::{leading, read_uses};
 use fof_terms::{Form, Scope};
-use kernel::Theory;
+use proof_check::Theory;
 use std::alloc::Global;
 use tptp_base::{List, Memory};
 

@@ -8,7 +8,7 @@ ghost use Rattle.skolem_fresh.specs.Uses.{functions_of as functions_in};
 use crate::just::Use;
 use crate::only::{is_among, only_has};
 use fof_terms::{Form, SymId, occurs};
-use kernel::Theory;
+use proof_check::Theory;
 use std::alloc::Global;
 use tptp_base::{List, Memory};
 

@@ -7,7 +7,8 @@ ghost use Rattle.skolem_fresh.specs.Justified.{ShowsChoice};
 use crate::just::SkolemJust;
 use crate::telling::tell;
 use fof_terms::Form;
-use kernel::{Entry, Theory};
+use kernel::Entry;
+use proof_check::Theory;
 use std::alloc::Global;
 use tptp_base::{List, Memory};
 

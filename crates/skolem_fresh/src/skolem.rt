@@ -20,7 +20,7 @@ use crate::leaves::{Leaf, push_leaves};
 use crate::skolemizing::skolemize_whole;
 use clause_form::{FormFault, Parent, norm, norm_signed};
 use fof_terms::{Form, equal};
-use kernel::Theory;
+use proof_check::Theory;
 use std::alloc::Global;
 use tptp_base::{Boxed, List, Memory};
 

@@ -16,7 +16,8 @@ use crate::arguments::names_of;
 use crate::renaming::rename;
 use derive_kit::{Part, all_i, hyp, iff_i, iff_l, iff_r, imp_e, imp_i, instance_of};
 use fof_terms::{Form, SymId, Term, copy_terms};
-use kernel::{Entry, Proof, Theory};
+use kernel::{Entry, Proof};
+use proof_check::Theory;
 use std::alloc::Global;
 use tptp_base::{Boxed, List, Memory};
 

@@ -11,7 +11,7 @@ use crate::arguments::names_of;
 use crate::just::SplitJust;
 use crate::speaking::{form_speaks, term_speaks};
 use fof_terms::{Form, Kind, SymId, Symbol, Term, occurs, occurs_in_term};
-use kernel::Theory;
+use proof_check::Theory;
 use std::alloc::Global;
 use tptp_base::Memory;
 

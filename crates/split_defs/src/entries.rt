@@ -10,7 +10,8 @@ use crate::defining::predicate_entries;
 use crate::definition::body_of;
 use crate::valuing::function_entries;
 use fof_terms::{Form, SymId, Term};
-use kernel::{Entry, Theory};
+use kernel::Entry;
+use proof_check::Theory;
 use std::alloc::Global;
 use tptp_base::{List, Memory};
 

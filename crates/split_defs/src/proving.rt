@@ -31,7 +31,8 @@ use clause_proofs::{
 };
 use derive_kit::{Part, cases, imp_e, imp_i, raa};
 use fof_terms::{Form, Scope, Signature, SortId};
-use kernel::{Entry, Theory};
+use kernel::Entry;
+use proof_check::Theory;
 use std::alloc::Global;
 use tptp_base::{List, Memory};
 use unify_terms::Subst;

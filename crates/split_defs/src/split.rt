@@ -14,7 +14,7 @@ use crate::names::{Named, all_named};
 use crate::together::together;
 use clause_form::{Clause, Parent, as_clause};
 use fof_terms::{Form, Signature};
-use kernel::Theory;
+use proof_check::Theory;
 use std::alloc::Global;
 use tptp_base::{List, Memory};
 

@@ -18,7 +18,8 @@ use crate::renaming::rename_term;
 use clause_proofs::refl;
 use derive_kit::{Part, ex_i, imp_e, subst};
 use fof_terms::{Form, Signature, SortId, SymId, Term, lift_term};
-use kernel::{Entry, Theory};
+use kernel::Entry;
+use proof_check::Theory;
 use std::alloc::Global;
 use tptp_base::{Boxed, List, Memory};
 

@@ -12,7 +12,7 @@ use crate::grown::with_functions;
 use crate::outcome::Searched;
 use clause_form::{FormFault, Parent};
 use fof_terms::Form;
-use kernel::Theory;
+use proof_check::Theory;
 use saturation::{Outcome, search};
 use search_proofs::refutation_entries;
 use std::alloc::Global;

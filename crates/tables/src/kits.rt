@@ -11,8 +11,9 @@ use anyhow::{Context, Result, bail};
 use clause_form::{Path, clause_of_path, norm_size};
 use derive_kit::Part;
 use fof_terms::{Form, Signature, well_sorted};
-use kernel::{Entry, Theory};
+use kernel::Entry;
 use norm_proofs::{norm_back, norm_forth, path_proof};
+use proof_check::Theory;
 use std::alloc::Global;
 use tptp_base::{Boxed, List, Memory};
 

@@ -2,7 +2,8 @@
 use crate::entries::{identity, implied_again, predicate};
 use anyhow::Result;
 use fof_terms::Signature;
-use kernel::{Entry, Theory};
+use kernel::Entry;
+use proof_check::Theory;
 use proof_log::{write_entry, write_header};
 use std::alloc::Global;
 use tptp_base::{List, Sink};

@@ -14,7 +14,7 @@ use crate::given::{Given, read_given};
 use crate::refusals::read_text;
 use crate::run::TOTAL_SIZE;
 use crate::stop::{Answer, Halt, Stop};
-use kernel::Theory;
+use proof_check::Theory;
 use proof_log::{LogCheckFault, check_log};
 use std::alloc::{AllocError, Global};
 use tptp_base::{FILE_SIZE, Store};

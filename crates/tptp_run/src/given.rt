@@ -18,7 +18,7 @@ use crate::resolved::read_files;
 use crate::stop::Halt;
 use fof_terms::Form;
 use include_resolve::Problem;
-use kernel::Theory;
+use proof_check::Theory;
 use sort_check::{GivenEntry, given};
 use std::alloc::Global;
 use tptp_base::{List, Memory, Store};

@@ -23,7 +23,7 @@ use crate::resolved::read_files;
 use crate::stop::Halt;
 use fof_terms::Signature;
 use include_resolve::Problem;
-use kernel::Theory;
+use proof_check::Theory;
 use sort_check::{GivenEntry, Line, given};
 use std::alloc::Global;
 use tptp_base::{List, Memory, Name, Role, Store};

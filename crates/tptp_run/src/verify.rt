@@ -25,7 +25,7 @@ use crate::stop::{Answer, Halt, Stop};
 use derivation_check::{Asked, Report, check_derivation};
 use derivation_text::Derivation;
 use fof_terms::Signature;
-use kernel::Theory;
+use proof_check::Theory;
 use sort_check::SortRule;
 use std::alloc::Global;
 use tptp_base::{FILE_SIZE, LimitName, Sink, Store};

@@ -2,7 +2,8 @@
 use super::theories::{admit_log, start};
 use derive_kit::{Part, and_e, cases, cut_under, hyp, imp_i, instance_of, or_i, rewrite_in};
 use fof_terms::{Form, Term, equal};
-use kernel::{Entry, Proof, Theory};
+use kernel::{Entry, Proof};
+use proof_check::Theory;
 use proof_log::read_log;
 use std::alloc::{AllocError, Global};
 use std::process::Abort;

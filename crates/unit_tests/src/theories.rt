@@ -1,7 +1,8 @@
 // Theories and their signatures.
 use crate::said::is;
 use fof_terms::{Kind, Signature};
-use kernel::{Entry, Proof, Theory};
+use kernel::{Entry, Proof};
+use proof_check::Theory;
 use proof_log::read_log;
 use std::alloc::{AllocError, Global};
 use std::test::Fail;

@@ -13,7 +13,7 @@ use Rattle.kernel.specs.Entries.{Legal, After, Admits, naming, choice, with_form
 use Rattle.kernel.specs.declared.entry.Entry.{Entry}
 use Rattle.kernel.specs.declared.entry.Entry.TheVariants.{Declare, Lemma, Name, Choice}
 use Rattle.kernel.specs.declared.entry.Decl.TheVariants as decl
-use Rattle.kernel.proofs.Added.{closed_grow}
+use Rattle.proof_check.proofs.Added.{closed_grow}
 use Rattle.kernel.proofs.Building.{shown_sorted}
 use Rattle.verifier.proofs.Slots.{one_value}
 

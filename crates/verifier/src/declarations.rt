@@ -13,7 +13,8 @@ ghost use Rattle.verifier.specs.Logged.{CanAdmit, LeadTo, LogsSome, entries_text
 use crate::entries::add_entries;
 use crate::fault::RunFault;
 use fof_terms::Signature;
-use kernel::{Decl, Entry, Theory};
+use kernel::{Decl, Entry};
+use proof_check::Theory;
 use std::alloc::Global;
 use tptp_base::{List, Memory, Sink, Text};
 

@@ -8,7 +8,8 @@ ghost use Rattle.verifier.specs.Faults.{HasCause};
 ghost use Rattle.verifier.specs.Logged.{CanAdmit, LeadTo, LogsSome, entries_text};
 
 use crate::fault::RunFault;
-use kernel::{AdmitFault, Entry, Theory};
+use kernel::Entry;
+use proof_check::{AdmitFault, Theory};
 use proof_log::write_entry;
 use std::alloc::Global;
 use tptp_base::Sink;

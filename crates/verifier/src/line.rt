@@ -21,7 +21,7 @@ use crate::parents::parents_of;
 use clause_form::Parent;
 use elaborate::{StepAnswer, leaf, step};
 use fof_terms::Form;
-use kernel::Theory;
+use proof_check::Theory;
 use std::alloc::Global;
 use step_clauses::has_room;
 use tptp_base::{List, Memory, Sink};

@@ -6,7 +6,7 @@ ghost use Rattle.clause_form.specs.Paths.{forms_of};
 
 use clause_form::Parent;
 use fof_terms::Form;
-use kernel::Theory;
+use proof_check::Theory;
 use sqlite_items::at;
 use std::alloc::Global;
 use tptp_base::{List, Memory};

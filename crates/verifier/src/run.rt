@@ -15,7 +15,7 @@ use crate::line::run_line;
 use crate::lines::Lines;
 use crate::parents::given_parents;
 use fof_terms::Form;
-use kernel::Theory;
+use proof_check::Theory;
 use std::alloc::{AllocError, Global};
 use tptp_base::{List, Sink};
 use tstp_graph::Graph;

@@ -1,5 +1,5 @@
 use Rattle.std.proofs.Common.{ap, refl, ◌∙◌, ◌++◌, ◌∷◌, []}
-use Rattle.kernel.proofs.Added.{on_ok}
+use Rattle.proof_check.proofs.Added.{on_ok}
 use Rattle.input_proofs.specs.code.Passed.{number_in}
 use Rattle.input_proofs.proofs.FormFacts.{formula_added}
 use Rattle.input_proofs.proofs.forms.add_opened.Goals as goal

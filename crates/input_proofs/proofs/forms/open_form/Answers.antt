@@ -1,5 +1,5 @@
 use Rattle.std.proofs.Common.{ℕ, ◌+◌, ap, sym, refl, ◌∙◌, length, arith}
-use Rattle.kernel.proofs.Added.{on_ok}
+use Rattle.proof_check.proofs.Added.{on_ok}
 use Rattle.input_proofs.proofs.FormFacts.{shallow, somewhere, own_few, own_room, own_numbers, own_length, norm_few, within, replaced, result, made_small, made_somewhere, made_count, passes_left, passes_taken}
 use Rattle.input_proofs.proofs.forms.open_form.Goals as goal
 

@@ -1,6 +1,0 @@
-use Rattle.std.proofs.Common.{◌≡◌, ◌++◌, ◌-◌}
-use Rattle.kernel.specs.Entries.{variables}
-use Rattle.kernel.proofs.closing.arguments.Given as goal
-
-abbrev pub invariant-loop-i : goal.invariant-loop-i
-invariant-loop-i l = l.terms ++ variables (l.count - l.i) ≡ variables l.count

@@ -1,6 +1,0 @@
-use Rattle.fof_terms.specs.Occurs.{occurs_in}
-use Rattle.kernel.proofs.Added.{used_not_fresh}
-use Rattle.kernel.proofs.theory.Theory.named.Goals as goal
-
-pub returns-then-uses : goal.returns-then-uses
-returns-then-uses c = λ a. (λ e. cc, λ w. absurd (used_not_fresh (occurs_in c.args.predicate) c.args.self.now.formulas c.if-uses.ensures w.1.fresh))

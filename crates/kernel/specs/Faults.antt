@@ -1,9 +1,0 @@
--- How a refusal of the signature shows in a theory: past a limit a declaration isn't legal.
-use Rattle.fof_terms.specs.declared.signature.SigFault.{SigFault}
-use Rattle.fof_terms.specs.declared.signature.SigFault.TheVariants.{Limit, Memory as no_room}
-use Rattle.kernel.specs.declared.entry.AdmitFault.{AdmitFault}
-use Rattle.kernel.specs.declared.entry.AdmitFault.TheVariants.{Illegal, Memory}
-
-abbrev pub admit_fault : SigFault → AdmitFault
-admit_fault (Limit limit) = Illegal
-admit_fault no_room = Memory

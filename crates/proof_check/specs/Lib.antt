@@ -1,0 +1,4 @@
+pub mod Concludes
+pub mod Faults
+pub mod Uses
+pub mod code

@@ -1,0 +1,5 @@
+-- What private contracts alone say of the code. Nothing public rests on this.
+pub mod Concludes
+pub mod Findings
+pub mod Hypotheses
+pub mod Reaching

@@ -1,0 +1,19 @@
+//! What a proof concludes, and theories that grow by it.
+#![tactic(auto)]
+
+mod closing;
+mod context;
+mod deduction;
+mod fault;
+mod finding;
+mod marks;
+mod nodes;
+mod quantifiers;
+mod rules;
+mod theory;
+mod views;
+
+pub use context::{Context, Hypotheses};
+pub use deduction::conclude;
+pub use fault::AdmitFault;
+pub use theory::Theory;
