@@ -43,7 +43,7 @@ use Rattle.clause_proofs.specs.Shown.{ShowsLine}
 use Rattle.rule_proofs.specs.ByRule.{IsByRule}
 use Rattle.elaborate.specs.code.Proofs.{IsByEntries, IsDerived, IsFound, CoversAlone, CoversNowhere, IsCoverAlone, IsFromFirst, IsFirstCover, IsLeftLeaf}
 use Rattle.clause_proofs.specs.Refuting.{theory_of}
-use Rattle.rule_proofs.proofs.NormLines.{norm_there}
+use Rattle.cover_proofs.proofs.NormLines.{norm_there}
 use Rattle.clause_proofs.proofs.ReadyParents.{of_theory, parent_at, parent_ready}
 
 module _ (t u : Statements) where

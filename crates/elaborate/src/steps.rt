@@ -13,13 +13,12 @@ use crate::answer::{Rule, StepAnswer};
 use crate::naming::{chosen, defined, skolemized, split};
 use crate::searching::{by_search, lemma, numbers};
 use clause_form::Parent;
+use cover_proofs::{by_cover, by_norm};
 use derive_kit::Part;
 use fof_terms::Form;
 use kernel::Entry;
 use proof_check::Theory;
-use rule_proofs::{
-    by_cover, by_eqfactor, by_norm, by_paramodulation, by_resolution, by_rewrite, by_tautology,
-};
+use rule_proofs::{by_eqfactor, by_paramodulation, by_resolution, by_rewrite, by_tautology};
 use std::alloc::Global;
 use tptp_base::{List, Memory};
 

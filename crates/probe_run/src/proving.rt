@@ -16,11 +16,12 @@ ghost use Rattle.skolem_proofs.specs.Choosing.{ChooseAndEnd};
 
 use crate::{Control, Probe};
 use clause_form::Parent;
+use cover_proofs::{by_cover, by_norm, normed};
 use derive_kit::Part;
 use fof_terms::{Form, Signature};
 use kernel::Entry;
 use proof_check::Theory;
-use rule_proofs::{by_cover, by_norm, by_resolution, normed};
+use rule_proofs::by_resolution;
 use skolem_fresh::SkolemJust;
 use skolem_proofs::skolem_entries;
 use std::alloc::Global;

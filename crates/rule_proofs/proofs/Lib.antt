@@ -1,12 +1,9 @@
 pub mod Chains
-pub mod CoverLines
 pub mod Factors
 pub mod FewImages
 pub mod Fillings
 pub mod Joints
 pub mod Marks
-pub mod MemberLines
-pub mod NormLines
 pub mod Resolvents
 pub mod Rewritings
 pub mod WholeLines

@@ -1,5 +1,4 @@
 -- What private contracts alone say of the code. Nothing public rests on this.
 pub mod Factoring
-pub mod Facts
 pub mod Rewriting
 pub mod Shown

@@ -1,0 +1,3 @@
+pub mod CoverLines
+pub mod MemberLines
+pub mod NormLines

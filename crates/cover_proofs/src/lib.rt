@@ -1,0 +1,10 @@
+//! Proofs of lines by the rules that go by normal forms: a line's normal form is that of a parent, or the line covers a
+//! clause of a parent's.
+#![tactic(auto)]
+
+mod cover;
+mod members;
+mod norm;
+
+pub use cover::by_cover;
+pub use norm::{by_norm, normed};
