@@ -11,3 +11,6 @@ pub mod Rewritten
 pub mod PlaceSearchFacts
 pub mod ListPlaces
 pub mod TakenLists
+pub mod NeedSorts
+pub mod Zips
+pub mod PlaceSorts

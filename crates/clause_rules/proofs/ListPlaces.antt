@@ -1,7 +1,8 @@
 -- Places in lists that are joined or mapped, and values that may be there.
-use Rattle.std.specs.Prelude.{ℕ, ◌≡◌, ◌+◌, List, [], ◌∷◌, ◌++◌, map, Option, Some, None, slice_get, refl}
+use Rattle.std.specs.Prelude.{ℕ, ◌≡◌, ◌+◌, List, [], ◌∷◌, ◌++◌, map, reverse, Option, Some, None, slice_get, refl}
 use Rattle.std.specs.Option.{option_map}
 use Rattle.std.proofs.Common.{ap, sym, ◌∙◌, zero, suc}
+use Rattle.std.proofs.lemmas.List.{reverse-append}
 use Rattle.clause_form.specs.Paths.{one_more}
 
 pub before : {X : Type 0} (xs ys : List X) (m : ℕ) (y : X) → slice_get xs m ≡ Some y → slice_get (xs ++ ys) m ≡ Some y
@@ -29,3 +30,12 @@ pub get_lifted : {X Y : Type 0} (f : X → Y) (xs : List X) (i : ℕ) (x : X) �
 get_lifted f [] i x e = cc
 get_lifted f (y ∷ xs) zero x e = let same : y ≡ x = cc in ap (λ z. Some (f z)) same
 get_lifted f (y ∷ xs) (suc i) x e = get_lifted f xs i x e
+
+pub get_of_map : {X Y : Type 0} (f : X → Y) (xs : List X) (i : ℕ) (y : Y) → slice_get (map f xs) i ≡ Some y → (x : X) × (slice_get xs i ≡ Some x) × (f x ≡ y)
+get_of_map f [] i y e = cc
+get_of_map f (x ∷ xs) zero y e = (x, refl, cc)
+get_of_map f (x ∷ xs) (suc i) y e = get_of_map f xs i y e
+
+-- the first of a list is the last of its reversal
+pub reverse_cons : {X : Type 0} (x : X) (xs : List X) → reverse (x ∷ xs) ≡ reverse xs ++ x ∷ []
+reverse_cons x xs = reverse-append (x ∷ []) xs

@@ -13,4 +13,5 @@ pub mod TautologyRule
 pub mod JointClauses
 pub mod PlaceSearch
 pub mod Reach
+pub mod Ways
 pub mod code

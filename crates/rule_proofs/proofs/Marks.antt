@@ -27,7 +27,7 @@ use Rattle.clause_rules.specs.Steps.{AreCovered, equation}
 use Rattle.clause_rules.proofs.Equations.{map_set}
 use Rattle.clause_rules.proofs.JointImages.{sorted_further}
 use Rattle.clause_rules.proofs.PlaceLaws.{args_of-App, with_args-App, term_below, put_is_below, shape_of, found_on, lit_at_walk, lit_put_walk}
-use Rattle.rule_steps.proofs.PlaceSorts.{replaced_fits, term_found}
+use Rattle.clause_rules.proofs.PlaceSorts.{replaced_fits, term_found}
 use Rattle.rule_steps.proofs.RewrittenTerms.{lits_kept, lits_same as rewritten_same}
 use Rattle.clause_proofs.specs.Refuting.{AllSettled, IsSettled}
 use Rattle.rule_proofs.specs.code.Rewriting.{filled, IsMarked, IsRewriting, AreInstances}

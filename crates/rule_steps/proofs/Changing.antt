@@ -25,12 +25,11 @@ use Rattle.substitution_search.specs.Screens.{NeverAll, NeverCovered, NeverOther
 use Rattle.rule_steps.specs.code.SlotFits.{AllFit}
 use Rattle.clause_rules.specs.Settled.{IsFit}
 use Rattle.clause_rules.specs.Steps.{apart_from, instances}
-use Rattle.rule_steps.proofs.Factoring.{get_of_map}
 use Rattle.clause_rules.proofs.Firsts.{one_at}
 use Rattle.clause_rules.proofs.LitImages.{imaging, images_apart, lits_twice}
 use Rattle.clause_rules.proofs.PlaceLaws.{lit_put_walk}
 use Rattle.rule_steps.proofs.RewrittenTerms.{lits_same}
-use Rattle.clause_rules.proofs.ListPlaces.{before, behind}
+use Rattle.clause_rules.proofs.ListPlaces.{before, behind, get_of_map}
 
 -- elements of a list of which one was changed or left out
 pub set_other : {X : Type 0} (xs : List X) (i m : ℕ) (x y : X) → m ≢ i → slice_get xs m ≡ Some y → slice_get (slice_set xs i x) m ≡ Some y

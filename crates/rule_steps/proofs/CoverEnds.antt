@@ -34,17 +34,18 @@ use Rattle.clause_rules.specs.Justified.{Shows}
 use Rattle.clause_rules.specs.Settled.{IsFit, Settles}
 use Rattle.substitution_search.specs.Settled.{IsGuessed, IsSolution}
 use Rattle.clause_rules.specs.Steps.{AreCovered, instances}
-use Rattle.substitution_search.specs.Ways.{cover_needs, goal_of_needs}
+use Rattle.clause_rules.specs.Ways.{cover_needs, goal_of_needs}
 use Rattle.rule_steps.proofs.CoverTop.{CoversSome}
 use Rattle.substitution_search.proofs.Covering.{covers_forth, covers_back}
-use Rattle.rule_steps.proofs.Factoring.{get_of_map, no_lits}
+use Rattle.rule_steps.proofs.Factoring.{no_lits}
 use Rattle.clause_rules.proofs.Firsts.{one_at, ok_map}
 use Rattle.clause_rules.proofs.JointImages.{sorted_further}
-use Rattle.substitution_search.proofs.NeedSorts.{all_cover_fits, goal_fits}
+use Rattle.clause_rules.proofs.NeedSorts.{all_cover_fits, goal_fits}
 use Rattle.clause_form.proofs.NormFits.{norm_fits}
 use Rattle.rule_steps.proofs.ReachedFits.{reached_fits}
 use Rattle.rule_steps.proofs.ResolvedAt.{parents_fit}
 use Rattle.rule_steps.proofs.Settling.{settled_by, settles_like}
+use Rattle.clause_rules.proofs.ListPlaces.{get_of_map}
 
 module _ (v : Vocabulary) (c line : Clause) (c_fit : IsFit v c) (line_fit : IsFit v line) (joint : Joint) (joined : IsJoinedOne line c joint) (goal : Goal) (asks : goal ≡ goal_of_needs (cover_needs line.lits joint.left)) where
   abbrev sorts : List ℕ

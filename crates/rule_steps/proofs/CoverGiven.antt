@@ -27,14 +27,14 @@ use Rattle.unify_terms.specs.Substitution.{image_at}
 use Rattle.unify_terms.specs.Unifiers.{Unifies}
 use Rattle.substitution_search.specs.CoverSearch.{Opening, sorts_of_all, goals_from, over, named, goal_of_lit, opened_leaf, opened_and, opened_or, opened_all, opening}
 use Rattle.substitution_search.proofs.CoverSearchFacts.{opening-And, opening-Or, opening-All}
-use Rattle.substitution_search.specs.Ways.{cover_ways}
+use Rattle.clause_rules.specs.Ways.{cover_ways}
 use Rattle.substitution_search.proofs.Covering.{cover_back}
 use Rattle.substitution_search.proofs.Meeting.{way_of, chosen_there, unifies_both}
 use Rattle.rule_steps.proofs.Named.{over_two, beside_images, named_image, one_name}
 use Rattle.substitution_search.proofs.Openings.{IsLeaf, no_pick, no_each, no_under, and_no_lit, or_no_lit, all_no_lit, atom_leaf, eq_leaf, not_leaf, imp_leaf, iff_leaf, ex_leaf}
 use Rattle.substitution_search.proofs.PathCases.{path_cases, reached-Leaf, reached-Pick, reached-Each, reached-Under}
-use Rattle.substitution_search.proofs.Placed.{Has, first_image, after_first, has_first, has_second, Typed, typed_length, typed_both, typed_parts, Inhabited, fillers, inhabited_parts, reverse_cons}
-use Rattle.clause_rules.proofs.ListPlaces.{nothing_there, mapped, more_parts}
+use Rattle.substitution_search.proofs.Placed.{Has, first_image, after_first, has_first, has_second, Typed, typed_length, typed_both, typed_parts, Inhabited, fillers, inhabited_parts}
+use Rattle.clause_rules.proofs.ListPlaces.{nothing_there, mapped, more_parts, reverse_cons}
 
 all_parts : {X : Type 0} (P : X → Type 0) (xs ys : List X) → AllByRecursion P (xs ++ ys) → AllByRecursion P xs × AllByRecursion P ys
 all_parts P [] ys h = (tt, h)

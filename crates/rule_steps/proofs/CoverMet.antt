@@ -28,13 +28,14 @@ use Rattle.unify_terms.specs.Substitution.{image_at}
 use Rattle.unify_terms.specs.Unifiers.{Unifies}
 use Rattle.substitution_search.specs.CoverSearch.{Taking, Taken, TakenAll, Opening, sorts_of_all, goals_from, over, down, named, goal_of_lit, later, take_leaf, take_at, with_choices, take_pick, first_taken, take_each, all_taken, with_sort, opened_and, opened_or, opened_all, opening}
 use Rattle.substitution_search.proofs.CoverSearchFacts.{opening-And, opening-Or, opening-All}
-use Rattle.substitution_search.specs.Ways.{cover_ways}
+use Rattle.clause_rules.specs.Ways.{cover_ways}
 use Rattle.substitution_search.proofs.Covering.{cover_forth}
 use Rattle.substitution_search.proofs.Meeting.{chosen_is, need_is, has_way, then_is, unifies_parts}
 use Rattle.rule_steps.proofs.Named.{over_two, beside_images, named_image, one_name, down_length, down_both}
 use Rattle.substitution_search.proofs.Openings.{IsLeaf, atom_leaf, eq_leaf, not_leaf, imp_leaf, iff_leaf, ex_leaf}
 use Rattle.substitution_search.proofs.PathCases.{reached-Leaf, reached-Pick, reached-Each, reached-Under}
-use Rattle.substitution_search.proofs.Placed.{Has, first_image, after_first, has_first, has_second, Typed, typed_length, typed_both, typed_parts, reverse_cons}
+use Rattle.substitution_search.proofs.Placed.{Has, first_image, after_first, has_first, has_second, Typed, typed_length, typed_both, typed_parts}
+use Rattle.clause_rules.proofs.ListPlaces.{reverse_cons}
 
 never : (choices : List ℕ) (pairs : List Pair) (rest : List ℕ) → one_of [] choices ≡ Some (pairs, rest) → ⊥
 never [] pairs rest e = cc

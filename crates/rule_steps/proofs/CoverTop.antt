@@ -34,7 +34,7 @@ use Rattle.rule_steps.proofs.GoalSorts.{few_sorts, goal_fits}
 use Rattle.clause_rules.proofs.JointImages.{listed, listed_length, joined, joined_above, made, made_joint, line_stays, sorted_further}
 use Rattle.clause_rules.proofs.LitImages.{image_itself}
 use Rattle.rule_steps.proofs.Named.{alike, named_image}
-use Rattle.substitution_search.proofs.NeedSorts.{all_sorted_fit}
+use Rattle.clause_rules.proofs.NeedSorts.{all_sorted_fit}
 use Rattle.substitution_search.proofs.Placed.{Has, Typed, typed_length, typed_at, Inhabited}
 use Rattle.rule_steps.proofs.ReachedFits.{reached_fits}
 use Rattle.rule_steps.proofs.SameTake.{same_take}

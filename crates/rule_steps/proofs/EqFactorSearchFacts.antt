@@ -12,7 +12,7 @@ use Rattle.rule_steps.specs.declared.eqfactor_rule.Factor.{Factor}
 use Rattle.rule_steps.specs.declared.sides.Sides.{Sides}
 use Rattle.clause_rules.specs.EqFactorRule.{Factors}
 use Rattle.clause_rules.specs.Steps.{equation, unequal, IsJoint, images_of_parents}
-use Rattle.substitution_search.specs.Ways.{pair_of, cover_needs}
+use Rattle.clause_rules.specs.Ways.{pair_of, cover_needs}
 
 -- what is asked of a substitution: the first sides become equal, and with the second ones denied to be equal in place
 -- of literal i, all literals are covered

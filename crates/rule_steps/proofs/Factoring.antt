@@ -27,15 +27,15 @@ use Rattle.clause_rules.specs.Settled.{IsFit, Settles}
 use Rattle.substitution_search.specs.Settled.{IsSolution}
 use Rattle.clause_rules.specs.Steps.{AreCovered, equation, unequal, instances}
 use Rattle.substitution_search.proofs.WaysFacts.{MeetsNeeds}
-use Rattle.substitution_search.specs.Ways.{goal_of_needs}
+use Rattle.clause_rules.specs.Ways.{goal_of_needs}
 use Rattle.substitution_search.proofs.Covering.{pair_forth, pair_back, covers_forth, covers_back}
 use Rattle.clause_rules.proofs.Equations.{equation_image, equation_parts, same_sides, map_set}
 use Rattle.clause_rules.proofs.Firsts.{one_at, there_at}
 use Rattle.clause_rules.proofs.JointImages.{sorted_further}
-use Rattle.substitution_search.proofs.NeedSorts.{Fits, Found, AllFit, NeedsFit, alone_fits, covers_fit, all_sorted_fit, goal_fits}
+use Rattle.clause_rules.proofs.NeedSorts.{Fits, Found, AllFit, NeedsFit, alone_fits, covers_fit, all_sorted_fit, goal_fits}
 use Rattle.rule_steps.proofs.ResolvedAt.{parents_fit}
 use Rattle.rule_steps.proofs.Settling.{settled_by, settles_like}
-use Rattle.clause_rules.proofs.ListPlaces.{get_lifted}
+use Rattle.clause_rules.proofs.ListPlaces.{get_lifted, get_of_map}
 
 -- the needs are met exactly where the instances are factored
 module _ (images : List Term) (line lits : List Lit) (i j : ℕ) (f g : Bool) (s u t w : Term) (apart : i ≢ j) (at : slice_get lits i ≡ Some (equation f s t)) (over : slice_get lits j ≡ Some (equation g u w)) where
@@ -86,11 +86,6 @@ equation_fits v scope true l r h = (h.1, h.0)
 
 pub no_lits : (v : Vocabulary) (scope : List ℕ) → AreSorted v scope []
 no_lits v scope = record { fits = All-nil (λ (l : Lit). is_sorted_atom v scope l.atom ≡ true) }
-
-pub get_of_map : {X Y : Type 0} (f : X → Y) (xs : List X) (i : ℕ) (y : Y) → slice_get (map f xs) i ≡ Some y → (x : X) × (slice_get xs i ≡ Some x) × (f x ≡ y)
-get_of_map f [] i y e = cc
-get_of_map f (x ∷ xs) zero y e = (x, refl, cc)
-get_of_map f (x ∷ xs) (suc i) y e = get_of_map f xs i y e
 
 module _ (v : Vocabulary) (c line : Clause) (c_fit : IsFit v c) (line_fit : IsFit v line) (joint : Joint) (joined : IsJoinedOne line c joint) where
   abbrev sorts : List ℕ

@@ -23,9 +23,9 @@ use Rattle.unify_terms.specs.Goals.{goal_sorted}
 use Rattle.unify_terms.proofs.GoalsFacts.{goal_sorted-All, goal_sorted-Any}
 use Rattle.substitution_search.specs.CoverSearch.{Opening, sorts_of_all, goals_from, over, named, goal_of_lit, opening}
 use Rattle.substitution_search.proofs.CoverSearchFacts.{opening-And, opening-Or, opening-All}
-use Rattle.substitution_search.specs.Ways.{cover_ways}
+use Rattle.clause_rules.specs.Ways.{cover_ways}
 use Rattle.rule_steps.proofs.ClauseSorts.{view_fits}
-use Rattle.substitution_search.proofs.NeedSorts.{AllFit, cover_fits, sorted_fits, ways_sorted}
+use Rattle.clause_rules.proofs.NeedSorts.{AllFit, cover_fits, sorted_fits, ways_sorted}
 use Rattle.substitution_search.proofs.Openings.{IsLeaf, atom_leaf, eq_leaf, not_leaf, imp_leaf, iff_leaf, ex_leaf}
 use Rattle.substitution_search.proofs.Placed.{Has, first_sort, after_first, has_first, has_second}
 use Rattle.rule_steps.proofs.ReachedFits.{plain_is}

@@ -12,7 +12,7 @@ use Rattle.rule_steps.specs.code.Beside.{NeverBeside}
 use Rattle.substitution_search.specs.Screens.{NeverOthers}
 use Rattle.clause_rules.specs.Settled.{IsFit, Settles}
 use Rattle.rule_steps.proofs.Changing.{kept}
-use Rattle.rule_steps.proofs.Factoring.{get_of_map}
+use Rattle.clause_rules.proofs.ListPlaces.{get_of_map}
 
 -- an element that is left stood at another place
 pub left_over : {X : Type 0} (xs : List X) (i m : ℕ) (y : X) → slice_get (remove xs i) m ≡ Some y → (n : ℕ) × (n ≢ i) × (slice_get xs n ≡ Some y)

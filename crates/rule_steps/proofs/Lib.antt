@@ -18,7 +18,6 @@ pub mod ParamodulationCode
 pub mod ParamodulationEnds
 pub mod ParamodulationPlaces
 pub mod ParamodulationSearchFacts
-pub mod PlaceSorts
 pub mod ReachedFits
 pub mod ResolutionGoals
 pub mod ResolutionLoops

@@ -27,16 +27,16 @@ use Rattle.clause_rules.specs.Settled.{IsFit, Settles}
 use Rattle.substitution_search.specs.Settled.{IsSolution}
 use Rattle.clause_rules.specs.Steps.{AreCovered, equation, instances, scope_of_both, apart_from}
 use Rattle.substitution_search.proofs.WaysFacts.{MeetsNeeds}
-use Rattle.substitution_search.specs.Ways.{goal_of_needs}
+use Rattle.clause_rules.specs.Ways.{goal_of_needs}
 use Rattle.substitution_search.proofs.Covering.{pair_forth, pair_back, covers_forth, covers_back}
 use Rattle.clause_rules.proofs.Equations.{equation_image, same_sides, map_set}
 use Rattle.rule_steps.proofs.Factoring.{set_fits, equation_fits}
 use Rattle.clause_rules.proofs.Firsts.{one_at}
 use Rattle.clause_rules.proofs.JointImages.{made, made_joint, sorted_further}
 use Rattle.clause_rules.proofs.LitImages.{imaging}
-use Rattle.substitution_search.proofs.NeedSorts.{Found, AllFit, NeedsFit, sorted_fits, alone_fits, covers_fit, all_sorted_fit, goal_fits}
+use Rattle.clause_rules.proofs.NeedSorts.{Found, AllFit, NeedsFit, sorted_fits, alone_fits, covers_fit, all_sorted_fit, goal_fits}
 use Rattle.clause_rules.proofs.PlaceLaws.{lit_at_walk, lit_put_walk}
-use Rattle.rule_steps.proofs.PlaceSorts.{replaced_fits, term_found}
+use Rattle.clause_rules.proofs.PlaceSorts.{replaced_fits, term_found}
 use Rattle.rule_steps.proofs.ResolvedAt.{parents_fit, left_fits, right_fits}
 use Rattle.rule_steps.proofs.Settling.{settled_by, settles_like, held_by_made}
 

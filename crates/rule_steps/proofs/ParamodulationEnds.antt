@@ -28,8 +28,7 @@ use Rattle.clause_rules.specs.PlaceSearch.{places_of}
 use Rattle.substitution_search.specs.Screens.{NeverEqual}
 use Rattle.clause_rules.specs.Steps.{equation, instances, apart_from, clauses_of}
 use Rattle.clause_rules.proofs.Equations.{equation_image, equation_parts, same_sides}
-use Rattle.rule_steps.proofs.Factoring.{get_of_map}
-use Rattle.clause_rules.proofs.ListPlaces.{get_lifted}
+use Rattle.clause_rules.proofs.ListPlaces.{get_lifted, get_of_map}
 use Rattle.clause_rules.proofs.Firsts.{one_at}
 use Rattle.clause_rules.proofs.LitImages.{imaging}
 use Rattle.clause_rules.proofs.PlaceLaws.{lit_at_walk, place_listed}

@@ -18,7 +18,7 @@ use Rattle.clause_rules.specs.Places.{lit_term_at, lit_put_at}
 use Rattle.clause_rules.specs.PlaceSearch.{places_of}
 use Rattle.clause_rules.specs.Settled.{IsFit}
 use Rattle.clause_rules.specs.Steps.{scope_of_both, equation, IsJoint, images_of_parents}
-use Rattle.substitution_search.specs.Ways.{pair_of, cover_needs}
+use Rattle.clause_rules.specs.Ways.{pair_of, cover_needs}
 use Rattle.std.proofs.Common.{suc}
 
 -- what is asked of a substitution: the term at the place and the left side become equal, and with the right side at the

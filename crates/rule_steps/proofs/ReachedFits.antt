@@ -27,10 +27,9 @@ use Rattle.clause_form.proofs.SizeLaws.{sum_cons}
 use Rattle.clause_form.specs.Sizes.{norm_size_of}
 use Rattle.clause_form.proofs.SizesFacts.{norm_size_of-And, norm_size_of-Or, norm_size_of-All}
 use Rattle.rule_steps.proofs.ClauseSorts.{view_fits}
-use Rattle.clause_rules.proofs.ListPlaces.{nothing_there, mapped, more_parts}
+use Rattle.clause_rules.proofs.ListPlaces.{nothing_there, mapped, more_parts, reverse_cons}
 use Rattle.substitution_search.proofs.Openings.{no_pick, no_each, no_under, IsLeafLayer, and_no_lit, or_no_lit, all_no_lit, atom_leaf, eq_leaf, not_leaf, imp_leaf, iff_leaf, ex_leaf}
 use Rattle.substitution_search.proofs.PathCases.{path_cases, reached-Leaf, reached-Pick, reached-Each, reached-Under}
-use Rattle.substitution_search.proofs.Placed.{reverse_cons}
 
 abbrev pub Both : (Form → Clause → Type 0) → List Form → List Clause → Type 0
 Both P [] [] = Unit {0}

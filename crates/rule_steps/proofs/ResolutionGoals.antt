@@ -5,7 +5,7 @@ use Rattle.std.proofs.lemmas.List.{map-append}
 use Rattle.clause_form.specs.declared.clause.Lit.{Lit}
 use Rattle.unify_terms.specs.declared.goal.Goal.{Goal, All, Any, Same}
 use Rattle.rule_steps.specs.code.ResolutionSearch.{resolution_needs}
-use Rattle.substitution_search.specs.Ways.{lit_ways, cover_ways, cover_needs, goal_of_need, goal_of_needs}
+use Rattle.clause_rules.specs.Ways.{lit_ways, cover_ways, cover_needs, goal_of_need, goal_of_needs}
 use Rattle.substitution_search.proofs.CoveredGoals.{covered_goals}
 
 pub goal_is : (line left right : List Lit) (pivot opposite : Lit) (ways : List Goal) (targets others : List Lit) (first second one two three : List Goal) → ways ≡ map Same (lit_ways (not pivot.positive) pivot.atom opposite) → one ≡ Any ways ∷ []

@@ -23,12 +23,12 @@ use Rattle.clause_rules.specs.Settled.{IsFit, Settles}
 use Rattle.substitution_search.specs.Settled.{IsSolution}
 use Rattle.clause_rules.specs.Steps.{scope_of_both, apart_from, instances, IsJoint}
 use Rattle.substitution_search.proofs.WaysFacts.{MeetsNeeds}
-use Rattle.substitution_search.specs.Ways.{cover_needs}
+use Rattle.clause_rules.specs.Ways.{cover_needs}
 use Rattle.clause_rules.proofs.Firsts.{one_at}
 use Rattle.clause_rules.proofs.JointImages.{sorted_further, sorted_apart, made, made_joint, parents_images}
 use Rattle.clause_rules.proofs.LitImages.{images_apart}
 use Rattle.substitution_search.proofs.Meeting.{solved_needs, unsolved_needs}
-use Rattle.substitution_search.proofs.NeedSorts.{NeedsFit, sorted_fits, lit_fits, all_cover_fits, more_fit, goal_fits}
+use Rattle.clause_rules.proofs.NeedSorts.{NeedsFit, sorted_fits, lit_fits, all_cover_fits, more_fit, goal_fits}
 use Rattle.rule_steps.proofs.Resolving.{resolvent_forth, resolvent_back}
 use Rattle.rule_steps.proofs.Settling.{wanted_of_held, held_by_made}
 

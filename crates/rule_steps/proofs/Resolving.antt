@@ -11,7 +11,7 @@ use Rattle.clause_rules.specs.ResolutionRule.{IsResolvent}
 use Rattle.rule_steps.specs.code.ResolutionSearch.{resolution_needs}
 use Rattle.clause_rules.specs.Steps.{AreCovered}
 use Rattle.substitution_search.proofs.WaysFacts.{MeetsNeeds}
-use Rattle.substitution_search.specs.Ways.{cover_needs}
+use Rattle.clause_rules.specs.Ways.{cover_needs}
 use Rattle.substitution_search.proofs.Covering.{lit_forth, lit_back, covers_forth, covers_back, needs_parts, needs_both}
 use Rattle.clause_rules.proofs.Firsts.{one_at}
 

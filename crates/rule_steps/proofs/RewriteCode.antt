@@ -40,19 +40,20 @@ use Rattle.substitution_search.specs.Screens.{NeverEqual}
 use Rattle.clause_rules.specs.Settled.{IsFit, Settles}
 use Rattle.substitution_search.specs.Settled.{IsSolution}
 use Rattle.clause_rules.specs.Steps.{AreCovered, equation, instances, clauses_of, scope_of_both}
-use Rattle.substitution_search.specs.Ways.{cover_needs, goal_of_needs}
+use Rattle.clause_rules.specs.Ways.{cover_needs, goal_of_needs}
 use Rattle.substitution_search.proofs.Covering.{covers_forth, covers_back}
 use Rattle.clause_rules.proofs.Equations.{equation_image, same_sides}
-use Rattle.rule_steps.proofs.Factoring.{get_of_map, no_lits}
+use Rattle.rule_steps.proofs.Factoring.{no_lits}
 use Rattle.clause_rules.proofs.Firsts.{one_at, ok_map}
 use Rattle.clause_rules.proofs.JointImages.{sorted_further}
 use Rattle.clause_rules.proofs.LitImages.{image_itself}
 use Rattle.clause_rules.proofs.Moving.{reach_of}
-use Rattle.substitution_search.proofs.NeedSorts.{all_cover_fits, goal_fits}
+use Rattle.clause_rules.proofs.NeedSorts.{all_cover_fits, goal_fits}
 use Rattle.rule_steps.proofs.ParamodulationEnds.{site_listed, reading_listed}
 use Rattle.rule_steps.proofs.ResolvedAt.{parents_fit}
 use Rattle.rule_steps.proofs.Settling.{settled_by, settles_like}
 use Rattle.substitution_search.proofs.Uncovered.{itself}
+use Rattle.clause_rules.proofs.ListPlaces.{get_of_map}
 
 pub reaches_over : (v : Vocabulary) (into by : Clause) (lits : List Lit) (n : ℕ) → length into.sorts ≤ 1000000000 → length by.sorts ≤ 1000000000 → n ≤ 1000000000 → AreSorted v (scope_of_both into by) lits → Each (λ (l : Lit). atom_reach n l.atom < 2 ^ 32) lits
 reaches_over v into by lits n a b c sorted =

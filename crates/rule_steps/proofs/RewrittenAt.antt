@@ -25,15 +25,15 @@ use Rattle.clause_rules.specs.RewriteRule.{AreLitsRewritten, Rewrites, StandsIn}
 use Rattle.rule_steps.specs.code.RewriteSearch.{IsRewriting, SettlesRewriting}
 use Rattle.clause_rules.specs.Settled.{IsFit, Settles}
 use Rattle.clause_rules.specs.Steps.{equation, images_of_parents, IsJoint}
-use Rattle.substitution_search.specs.Ways.{pair_of}
+use Rattle.clause_rules.specs.Ways.{pair_of}
 use Rattle.clause_rules.proofs.Equations.{equation_parts, same_sides}
 use Rattle.rule_steps.proofs.Factoring.{equation_fits}
 use Rattle.clause_rules.proofs.JointImages.{made, made_joint, made_agrees, parents_images, sorted_further}
 use Rattle.clause_rules.proofs.LitImages.{imaging, instance_is, image_itself}
 use Rattle.rule_steps.proofs.Named.{named_image}
-use Rattle.substitution_search.proofs.NeedSorts.{Found, sorted_fits}
+use Rattle.clause_rules.proofs.NeedSorts.{Found, sorted_fits}
 use Rattle.rule_steps.proofs.ParamodulatedAt.{sorted_at, equation_sort}
-use Rattle.rule_steps.proofs.PlaceSorts.{term_found}
+use Rattle.clause_rules.proofs.PlaceSorts.{term_found}
 use Rattle.rule_steps.proofs.RewrittenTerms.{lits_kept, lits_same}
 
 only : {X : Type 0} (xs : List X) → length xs ≡ 1 → (x : X) × (xs ≡ x ∷ [])

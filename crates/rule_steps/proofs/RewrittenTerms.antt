@@ -15,7 +15,7 @@ use Rattle.clause_form.specs.declared.clause.AtomOf.TheVariants.{Pred, Eq, True,
 use Rattle.clause_form.specs.declared.clause.Lit.{Lit}
 use Rattle.clause_form.specs.Covers.{at_terms, in_lit, is_sorted_atom}
 use Rattle.clause_rules.specs.RewriteRule.{IsRewritten, AreRewritten, IsAtomRewritten, AreLitsRewritten, all_of_it, a_variable, inside}
-use Rattle.substitution_search.proofs.NeedSorts.{Found, Fits, sorted_fits}
+use Rattle.clause_rules.proofs.NeedSorts.{Found, Fits, sorted_fits}
 use Rattle.clause_rules.proofs.Rewritten.{none_of, first_of}
 use Rattle.fof_terms.specs.declared.term.Term.TheOpen as term
 

@@ -17,7 +17,7 @@ use Rattle.clause_rules.specs.Settled.{Settles}
 use Rattle.substitution_search.specs.Settled.{IsSolution}
 use Rattle.clause_rules.specs.Steps.{images_of_parents, instances, IsJoint}
 use Rattle.substitution_search.proofs.WaysFacts.{MeetsNeeds}
-use Rattle.substitution_search.specs.Ways.{goal_of_needs}
+use Rattle.clause_rules.specs.Ways.{goal_of_needs}
 use Rattle.clause_rules.proofs.JointImages.{made, made_joint, made_agrees, line_stays, parents_stay, parents_images}
 use Rattle.substitution_search.proofs.Meeting.{solved_needs, unsolved_needs}
 

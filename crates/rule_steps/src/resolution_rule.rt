@@ -7,7 +7,7 @@ ghost use Rattle.rule_steps.specs.code.ResolutionSearch.{FoundPivot, FoundWith, 
 ghost use Rattle.clause_rules.specs.Settled.{IsFit, Settles};
 ghost use Rattle.rule_steps.specs.code.SlotFits.{IsSlotFit, AllFit};
 ghost use Rattle.clause_rules.specs.Steps.{scope_of_both, AreReady, IsReady};
-ghost use Rattle.substitution_search.specs.Ways.{goal_of_needs};
+ghost use Rattle.clause_rules.specs.Ways.{goal_of_needs};
 
 use clause_form::{Clause, Lit, Parent, as_clause};
 use clause_rules::{Joint, Just, join, with_one};

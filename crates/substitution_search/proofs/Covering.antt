@@ -15,7 +15,7 @@ use Rattle.unify_terms.specs.Unifiers.{Unifies}
 use Rattle.unify_terms.specs.Substitution.{image_at, instance}
 use Rattle.clause_rules.specs.Steps.{AreCovered}
 use Rattle.substitution_search.specs.code.Ways.{HasWay}
-use Rattle.substitution_search.specs.Ways.{zip_pairs, atom_ways, signed_ways, lit_ways, absurd_ways, cover_ways, cover_needs}
+use Rattle.clause_rules.specs.Ways.{zip_pairs, atom_ways, signed_ways, lit_ways, absurd_ways, cover_ways, cover_needs}
 use Rattle.substitution_search.proofs.WaysFacts.{MeetsNeeds}
 use Rattle.clause_rules.proofs.LitImages.{instance_is}
 

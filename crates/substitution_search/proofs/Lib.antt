@@ -4,7 +4,6 @@ pub mod Covering
 pub mod Meeting
 pub mod Names
 pub mod Narrowing
-pub mod NeedSorts
 pub mod Opened
 pub mod Openings
 pub mod PathCases
@@ -17,4 +16,3 @@ pub mod Unmet
 pub mod Unreached
 pub mod WayRules
 pub mod WaysFacts
-pub mod Zips

@@ -13,7 +13,7 @@ use Rattle.unify_terms.specs.Goals.{Ways, with_pairs, and_then, each_of, chosen_
 use Rattle.unify_terms.proofs.GoalsFacts.{asked-All, asked-Any, asked-Same}
 use Rattle.unify_terms.specs.Substitution.{IsSubstitution}
 use Rattle.substitution_search.specs.code.Ways.{HasWay}
-use Rattle.substitution_search.specs.Ways.{goal_of_need, goal_of_needs}
+use Rattle.clause_rules.specs.Ways.{goal_of_need, goal_of_needs}
 use Rattle.substitution_search.proofs.WaysFacts.{MeetsNeeds}
 
 pub unifies_both : (images : List Term) (ps qs : List Pair) → Unifies images ps → Unifies images qs → Unifies images (ps ++ qs)

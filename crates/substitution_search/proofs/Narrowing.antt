@@ -19,10 +19,10 @@ use Rattle.substitution_search.specs.code.Narrow.{Narrows, NarrowEach, IsNarrow,
 use Rattle.substitution_search.specs.Screens.{NeverTogether}
 use Rattle.substitution_search.specs.Settled.{IsGuessed, IsSolution}
 use Rattle.substitution_search.proofs.WaysFacts.{MeetsNeeds}
-use Rattle.substitution_search.specs.Ways.{goal_of_need, goal_of_needs, lit_ways, absurd_ways, cover_ways, cover_needs}
+use Rattle.clause_rules.specs.Ways.{goal_of_need, goal_of_needs, lit_ways, absurd_ways, cover_ways, cover_needs}
 use Rattle.substitution_search.proofs.Covering.{covers_forth, has_first, targets_back}
 use Rattle.substitution_search.proofs.Meeting.{meets_each, met_each, solved_needs}
-use Rattle.substitution_search.proofs.NeedSorts.{NeedFits, NeedsFit, goal_fits, needs_sorted}
+use Rattle.clause_rules.proofs.NeedSorts.{NeedFits, NeedsFit, goal_fits, needs_sorted}
 use Rattle.substitution_search.proofs.CoveredGoals.{covered_goals}
 
 module _ (v : Vocabulary) (scope : List ℕ) where

@@ -112,7 +112,3 @@ module _ (v : Vocabulary) (target : List ℕ) where
 
 pub reverse_snoc : {X : Type 0} (xs : List X) (x : X) → reverse (xs ++ x ∷ []) ≡ x ∷ reverse xs
 reverse_snoc xs x = reverse-append xs (x ∷ [])
-
--- the first of a list is the last of its reversal
-pub reverse_cons : {X : Type 0} (x : X) (xs : List X) → reverse (x ∷ xs) ≡ reverse xs ++ x ∷ []
-reverse_cons x xs = reverse-append (x ∷ []) xs

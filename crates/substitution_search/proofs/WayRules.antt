@@ -5,7 +5,7 @@ use Rattle.std.proofs.lemmas.List.Concat.{flat_map-cons}
 use Rattle.clause_form.specs.declared.clause.Lit.{Lit}
 use Rattle.unify_terms.specs.declared.pair.Pair.{Pair}
 use Rattle.unify_terms.specs.declared.goal.Goal.{Goal, Same}
-use Rattle.substitution_search.specs.Ways.{signed_ways}
+use Rattle.clause_rules.specs.Ways.{signed_ways}
 
 pub signed_same : (g h : Bool) (ways : List (List Pair)) → g ≡ h → signed_ways g h ways ≡ ways
 signed_same true true ways e = refl

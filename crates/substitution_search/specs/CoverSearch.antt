@@ -11,7 +11,7 @@ use Rattle.clause_form.specs.Covers.{lit_image}
 use Rattle.clause_form.specs.ClauseView.{View, no_view, view_step}
 use Rattle.clause_form.specs.Paths.{plain}
 use Rattle.unify_terms.specs.declared.goal.Goal.{Goal, All as Every, Any}
-use Rattle.substitution_search.specs.Ways.{cover_ways, goal_of_need}
+use Rattle.clause_rules.specs.Ways.{cover_ways, goal_of_need}
 use Rattle.fof_terms.specs.declared.form.Form.TheOpen as form
 
 -- how far the taking of a path has come: the choices to come, and the sorts and the literals of what was reached

@@ -2,5 +2,4 @@ pub mod CoverSearch
 pub mod Screens
 pub mod Settled
 pub mod Taken
-pub mod Ways
 pub mod code

@@ -2,7 +2,7 @@
 //! what meets them meets those.
 ghost use Rattle.std.specs.Prelude.{IfOk, IfSome};
 ghost use Rattle.substitution_search.specs.code.Narrow.{AreNarrow, IsNarrow};
-ghost use Rattle.substitution_search.specs.Ways.{cover_needs, cover_ways};
+ghost use Rattle.clause_rules.specs.Ways.{cover_needs, cover_ways};
 
 use crate::guess::{Guess, first_target, no_guess};
 use crate::ways::ways_to;

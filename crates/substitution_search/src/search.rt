@@ -4,7 +4,7 @@ ghost use Rattle.unify_terms.specs.Goals.{SolvesGoal, goal_sorted};
 ghost use Rattle.unify_terms.specs.declared.goal.Goal.{All};
 ghost use Rattle.substitution_search.specs.Settled.{IsGuessed, IsSolution};
 ghost use Rattle.clause_rules.specs.Steps.{clauses_of};
-ghost use Rattle.substitution_search.specs.Ways.{cover_needs, goal_of_need, goal_of_needs, pair_of};
+ghost use Rattle.clause_rules.specs.Ways.{cover_needs, goal_of_need, goal_of_needs, pair_of};
 
 use crate::chances::may_be_met;
 use crate::narrow::all_narrowed;

@@ -3,7 +3,7 @@
 ghost use Rattle.std.specs.Prelude.{◌≡◌, ◌++◌, ◌∷◌, [], length, map, IfOk};
 ghost use Rattle.clause_form.specs.declared.clause.AtomOf.TheVariants.{Pred, Eq as Equation};
 ghost use Rattle.unify_terms.specs.declared.goal.Goal.{Same};
-ghost use Rattle.substitution_search.specs.Ways.{zip_pairs, atom_ways, lit_ways, absurd_ways, cover_ways, goal_of_need};
+ghost use Rattle.clause_rules.specs.Ways.{zip_pairs, atom_ways, lit_ways, absurd_ways, cover_ways, goal_of_need};
 
 use clause_form::{AtomOf, Lit};
 use fof_terms::{SymId, Term};

@@ -17,8 +17,8 @@ use Rattle.clause_form.specs.Covers.{scope_of, AreSorted, IsInstance}
 use Rattle.clause_form.proofs.ClauseLaws.{instance_then, lits_agree, lits_sorted}
 use Rattle.clause_rules.specs.Steps.{instances}
 use Rattle.clause_rules.proofs.LitImages.{lits_twice}
-use Rattle.substitution_search.specs.Ways.{zip_pairs}
-use Rattle.substitution_search.proofs.NeedSorts.{Found}
+use Rattle.clause_rules.specs.Ways.{zip_pairs}
+use Rattle.clause_rules.proofs.NeedSorts.{Found}
 use Rattle.unify_terms.specs.Substitution.{image_at}
 use Rattle.unify_terms.specs.Unifiers.{Unified}
 use Rattle.superpose.specs.declared.made.Made.{Made}

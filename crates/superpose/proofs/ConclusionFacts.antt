@@ -18,14 +18,13 @@ use Rattle.clause_form.specs.Covers.{scope_of, AreSorted}
 use Rattle.clause_form.proofs.ClauseLaws.{lits_agree}
 use Rattle.clause_rules.specs.Steps.{instances}
 use Rattle.clause_rules.proofs.LitImages.{lits_twice}
-use Rattle.rule_steps.proofs.Factoring.{get_of_map}
-use Rattle.substitution_search.proofs.Placed.{reverse_cons}
 use Rattle.unify_terms.specs.Substitution.{image_at}
 use Rattle.superpose.specs.declared.made.Made.{Made}
 use Rattle.superpose.specs.Drafts.{SortsExist}
 use Rattle.superpose.specs.code.Conclusions.{IsConclusion}
 use Rattle.superpose.specs.code.Named.{AreNamed, sorts_at}
 use Rattle.superpose.specs.code.Noted.{IsFixed, IsNoted, LitInstancesStay}
+use Rattle.clause_rules.proofs.ListPlaces.{get_of_map, reverse_cons}
 
 pub get_map : {X Y : Type 0} (f : X → Y) (xs : List X) (i : ℕ) (x : X) → slice_get xs i ≡ Some x → slice_get (map f xs) i ≡ Some (f x)
 get_map f [] i x e = cc

@@ -12,7 +12,7 @@ use Rattle.clause_rules.specs.Steps.{equation, unequal}
 use Rattle.clause_rules.proofs.Firsts.{one_at}
 use Rattle.clause_order.specs.Weights.{as_term}
 use Rattle.clause_order.specs.Eligible.{IsEligible}
-use Rattle.substitution_search.specs.Ways.{zip_pairs}
+use Rattle.clause_rules.specs.Ways.{zip_pairs}
 use Rattle.unify_terms.specs.declared.pair.Pair.{Pair}
 use Rattle.unify_terms.specs.declared.scope.Scope.{Scope}
 use Rattle.unify_terms.specs.Unifiers.{Unified, AreSorted}

@@ -16,7 +16,7 @@ use Rattle.clause_form.specs.Covers.{is_sorted_atom, scope_of, AreSorted}
 use Rattle.clause_rules.specs.Places.{lit_term_at, lit_put_at}
 use Rattle.clause_rules.specs.Steps.{scope_of_both, apart_from, equation, unequal}
 use Rattle.clause_rules.proofs.JointImages.{sorted_further, sorted_apart}
-use Rattle.rule_steps.proofs.PlaceSorts.{replaced_fits, term_found}
+use Rattle.clause_rules.proofs.PlaceSorts.{replaced_fits, term_found}
 use Rattle.superpose.specs.Drafts.{Draft}
 use Rattle.superpose.specs.Inferences.{ResolvesAt, SuperposesAt, FactorsAt, ResolvesEquationAt, FactorsEquationsAt, IsDraftOfOne, IsDraftOfTwo}
 

@@ -13,7 +13,7 @@ use Rattle.clause_form.proofs.ImagesFacts.{image-App}
 use Rattle.clause_rules.specs.Places.{args_of_atom, args_of}
 use Rattle.clause_rules.proofs.PlaceLaws.{args_of-App}
 use Rattle.clause_order.specs.Weights.{as_term}
-use Rattle.substitution_search.proofs.NeedSorts.{Found, sorted_fits}
+use Rattle.clause_rules.proofs.NeedSorts.{Found, sorted_fits}
 use Rattle.unify_terms.specs.declared.pair.Pair.{Pair}
 use Rattle.superpose.specs.Drafts.{Draft}
 use Rattle.superpose.specs.code.Pairs.{ArePairsOf, IsPairing}

@@ -7,8 +7,8 @@ use Rattle.fof_terms.specs.Vocabulary.{Vocabulary}
 use Rattle.clause_form.specs.declared.clause.Lit.{Lit}
 use Rattle.clause_form.specs.Images.{image, IsImages}
 use Rattle.clause_form.specs.Covers.{AreSorted}
-use Rattle.substitution_search.specs.Ways.{zip_pairs}
-use Rattle.substitution_search.proofs.NeedSorts.{Found}
+use Rattle.clause_rules.specs.Ways.{zip_pairs}
+use Rattle.clause_rules.proofs.NeedSorts.{Found}
 use Rattle.unify_terms.specs.declared.pair.Pair.{Pair}
 use Rattle.unify_terms.specs.declared.scope.Scope.{Scope}
 use Rattle.unify_terms.specs.Substitution.{image_at}

@@ -23,8 +23,8 @@ use Rattle.clause_rules.proofs.Firsts.{one_at}
 use Rattle.clause_rules.proofs.PlaceLaws.{args_of-Var, args_of-App}
 use Rattle.clause_order.specs.Order.{IsGreater}
 use Rattle.clause_order.specs.Eligible.{IsEligible}
-use Rattle.rule_steps.proofs.PlaceSorts.{term_found}
-use Rattle.substitution_search.specs.Ways.{zip_pairs}
+use Rattle.clause_rules.proofs.PlaceSorts.{term_found}
+use Rattle.clause_rules.specs.Ways.{zip_pairs}
 use Rattle.unify_terms.specs.declared.pair.Pair.{Pair}
 use Rattle.unify_terms.specs.declared.scope.Scope.{Scope}
 use Rattle.unify_terms.specs.Unifiers.{Unified, AreSorted}

@@ -10,8 +10,8 @@ use Rattle.clause_form.specs.Images.{image, IsImages}
 use Rattle.clause_form.proofs.ImagesFacts.{AgreeOn, agree_found, image_agrees}
 use Rattle.clause_rules.proofs.JointImages.{listed, listed_length, listed_at}
 use Rattle.clause_rules.proofs.LitImages.{instance_is, instances_are}
-use Rattle.substitution_search.specs.Ways.{zip_pairs}
-use Rattle.substitution_search.proofs.NeedSorts.{Found}
+use Rattle.clause_rules.specs.Ways.{zip_pairs}
+use Rattle.clause_rules.proofs.NeedSorts.{Found}
 use Rattle.unify_terms.specs.Substitution.{image_at, instance, IsSubstitution}
 use Rattle.unify_terms.specs.Unifiers.{Unifies, AreSorted, Unified}
 use Rattle.superpose.specs.Drafts.{Draft}

@@ -1,6 +1,6 @@
 //! The pairs of terms that two atoms, or two terms, ask to be made equal.
 ghost use Rattle.std.specs.Prelude.{◌≡◌, ◌∷◌, [], length, IfOk};
-ghost use Rattle.substitution_search.specs.Ways.{zip_pairs};
+ghost use Rattle.clause_rules.specs.Ways.{zip_pairs};
 ghost use Rattle.superpose.specs.code.Pairs.{ArePairsOf};
 
 use clause_form::{AtomOf, Lit};

@@ -13,7 +13,7 @@ use Rattle.clause_rules.specs.declared.just.Just.TheVariants.{Resolution}
 use Rattle.rule_steps.specs.declared.resolution_rule.Found.{Found}
 use Rattle.clause_rules.specs.Steps.{scope_of_both, instances, IsJoint, images_of_parents}
 use Rattle.clause_rules.specs.ResolutionRule.{IsResolvent, ResolvesTo}
-use Rattle.substitution_search.specs.Ways.{lit_ways, cover_needs, goal_of_needs}
+use Rattle.clause_rules.specs.Ways.{lit_ways, cover_needs, goal_of_needs}
 
 -- what is asked of a substitution: the pivot becomes complementary to the opposite, and each literal is covered
 abbrev pub resolution_needs : List Lit → List Lit → List Lit → Lit → Lit → List (List (List Pair))

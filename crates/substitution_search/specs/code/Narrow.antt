@@ -7,7 +7,7 @@ use Rattle.unify_terms.specs.declared.pair.Pair.{Pair}
 use Rattle.unify_terms.specs.declared.goal.Goal.{Goal}
 use Rattle.unify_terms.specs.Goals.{pair_sorted}
 use Rattle.substitution_search.specs.code.Ways.{HasWay}
-use Rattle.substitution_search.specs.Ways.{goal_of_need}
+use Rattle.clause_rules.specs.Ways.{goal_of_need}
 
 -- what meets the need meets the whole one, and it is well-sorted where that is
 pub record Narrows (whole need : List (List Pair)) : Type 0 where

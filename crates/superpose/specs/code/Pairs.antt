@@ -10,7 +10,7 @@ use Rattle.clause_rules.specs.Places.{args_of_atom}
 use Rattle.clause_rules.specs.Steps.{equation, unequal}
 use Rattle.superpose.specs.declared.sides.Sides.{Sides}
 use Rattle.unify_terms.specs.declared.pair.Pair.{Pair}
-use Rattle.substitution_search.specs.Ways.{zip_pairs}
+use Rattle.clause_rules.specs.Ways.{zip_pairs}
 
 -- the pairs of the arguments, under which the atoms have equal instances
 pub record IsPairing (a b : AtomOf) (pairs : List Pair) : Type 0 where

@@ -1,6 +1,6 @@
 use Rattle.std.proofs.Common.{◌∙◌, ◌∷◌, [], ap, slice_set, Some}
 use Rattle.clause_rules.specs.Steps.{unequal}
-use Rattle.substitution_search.specs.Ways.{pair_of}
+use Rattle.clause_rules.specs.Ways.{pair_of}
 use Rattle.clause_rules.proofs.Firsts.{ok_map}
 use Rattle.rule_steps.proofs.Factoring.{lent_at, factor_sorted, factor_settled, no_first, no_second}
 use Rattle.substitution_search.proofs.Narrowing.{beside_as}

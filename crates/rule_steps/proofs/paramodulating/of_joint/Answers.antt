@@ -1,6 +1,6 @@
 use Rattle.std.proofs.Common.{◌∙◌, ◌∷◌, ◌++◌, [], remove, slice_set, Some, None}
 use Rattle.clause_rules.specs.Places.{lit_put_at}
-use Rattle.substitution_search.specs.Ways.{pair_of}
+use Rattle.clause_rules.specs.Ways.{pair_of}
 use Rattle.clause_rules.proofs.Firsts.{ok_map, untrue, holds}
 use Rattle.substitution_search.proofs.Narrowing.{beside_as}
 use Rattle.rule_steps.proofs.ParamodulatedAt.{sorts_meet, paramodulation_sorted, paramodulation_settled}

@@ -3,7 +3,7 @@ use Rattle.unify_terms.specs.Substitution.{instance}
 use Rattle.unify_terms.specs.Unifiers.{AreSorted as ArePairsSorted}
 use Rattle.rule_steps.specs.code.RewriteSearch.{SettlesRewriting}
 use Rattle.clause_rules.specs.Steps.{scope_of_both}
-use Rattle.substitution_search.specs.Ways.{pair_of}
+use Rattle.clause_rules.specs.Ways.{pair_of}
 use Rattle.clause_rules.proofs.Firsts.{ok_map}
 use Rattle.rule_steps.proofs.ParamodulationCode.{equation_as}
 use Rattle.rule_steps.proofs.RewriteCode.{unified_as, replaced_as, no_match_equation}

@@ -1,6 +1,6 @@
 use Rattle.std.proofs.Common.{take}
 use Rattle.substitution_search.specs.code.Narrow.{AreNarrow}
-use Rattle.substitution_search.specs.Ways.{cover_needs}
+use Rattle.clause_rules.specs.Ways.{cover_needs}
 use Rattle.substitution_search.proofs.narrow.all_narrowed.Given as goal
 
 abbrev pub invariant-loop-lit : goal.invariant-loop-lit

@@ -1,6 +1,6 @@
 use Rattle.std.proofs.Common.{ap}
 use Rattle.unify_terms.specs.declared.goal.Goal.{Any}
-use Rattle.substitution_search.specs.Ways.{lit_ways}
+use Rattle.clause_rules.specs.Ways.{lit_ways}
 use Rattle.clause_rules.proofs.Firsts.{there_at}
 use Rattle.substitution_search.proofs.Narrowing.{one_target}
 use Rattle.substitution_search.proofs.narrow.narrowed.Goals as goal

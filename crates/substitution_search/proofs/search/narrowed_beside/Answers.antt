@@ -1,7 +1,7 @@
 use Rattle.std.proofs.Common.{ap, subst, ◌∷◌, [], ◌∙◌}
 use Rattle.unify_terms.specs.Goals.{goal_sorted}
 use Rattle.substitution_search.specs.Settled.{IsSolution}
-use Rattle.substitution_search.specs.Ways.{cover_needs, goal_of_need, pair_of}
+use Rattle.clause_rules.specs.Ways.{cover_needs, goal_of_need, pair_of}
 use Rattle.clause_rules.proofs.Firsts.{ok_map}
 use Rattle.substitution_search.proofs.Narrowing.{narrow_beside, narrow_sorted, narrow_solved}
 use Rattle.substitution_search.proofs.search.narrowed_beside.Goals as goal

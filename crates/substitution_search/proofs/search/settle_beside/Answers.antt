@@ -1,7 +1,7 @@
 use Rattle.std.proofs.Common.{ap, subst, ◌∷◌, [], ◌∙◌}
 use Rattle.unify_terms.specs.Goals.{goal_sorted}
 use Rattle.substitution_search.specs.Settled.{IsSolution}
-use Rattle.substitution_search.specs.Ways.{pair_of}
+use Rattle.clause_rules.specs.Ways.{pair_of}
 use Rattle.clause_rules.proofs.Firsts.{ok_map}
 use Rattle.substitution_search.proofs.Narrowing.{beside_asked, none_beside}
 use Rattle.substitution_search.proofs.search.settle_beside.Goals as goal

@@ -1,4 +1,4 @@
-use Rattle.substitution_search.specs.Ways.{cover_needs}
+use Rattle.clause_rules.specs.Ways.{cover_needs}
 use Rattle.clause_rules.proofs.Firsts.{ok_map}
 use Rattle.substitution_search.proofs.Narrowing.{narrow_sorted, narrow_solved}
 use Rattle.substitution_search.proofs.search.settle_narrowed.Goals as goal

@@ -1,5 +1,5 @@
 use Rattle.std.proofs.Common.{◌≡◌, take, map}
-use Rattle.substitution_search.specs.Ways.{goal_of_need, cover_ways}
+use Rattle.clause_rules.specs.Ways.{goal_of_need, cover_ways}
 use Rattle.substitution_search.proofs.ways.all_covered.Given as goal
 
 abbrev pub invariant-loop-lit : goal.invariant-loop-lit

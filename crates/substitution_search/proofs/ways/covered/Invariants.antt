@@ -1,6 +1,6 @@
 use Rattle.std.proofs.Common.{◌≡◌, take, map, flat_map}
 use Rattle.unify_terms.specs.declared.goal.Goal.{Same}
-use Rattle.substitution_search.specs.Ways.{lit_ways}
+use Rattle.clause_rules.specs.Ways.{lit_ways}
 use Rattle.substitution_search.proofs.ways.covered.Given as goal
 
 abbrev pub invariant-loop-target : goal.invariant-loop-target

@@ -1,4 +1,4 @@
-use Rattle.substitution_search.proofs.Zips.{zip_grows}
+use Rattle.clause_rules.proofs.Zips.{zip_grows}
 use Rattle.substitution_search.proofs.ways.pairs_of.Goals as goal
 
 pub loop-at-preserved : goal.loop-at-preserved

@@ -1,6 +1,6 @@
 use Rattle.std.proofs.Common.{ap, ◌∙◌}
-use Rattle.substitution_search.specs.Ways.{pair_of}
-use Rattle.substitution_search.proofs.Zips.{zip_grows}
+use Rattle.clause_rules.specs.Ways.{pair_of}
+use Rattle.clause_rules.proofs.Zips.{zip_grows}
 use Rattle.superpose.proofs.pairing.pairs_of.Goals as goal
 
 pub loop-at-preserved : goal.loop-at-preserved

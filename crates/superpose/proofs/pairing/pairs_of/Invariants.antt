@@ -1,5 +1,5 @@
 use Rattle.std.proofs.Common.{◌≡◌, take}
-use Rattle.substitution_search.specs.Ways.{zip_pairs}
+use Rattle.clause_rules.specs.Ways.{zip_pairs}
 use Rattle.superpose.proofs.pairing.pairs_of.Given as goal
 
 abbrev pub invariant-loop-at : goal.invariant-loop-at

@@ -3,7 +3,7 @@ use Rattle.std.specs.Prelude.{ℕ, ◌+◌, ◌<◌, ◌≡◌, List, [], ◌∷
 use Rattle.std.proofs.Common.{ap, arith, get_or, zero, suc, add-one, sym, ◌∙◌}
 use Rattle.fof_terms.specs.declared.term.Term.{Term}
 use Rattle.unify_terms.specs.declared.pair.Pair.{Pair}
-use Rattle.substitution_search.specs.Ways.{pair_of, zip_pairs}
+use Rattle.clause_rules.specs.Ways.{pair_of, zip_pairs}
 
 zip_more : (ts us : List Term) (i : ℕ) (d e : Term) → i < length ts → i < length us → zip_pairs (take (suc i) ts) (take (suc i) us) ≡ zip_pairs (take i ts) (take i us) ++ pair_of (get_or ts i d) (get_or us i e) ∷ []
 zip_more [] us i d e h g = absurd (omega arith)

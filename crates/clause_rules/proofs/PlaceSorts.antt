@@ -4,7 +4,7 @@ use Rattle.std.specs.List.{AllByRecursion}
 use Rattle.std.proofs.Common.{ap, sym, subst, ◌∙◌, zero, suc}
 use Rattle.fof_terms.proofs.LiftingLaws.{applied_found}
 use Rattle.fof_terms.proofs.Scoped.{member_of}
-use Rattle.substitution_search.proofs.NeedSorts.{Fits, Found, sorted_fits}
+use Rattle.clause_rules.proofs.NeedSorts.{Fits, Found, sorted_fits}
 use Rattle.fof_terms.specs.Vocabulary.{Vocabulary}
 use Rattle.fof_terms.specs.declared.term.Term.{Term, App}
 use Rattle.fof_terms.specs.Sorts.{applied, sort_of_term, one_sort, holds_of}

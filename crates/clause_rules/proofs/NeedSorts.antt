@@ -17,7 +17,7 @@ use Rattle.unify_terms.specs.declared.pair.Pair.{Pair}
 use Rattle.unify_terms.specs.declared.goal.Goal.{Same}
 use Rattle.unify_terms.specs.Goals.{pair_sorted, goal_sorted}
 use Rattle.unify_terms.proofs.GoalsFacts.{goal_sorted-All, goal_sorted-Any, goal_sorted-Same}
-use Rattle.substitution_search.specs.Ways.{pair_of, zip_pairs, atom_ways, signed_ways, lit_ways, absurd_ways, cover_ways, cover_needs, goal_of_need, goal_of_needs}
+use Rattle.clause_rules.specs.Ways.{pair_of, zip_pairs, atom_ways, signed_ways, lit_ways, absurd_ways, cover_ways, cover_needs, goal_of_need, goal_of_needs}
 
 module _ (v : Vocabulary) (scope : List ℕ) where
   abbrev pub Found : Term → Type 0
