@@ -25,7 +25,7 @@ pub fn items_of(alloc: Global, text: &[u8]) -> Result<List<Item>, DerivationFaul
 }
 
 // The tokens of a text.
-fn tokens_of(alloc: Global, text: &[u8]) -> Result<Tokens, DerivationFault>
+fn tokens_of(alloc: Global, text: &[u8]) -> Result<Tokens<'_>, DerivationFault>
     ensures lexed { IfOk result (λ tokens. IsRegionLexed text.now (Ok tokens)) }
     ensures fault { IfErr result (λ fault. IsTextFault text.now fault) }
 {

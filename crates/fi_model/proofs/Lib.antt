@@ -6,7 +6,6 @@ pub mod IndexFacts
 pub mod Layers
 pub mod LookFacts
 pub mod Loops
-pub mod Marks
 pub mod OneModel
 pub mod Quantified
 pub mod Reading

@@ -1,7 +1,6 @@
 -- What private contracts alone say of the code. Nothing public rests on this.
 pub mod Slots
 pub mod Adding
-pub mod Marking
 pub mod Looks
 pub mod Scope
 pub mod Shapes

@@ -44,7 +44,7 @@ pub fn spelled_items(
 }
 
 // The items that the tokens of a file spell.
-fn parsed_items(alloc: Global, name: &str, tokens: &Tokens) -> Result<List<Item>, IncludeFault>
+fn parsed_items(alloc: Global, name: &str, tokens: &Tokens<'_>) -> Result<List<Item>, IncludeFault>
     ensures items { IfOk result (λ items. parser.Answers tokens.now.style tokens.now.items tokens.now.end (Ok items)) }
     ensures fault { IfErr result (λ fault. IsGrammarStop name.now tokens.now fault) }
 {

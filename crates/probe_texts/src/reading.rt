@@ -28,7 +28,7 @@ pub trait Reading {
         text: &[u8],
         region: Region,
         style: Style,
-    ) -> Result<Tokens, LexFault>
+    ) -> Result<Tokens<'_>, LexFault>
         requires { IsWithin text.now region }
         // The tokens, or the fault at its place.
         ensures answer { Answers file text.now region style result }
@@ -42,7 +42,7 @@ pub trait Reading {
             → region.end - region.start ≤ FILE_SIZE → Gives tokens result };
 
     /// The one list of items that the tokens spell.
-    fn parse(alloc: Global, tokens: &Tokens) -> Result<List<Item>, GrammarFault>
+    fn parse(alloc: Global, tokens: &Tokens<'_>) -> Result<List<Item>, GrammarFault>
         // What is read is spelled so, nested no deeper than the limit. Each fault is the first one.
         ensures answers { answers.Answers tokens.now.style tokens.now.items tokens.now.end result }
         // What is spelled within the limit is read, unless memory runs out.
@@ -63,11 +63,11 @@ impl Reading for Probe {
         text: &[u8],
         region: Region,
         style: Style,
-    ) -> Result<Tokens, LexFault> {
+    ) -> Result<Tokens<'_>, LexFault> {
         tokens(alloc, file, text, region, style)
     }
 
-    fn parse(alloc: Global, tokens: &Tokens) -> Result<List<Item>, GrammarFault> {
+    fn parse(alloc: Global, tokens: &Tokens<'_>) -> Result<List<Item>, GrammarFault> {
         parse(alloc, tokens)
     }
 }
@@ -79,7 +79,7 @@ impl Reading for Control {
         text: &[u8],
         region: Region,
         style: Style,
-    ) -> Result<Tokens, LexFault> {
+    ) -> Result<Tokens<'_>, LexFault> {
         let part = Region {
             start: region.start,
             end: region.end,
@@ -90,7 +90,7 @@ impl Reading for Control {
         }
     }
 
-    fn parse(alloc: Global, tokens: &Tokens) -> Result<List<Item>, GrammarFault> {
+    fn parse(alloc: Global, tokens: &Tokens<'_>) -> Result<List<Item>, GrammarFault> {
         match parse(alloc, tokens) {
             Ok(items) => Ok(items),
             Err(fault) => Err(fault),

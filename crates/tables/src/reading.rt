@@ -21,7 +21,7 @@ pub fn items_of(alloc: Global, text: &str) -> Result<List<Item>> {
     Ok(parse(alloc, &tokens)?)
 }
 
-fn tokens_of(alloc: Global, text: &str) -> Result<Tokens> {
+fn tokens_of(alloc: Global, text: &str) -> Result<Tokens<'_>> {
     let bytes = text.as_bytes();
     let whole = Region {
         start: 0,

@@ -1,11 +1,11 @@
 // Tokens, as tables write them.
 use crate::line::push_word;
 use std::alloc::{AllocError, Global};
-use tptp_base::{Place, Text};
+use tptp_base::Place;
 use tptp_lexer::{LexFault, Mark, Token, Tokens};
 
 /// The kind and the text of each token, or the name of its mark; or the fault, and its line and column.
-pub fn listed(alloc: Global, outcome: Result<Tokens, LexFault>) -> Result<String, AllocError> {
+pub fn listed(alloc: Global, outcome: Result<Tokens<'_>, LexFault>) -> Result<String, AllocError> {
     match outcome {
         Ok(tokens) => list(alloc, &tokens),
         Err(LexFault::Byte(place)) => fault(alloc, "byte", place),
@@ -15,10 +15,11 @@ pub fn listed(alloc: Global, outcome: Result<Tokens, LexFault>) -> Result<String
 }
 
 /// The place of each token and of the end.
-pub fn placed(alloc: Global, tokens: &Tokens) -> Result<String, AllocError> {
+pub fn placed(alloc: Global, tokens: &Tokens<'_>) -> Result<String, AllocError> {
     let mut out = String::new(alloc);
-    for item in tokens.items.as_slice() {
-        push_place(&mut out, item.1)?;
+    let mut rest = tokens.items.rest();
+    'tokens: while let Some((_, place)) = rest.next_placed() {
+        push_place(&mut out, place)?;
         out.push(' ')?;
     }
     push_place(&mut out, tokens.end)?;
@@ -40,32 +41,33 @@ fn fault(alloc: Global, name: &str, place: Place) -> Result<String, AllocError> 
     format!(in alloc; "{name} {}:{}", place.line, place.column)
 }
 
-fn list(alloc: Global, tokens: &Tokens) -> Result<String, AllocError> {
+fn list(alloc: Global, tokens: &Tokens<'_>) -> Result<String, AllocError> {
     let mut out = String::new(alloc);
-    for item in tokens.items.as_slice() {
-        push_token(&mut out, &item.0)?;
+    let mut rest = tokens.items.rest();
+    'tokens: while let Some(token) = rest.next() {
+        push_token(alloc, &mut out, &token)?;
     }
     Ok(out)
 }
 
-fn push_token(out: &mut String, token: &Token) -> Result<(), AllocError> {
+fn push_token(alloc: Global, out: &mut String, token: &Token<'_>) -> Result<(), AllocError> {
     match token {
-        Token::Lower(text) => push_text(out, "lower", text),
-        Token::Quoted(text) => push_text(out, "quoted", text),
-        Token::Upper(text) => push_text(out, "upper", text),
-        Token::Dollar(text) => push_text(out, "dollar", text),
-        Token::System(text) => push_text(out, "system", text),
-        Token::Number(text) => push_text(out, "number", text),
-        Token::Distinct(text) => push_text(out, "distinct", text),
-        Token::Comment(text) => push_text(out, "comment", text),
+        Token::Lower(text) => push_text(out, "lower", text.as_slice()),
+        Token::Quoted(text) => push_text(out, "quoted", text.to_text(alloc)?.as_slice()),
+        Token::Upper(text) => push_text(out, "upper", text.as_slice()),
+        Token::Dollar(text) => push_text(out, "dollar", text.as_slice()),
+        Token::System(text) => push_text(out, "system", text.as_slice()),
+        Token::Number(text) => push_text(out, "number", text.as_slice()),
+        Token::Distinct(text) => push_text(out, "distinct", text.to_text(alloc)?.as_slice()),
+        Token::Comment(text) => push_text(out, "comment", text.as_slice()),
         Token::Mark(mark) => push_word(out, name(*mark)),
     }
 }
 
-fn push_text(out: &mut String, kind: &str, text: &Text) -> Result<(), AllocError> {
+fn push_text(out: &mut String, kind: &str, text: &[u8]) -> Result<(), AllocError> {
     push_word(out, kind)?;
     out.push('[')?;
-    for byte in text.as_slice() {
+    for byte in text {
         out.push(char::from(*byte))?;
     }
     out.push(']')

@@ -28,7 +28,7 @@ fn counted(alloc: Global, text: &Text) -> Result<usize, LexFault>
 }
 
 /// The tokens of the text.
-pub fn cut(alloc: Global, text: &Text) -> Result<Tokens, LexFault>
+pub fn cut(alloc: Global, text: &Text) -> Result<Tokens<'_>, LexFault>
     ensures { IfOk result (λ found.
         Answers 0 text.now (record { start = 0; end = length text.now }) Problem (Ok found)) }
 {

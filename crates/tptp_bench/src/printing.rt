@@ -24,7 +24,7 @@ pub fn bytes_of(alloc: Global, text: &Text, times: u32) -> Result<usize> {
 }
 
 // How many bytes the canonical text of the items has that the tokens spell.
-fn printed(alloc: Global, tokens: &Tokens) -> Result<usize>
+fn printed(alloc: Global, tokens: &Tokens<'_>) -> Result<usize>
     ensures { IfOk result (λ count. (items : List Item) × grammar.Answers tokens.now.style tokens.now.items tokens.now.end (Ok items)
         × (count ≡ length (canonical_text items))) }
 {

@@ -23,6 +23,7 @@ pub mod AmongComments
 pub mod FirstFaults
 pub mod Nests
 pub mod Whole
+pub mod Turns
 pub mod Refusals
 pub mod Stuck
 pub mod OneAnswer

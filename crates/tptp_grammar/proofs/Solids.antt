@@ -1,7 +1,5 @@
 -- Lists without their comments.
-use Rattle.std.proofs.Common.{◌≡◌, Bool, true, false, if◌then◌else◌, ℕ, ◌+◌, ◌-◌, ◌≤◌, List, [], ◌∷◌, length, take, drop, sym, ap, subst, arith}
-use lib.ListN.{get_or}
-use Rattle.std.proofs.lemmas.List.{take_all}
+use Rattle.std.proofs.Common.{◌≡◌, Bool, true, false, if◌then◌else◌, ℕ, ◌+◌, ◌-◌, ◌≤◌, List, [], ◌∷◌, length, ◌∙◌, ap, arith}
 use Rattle.tptp_lexer.specs.declared.token.Token.{Token}
 use Rattle.tptp_grammar.specs.Solid.{Placed, is_comment, is_remark, solid}
 
@@ -14,11 +12,15 @@ solid_shorter [] = omega arith
 solid_shorter (entry ∷ rest) = shorter (is_remark entry) entry.0 (solid rest) entry rest (solid_shorter rest)
 
 -- behind a comment
-pub remark_step : (ts : List Placed) (fallback : Placed) (count total : ℕ) → 1 ≤ length ts → is_comment (get_or ts 0 fallback).0 ≡ true → count + length (solid ts) ≡ total + length ts
-    → (count - 1) + length (solid (take (length ts - 1) (drop 1 ts))) ≡ total + length (take (length ts - 1) (drop 1 ts))
-remark_step [] fallback count total some e k = absurd (omega arith)
-remark_step (entry ∷ rest) fallback count total some e k =
-    let same : solid (entry ∷ rest) ≡ solid rest = ap (λ b. if b then solid rest else entry.0 ∷ solid rest) e in
-    let all : take (length (entry ∷ rest) - 1) rest ≡ rest = take_all (length (entry ∷ rest) - 1) rest (omega arith) in
-    let counts : (count - 1) + length (solid rest) ≡ total + length rest = omega (arith, k, ap length same, solid_shorter rest) in
-    subst (λ us. (count - 1) + length (solid us) ≡ total + length us) (sym all) counts
+pub remark_dropped : (ts rest : List Placed) (entry : Placed) → ts ≡ entry ∷ rest → is_comment entry.0 ≡ true → solid ts ≡ solid rest
+remark_dropped ts rest entry is e = ap solid is ∙ ap (λ b. if b then solid rest else entry.0 ∷ solid rest) e
+
+-- behind another token
+pub token_kept : (ts rest : List Placed) (entry : Placed) → ts ≡ entry ∷ rest → is_comment entry.0 ≡ false → solid ts ≡ entry.0 ∷ solid rest
+token_kept ts rest entry is e = ap solid is ∙ ap (λ b. if b then solid rest else entry.0 ∷ solid rest) e
+
+pub remark_step : (ts rest : List Placed) (entry : Placed) (count total : ℕ) → ts ≡ entry ∷ rest → is_comment entry.0 ≡ true → count + length (solid ts) ≡ total + length ts → (count - 1) + length (solid rest) ≡ total + length rest
+remark_step ts rest entry count total is e k = omega (arith, k, ap length (remark_dropped ts rest entry is e), ap length is, solid_shorter rest)
+
+pub token_step : (ts rest : List Placed) (entry : Placed) (count total : ℕ) → ts ≡ entry ∷ rest → is_comment entry.0 ≡ false → count + length (solid ts) ≡ total + length ts → count + length (solid rest) ≡ total + length rest
+token_step ts rest entry count total is e k = omega (arith, k, ap length (token_kept ts rest entry is e), ap length is)

@@ -4,52 +4,52 @@ ghost use Rattle.std.specs.Option.{option_copied};
 ghost use Rattle.first_fault.specs.code.Reading.{next, tail, expect, sees, after_seen};
 ghost use Rattle.tptp_grammar.specs.Solid as solids;
 ghost use Rattle.tptp_grammar.specs.Solid.{solid};
-ghost use Rattle.tptp_grammar.specs.code.Solid.{BeginsSolid};
+ghost use Rattle.tptp_grammar.specs.code.Solid.{solid_from};
 ghost use Rattle.tptp_grammar.specs.code.ReadTerms as spec;
 ghost use Rattle.tptp_grammar.specs.code.Outcomes.{Reads};
 
 use crate::stop::Stop;
 use std::marker::Model;
-use tptp_base::Place;
-use tptp_lexer::{Mark, Token};
+use tptp_lexer::{Mark, Rest, Token, TokenList};
 
 /// The tokens that are left, without the comments among them.
 #[derive(Drop)]
 pub struct Cursor<'a> {
-    rest: &'a [(Token, Place)],
+    next: Option<Token<'a>>,
+    rest: Rest<'a>,
     left: usize,
 }
 
 impl<'a> Model for Cursor<'a> {
     ghost use Rattle.std.specs.Prelude.{◌≡◌, List, length};
     ghost use Rattle.tptp_lexer.specs.declared.token.Token.{Token};
-    ghost use Rattle.tptp_grammar.specs.Solid.{solid};
-    ghost use Rattle.tptp_grammar.specs.code.Solid.{BeginsSolid};
+    ghost use Rattle.tptp_grammar.specs.code.Solid.{solid_from};
 
     ghost Value = { List Token };
 
-    ghost view = { λ cursor. solid cursor.rest.now };
+    ghost view = { λ cursor. solid_from cursor.next cursor.rest };
 
-    ghost invariant = { λ cursor. BeginsSolid cursor.rest.now × (cursor.left ≡ length (solid cursor.rest.now)) };
+    ghost invariant = { λ cursor. cursor.left ≡ length (solid_from cursor.next cursor.rest) };
 }
 
 impl<'a> Cursor<'a> {
     /// A cursor at the first token.
-    pub fn new(tokens: &'a [(Token, Place)]) -> Cursor<'a>
+    pub fn new(tokens: &'a TokenList<'_>) -> Cursor<'a>
         ensures { result ≡ solid tokens.now }
     {
-        let rest = behind_comments(tokens);
-        let left = count_solid(rest);
-        Cursor { rest, left }
+        let left = count_solid(tokens);
+        let mut rest = tokens.rest();
+        let next = next_solid(&mut rest);
+        Cursor { next, rest, left }
     }
 
     /// The next token.
-    pub fn peek(&self) -> Option<&'a Token>
+    pub fn peek(&self) -> Option<&Token<'a>>
         ensures { option_copied result ≡ next self.now }
     {
-        match self.rest {
-            [(token, _), ..] => Some(token),
-            [] => None,
+        match &self.next {
+            Some(token) => Some(token),
+            None => None,
         }
     }
 
@@ -64,8 +64,8 @@ impl<'a> Cursor<'a> {
     pub fn skip(&mut self)
         ensures { self.new ≡ tail self.old }
     {
-        if let [_, rest @ ..] = self.rest {
-            self.rest = behind_comments(rest);
+        if self.next.is_some() {
+            self.next = next_solid(&mut self.rest);
             self.left -= 1;
         }
     }
@@ -112,39 +112,35 @@ fn same_mark(a: Mark, b: Mark) -> bool
 }
 
 /// Whether the token is a comment.
-pub fn is_comment(token: &Token) -> bool
+pub fn is_comment(token: &Token<'_>) -> bool
     ensures { result ≡ solids.is_comment token.now }
 {
     matches!(token, Token::Comment(_))
 }
 
-// The tokens from the first one on that is no comment.
-fn behind_comments(tokens: &[(Token, Place)]) -> &[(Token, Place)]
-    ensures same { solid result.now ≡ solid tokens.now }
-    ensures begins { BeginsSolid result.now }
+// The next token that is no comment, which is passed.
+fn next_solid<'a>(rest: &mut Rest<'a>) -> Option<Token<'a>>
+    ensures { solid rest.old ≡ solid_from result rest.new }
 {
-    let mut rest = tokens;
-    'comments: while let [(token, _), others @ ..] = rest {
-        if !is_comment(token) {
-            break 'comments;
+    'comments: while let Some(token) = rest.next() {
+        if !is_comment(&token) {
+            return Some(token);
         }
-        rest = others;
     }
-    rest
+    None
 }
 
 /// How many of the tokens are no comments.
 #[tactic(auto, using(crate::proofs::Solids::solid_shorter))]
-pub fn count_solid(tokens: &[(Token, Place)]) -> usize
+pub fn count_solid(tokens: &TokenList<'_>) -> usize
     ensures { result ≡ length (solid tokens.now) }
 {
     let mut count = tokens.len();
-    let mut rest = tokens;
-    'tokens: while let [(token, _), others @ ..] = rest {
-        if is_comment(token) {
+    let mut rest = tokens.rest();
+    'tokens: while let Some(token) = rest.next() {
+        if is_comment(&token) {
             count -= 1;
         }
-        rest = others;
     }
     count
 }

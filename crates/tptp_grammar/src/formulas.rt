@@ -18,15 +18,9 @@ use tptp_lexer::{Mark, Token};
 
 // What follows a bound variable.
 #[tactic(auto, unfolding(crate::specs::code::ReadFormulas::sorted))]
-fn sorted(
-    alloc: Global,
-    tokens: &mut Cursor<'_>,
-    typed: bool,
-    name: &Text,
-) -> Result<BoundVar, Stop>
-    ensures { Reads (spec.sorted typed name.now tokens.old) result tokens.new }
+fn sorted(alloc: Global, tokens: &mut Cursor<'_>, typed: bool, name: Text) -> Result<BoundVar, Stop>
+    ensures { Reads (spec.sorted typed name tokens.old) result tokens.new }
 {
-    let name = Text::from_slice(alloc, name.as_slice())?;
     match tokens.peek() {
         Some(Token::Mark(Mark::Colon)) => {
             if typed {
@@ -51,6 +45,7 @@ fn bound_variable(alloc: Global, tokens: &mut Cursor<'_>, typed: bool) -> Result
 {
     match tokens.peek() {
         Some(Token::Upper(name)) => {
+            let name = name.to_text(alloc)?;
             tokens.skip();
             sorted(alloc, tokens, typed, name)
         }

@@ -246,15 +246,12 @@ fn right_side(
 // What follows a word.
 #[cycle(general)]
 #[tactic(auto, unfolding(crate::specs::code::ReadGeneral::general_applied))]
-fn applied(alloc: Global, tokens: &mut Cursor<'_>, room: usize, name: &Text) -> Result<GTerm, Stop>
-    ensures { Reads (spec.general_applied (spec.nesting room) name.now tokens.old) result tokens.new }
+fn applied(alloc: Global, tokens: &mut Cursor<'_>, room: usize, name: Text) -> Result<GTerm, Stop>
+    ensures { Reads (spec.general_applied (spec.nesting room) name tokens.old) result tokens.new }
 {
-    let function = Text::from_slice(alloc, name.as_slice())?;
     match tokens.peek() {
-        Some(Token::Mark(Mark::Open)) => {
-            Ok(GTerm::Func(function, arguments(alloc, tokens, room)?))
-        }
-        _ => Ok(GTerm::Word(function)),
+        Some(Token::Mark(Mark::Open)) => { Ok(GTerm::Func(name, arguments(alloc, tokens, room)?)) }
+        _ => Ok(GTerm::Word(name)),
     }
 }
 
@@ -266,26 +263,34 @@ fn data_term(alloc: Global, tokens: &mut Cursor<'_>, room: usize) -> Result<GTer
 {
     match tokens.peek() {
         Some(Token::Lower(name)) => {
+            let name = name.to_text(alloc)?;
             tokens.skip();
             applied(alloc, tokens, room, name)
         }
         Some(Token::Quoted(name)) => {
+            let name = name.to_text(alloc)?;
             tokens.skip();
             applied(alloc, tokens, room, name)
         }
         Some(Token::Upper(name)) => {
+            let name = name.to_text(alloc)?;
             tokens.skip();
-            Ok(GTerm::Var(Text::from_slice(alloc, name.as_slice())?))
+            Ok(GTerm::Var(name))
         }
         Some(Token::Number(number)) => {
+            let number = number.to_text(alloc)?;
             tokens.skip();
-            Ok(GTerm::Number(Text::from_slice(alloc, number.as_slice())?))
+            Ok(GTerm::Number(number))
         }
         Some(Token::Distinct(text)) => {
+            let text = text.to_text(alloc)?;
             tokens.skip();
-            Ok(GTerm::Distinct(Text::from_slice(alloc, text.as_slice())?))
+            Ok(GTerm::Distinct(text))
         }
-        Some(Token::Dollar(word)) => formula_data(alloc, tokens, room, word.as_slice()),
+        Some(Token::Dollar(word)) => {
+            let word = word.as_slice();
+            formula_data(alloc, tokens, room, word)
+        }
         _ => Err(Stop::Unexpected),
     }
 }

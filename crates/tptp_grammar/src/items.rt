@@ -29,17 +29,20 @@ fn name(alloc: Global, tokens: &mut Cursor<'_>) -> Result<Name, Stop>
 {
     match tokens.peek() {
         Some(Token::Lower(word)) => {
+            let word = word.to_text(alloc)?;
             tokens.skip();
-            Ok(Name::Word(Text::from_slice(alloc, word.as_slice())?))
+            Ok(Name::Word(word))
         }
         Some(Token::Quoted(word)) => {
+            let word = word.to_text(alloc)?;
             tokens.skip();
-            Ok(Name::Word(Text::from_slice(alloc, word.as_slice())?))
+            Ok(Name::Word(word))
         }
         Some(Token::Number(number)) => {
             if is_integer(number.as_slice()) {
+                let number = number.to_text(alloc)?;
                 tokens.skip();
-                Ok(Name::Integer(Text::from_slice(alloc, number.as_slice())?))
+                Ok(Name::Integer(number))
             } else {
                 Err(Stop::Unexpected)
             }
@@ -256,8 +259,9 @@ fn file_name(alloc: Global, tokens: &mut Cursor<'_>) -> Result<Text, Stop>
 {
     match tokens.peek() {
         Some(Token::Quoted(name)) => {
+            let name = name.to_text(alloc)?;
             tokens.skip();
-            Ok(Text::from_slice(alloc, name.as_slice())?)
+            Ok(name)
         }
         _ => Err(Stop::Unexpected),
     }
@@ -379,7 +383,10 @@ pub fn item(
     ensures { Reads (spec.item style room place tokens.old) result tokens.new }
 {
     match tokens.peek() {
-        Some(Token::Lower(word)) => worded(alloc, tokens, style, room, place, word.as_slice()),
+        Some(Token::Lower(word)) => {
+            let word = word.as_slice();
+            worded(alloc, tokens, style, room, place, word)
+        }
         _ => Err(Stop::Unexpected),
     }
 }

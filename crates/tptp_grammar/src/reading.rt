@@ -1,11 +1,11 @@
 // All tokens of a text.
-ghost use Rattle.std.specs.Prelude.{◌≡◌, ◌+◌, suc, List, length, IfOk, IfErr};
-ghost use Rattle.std.specs.Option.{option_copied};
+ghost use Rattle.std.specs.Prelude.{◌≡◌, ◌<◌, ◌+◌, ◌-◌, suc, List, ◌∷◌, length, IfOk, IfErr, if◌then◌else◌};
 ghost use Rattle.first_fault.specs.Nesting.{FirstOver};
 ghost use Rattle.tptp_base.specs.declared.item.Item.{Item};
 ghost use Rattle.tptp_grammar.specs.Tokens.{Tokens as NestedTokens};
 ghost use Rattle.tptp_grammar.specs.Files.{IsFile, Spells, SpellsWithin};
 ghost use Rattle.tptp_grammar.specs.Faults as faults;
+ghost use Rattle.tptp_grammar.specs.Solid.{Placed, is_remark};
 ghost use Rattle.tptp_grammar.specs.code.Outcomes.{Fails};
 ghost use Rattle.tptp_grammar.specs.code.ReadItems as items;
 ghost use Rattle.tptp_grammar.specs.code.ReadFile as spec;
@@ -17,8 +17,8 @@ use crate::fault::GrammarFault;
 use crate::items::item;
 use crate::stop::Stop;
 use std::alloc::{AllocError, Global};
-use tptp_base::{Item, List, Place, Text};
-use tptp_lexer::{Style, Token, Tokens};
+use tptp_base::{Item, List, Place};
+use tptp_lexer::{Rest, Style, Token, TokenList, Tokens, Word};
 
 // How deep a text may nest.
 const MAX_NESTING: usize = 250;
@@ -52,11 +52,11 @@ impl From<AllocError> for Refusal {
 }
 
 // A comment.
-fn comment(alloc: Global, text: &Text) -> Result<Turn, Refusal>
+fn comment(alloc: Global, text: &Word<'_>) -> Result<Turn, Refusal>
     ensures ok { IfOk result (λ s. (s.item ≡ Item.Comment text.now) × (s.left ≡ 0)) }
     ensures err { IfErr result (λ r. r.stop ≡ Stop.Memory) }
 {
-    let text = Text::from_slice(alloc, text.as_slice())?;
+    let text = text.to_text(alloc)?;
     Ok(Turn {
         item: Item::Comment(text),
         left: 0,
@@ -94,7 +94,7 @@ fn take_turn(
     alloc: Global,
     tokens: &mut Cursor<'_>,
     style: Style,
-    first: &Token,
+    first: &Token<'_>,
     place: Place,
 ) -> Result<Turn, Refusal>
     ensures ok { IfOk result (λ s.
@@ -109,31 +109,45 @@ fn take_turn(
 }
 
 // The items, and the comments between them.
-fn read_items(alloc: Global, tokens: &[(Token, Place)], style: Style) -> Result<List<Item>, Refusal>
+fn read_items(alloc: Global, tokens: &TokenList<'_>, style: Style) -> Result<List<Item>, Refusal>
     ensures ok { IfOk result (λ found. spec.file style faults.max_nesting tokens.now ≡ Ok found) }
     ensures err { IfErr result (λ r. answers_code.Stopped (spec.file style faults.max_nesting tokens.now) r.stop r.left) }
 {
     let mut found = List::new(alloc);
     let mut cursor = Cursor::new(tokens);
+    let mut rest = tokens.rest();
     let mut left = 0;
-    'tokens: for (token, place) in tokens {
-        if left == 0 {
-            let next = take_turn(alloc, &mut cursor, style, token, *place)?;
+    'tokens: while !rest.is_empty() {
+        if left > 0 {
+            left = pass(&mut rest, left);
+        } else if let Some((token, place)) = rest.next_placed() {
+            let next = take_turn(alloc, &mut cursor, style, &token, place)?;
             left = next.left;
             found.push(next.item)?;
-        } else if !is_comment(token) {
-            left -= 1;
         }
     }
     Ok(found)
 }
 
+// How many tokens are left of an item behind the next one, comments left out, where so many are left before it.
+fn pass(rest: &mut Rest<'_>, left: usize) -> usize
+    requires { 0 < left }
+    ensures { (entry : Placed) (others : List Placed) → rest.old ≡ entry ∷ others
+        → (rest.new ≡ others) × (result ≡ (if is_remark entry then left else left - 1)) }
+{
+    match rest.next() {
+        Some(token) => { if is_comment(&token) { left } else { left - 1 } }
+        None => left,
+    }
+}
+
 // The first token with as many from it on, comments left out.
-fn entry_at(tokens: &[(Token, Place)], left: usize) -> Option<&(Token, Place)>
-    ensures { option_copied result ≡ answers_code.entry_at left tokens.now }
+fn entry_at<'a>(tokens: &'a TokenList<'_>, left: usize) -> Option<(Token<'a>, Place)>
+    ensures { result ≡ answers_code.entry_at left tokens.now }
 {
     let mut now = count_solid(tokens);
-    'tokens: for entry in tokens {
+    let mut rest = tokens.rest();
+    'tokens: while let Some(entry) = rest.next_placed() {
         if !is_comment(&entry.0) {
             if now == left {
                 return Some(entry);
@@ -161,7 +175,7 @@ fn is_other_language(word: &[u8]) -> bool
 }
 
 // Whether the token is of a part of TPTP that is left out.
-fn is_outside(token: &Token) -> bool
+fn is_outside(token: &Token<'_>) -> bool
     ensures { result ≡ faults.is_outside token.now }
 {
     match token {
@@ -174,32 +188,32 @@ fn is_outside(token: &Token) -> bool
     }
 }
 
-fn refusal_at(entry: Option<&(Token, Place)>, end: Place) -> GrammarFault
-    ensures { result ≡ answers_code.refusal_at (option_copied entry.entry) end }
+fn refusal_at(entry: Option<(Token<'_>, Place)>, end: Place) -> GrammarFault
+    ensures { result ≡ answers_code.refusal_at entry.entry end }
 {
     match entry {
         Some((token, place)) => {
-            if is_outside(token) {
-                GrammarFault::Profile(*place)
+            if is_outside(&token) {
+                GrammarFault::Profile(place)
             } else {
-                GrammarFault::Token(*place)
+                GrammarFault::Token(place)
             }
         }
         None => GrammarFault::End(end),
     }
 }
 
-fn depth_at(entry: Option<&(Token, Place)>, end: Place) -> GrammarFault
-    ensures { result ≡ answers_code.depth_at (option_copied entry.entry) end }
+fn depth_at(entry: Option<(Token<'_>, Place)>, end: Place) -> GrammarFault
+    ensures { result ≡ answers_code.depth_at entry.entry end }
 {
     match entry {
-        Some((_, place)) => GrammarFault::Deep(*place),
+        Some((_, place)) => GrammarFault::Deep(place),
         None => GrammarFault::Deep(end),
     }
 }
 
-fn fault_of(stop: Stop, entry: Option<&(Token, Place)>, end: Place) -> GrammarFault
-    ensures { result ≡ answers_code.fault_of stop (option_copied entry.entry) end }
+fn fault_of(stop: Stop, entry: Option<(Token<'_>, Place)>, end: Place) -> GrammarFault
+    ensures { result ≡ answers_code.fault_of stop entry.entry end }
 {
     match stop {
         Stop::Memory => GrammarFault::Memory,
@@ -213,7 +227,7 @@ fn fault_of(stop: Stop, entry: Option<&(Token, Place)>, end: Place) -> GrammarFa
 /// # Errors
 ///
 /// The first fault, as `GrammarFault` tells them.
-pub fn parse(alloc: Global, tokens: &Tokens) -> Result<List<Item>, GrammarFault>
+pub fn parse(alloc: Global, tokens: &Tokens<'_>) -> Result<List<Item>, GrammarFault>
     // What is read is spelled so, nested no deeper than the limit. Each fault is the first one.
     ensures answers { answers.Answers tokens.now.style tokens.now.items tokens.now.end result }
     // What is spelled within the limit is read, unless memory runs out.
@@ -226,9 +240,11 @@ pub fn parse(alloc: Global, tokens: &Tokens) -> Result<List<Item>, GrammarFault>
     ensures one { (first second : List Item) → Spells tokens.now.style first tokens.now.items
         → Spells tokens.now.style second tokens.now.items → first ≡ second }
 {
-    let all = tokens.items.as_slice();
-    match read_items(alloc, all, tokens.style) {
+    match read_items(alloc, &tokens.items, tokens.style) {
         Ok(found) => Ok(found),
-        Err(refusal) => Err(fault_of(refusal.stop, entry_at(all, refusal.left), tokens.end)),
+        Err(refusal) => {
+            let entry = entry_at(&tokens.items, refusal.left);
+            Err(fault_of(refusal.stop, entry, tokens.end))
+        }
     }
 }

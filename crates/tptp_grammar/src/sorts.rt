@@ -19,12 +19,14 @@ pub fn argument_sort(alloc: Global, tokens: &mut Cursor<'_>) -> Result<SortName,
 {
     match tokens.peek() {
         Some(Token::Lower(name)) => {
+            let name = name.to_text(alloc)?;
             tokens.skip();
-            Ok(SortName::Word(Text::from_slice(alloc, name.as_slice())?))
+            Ok(SortName::Word(name))
         }
         Some(Token::Quoted(name)) => {
+            let name = name.to_text(alloc)?;
             tokens.skip();
-            Ok(SortName::Word(Text::from_slice(alloc, name.as_slice())?))
+            Ok(SortName::Word(name))
         }
         Some(Token::Dollar(word)) => {
             if word.as_slice() == b"$i".as_slice() {
@@ -209,19 +211,21 @@ fn shape(alloc: Global, tokens: &mut Cursor<'_>, room: usize) -> Result<Shape, S
 {
     match tokens.peek() {
         Some(Token::Mark(Mark::Open)) => map_open(alloc, tokens, room),
-        Some(Token::Dollar(word)) => dollar_shape(alloc, tokens, word.as_slice()),
+        Some(Token::Dollar(word)) => {
+            let word = word.as_slice();
+            dollar_shape(alloc, tokens, word)
+        }
         _ => from_sort(alloc, tokens),
     }
 }
 
 // What follows the name.
 #[tactic(auto, unfolding(crate::specs::code::ReadTypes::typed))]
-fn typed(alloc: Global, tokens: &mut Cursor<'_>, room: usize, name: &Text) -> Result<Typing, Stop>
-    ensures { Reads (spec.typed room name.now tokens.old) result tokens.new }
+fn typed(alloc: Global, tokens: &mut Cursor<'_>, room: usize, name: Text) -> Result<Typing, Stop>
+    ensures { Reads (spec.typed room name tokens.old) result tokens.new }
 {
     tokens.expect(Mark::Colon)?;
     let shape = shape(alloc, tokens, room)?;
-    let name = Text::from_slice(alloc, name.as_slice())?;
     Ok(Typing { name, shape })
 }
 
@@ -234,10 +238,12 @@ pub fn typing(alloc: Global, tokens: &mut Cursor<'_>, room: usize) -> Result<Typ
     match tokens.peek() {
         Some(Token::Mark(Mark::Open)) => typing_open(alloc, tokens, room),
         Some(Token::Lower(name)) => {
+            let name = name.to_text(alloc)?;
             tokens.skip();
             typed(alloc, tokens, room, name)
         }
         Some(Token::Quoted(name)) => {
+            let name = name.to_text(alloc)?;
             tokens.skip();
             typed(alloc, tokens, room, name)
         }

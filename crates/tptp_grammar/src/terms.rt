@@ -21,14 +21,17 @@ pub fn term(alloc: Global, tokens: &mut Cursor<'_>, room: usize) -> Result<STerm
 {
     match tokens.peek() {
         Some(Token::Upper(name)) => {
+            let name = name.to_text(alloc)?;
             tokens.skip();
-            Ok(STerm::Var(Text::from_slice(alloc, name.as_slice())?))
+            Ok(STerm::Var(name))
         }
         Some(Token::Lower(name)) => {
+            let name = name.to_text(alloc)?;
             tokens.skip();
             applied(alloc, tokens, room, name)
         }
         Some(Token::Quoted(name)) => {
+            let name = name.to_text(alloc)?;
             tokens.skip();
             applied(alloc, tokens, room, name)
         }
@@ -39,13 +42,12 @@ pub fn term(alloc: Global, tokens: &mut Cursor<'_>, room: usize) -> Result<STerm
 // What follows a word.
 #[cycle(term)]
 #[tactic(auto, unfolding(crate::specs::code::ReadTerms::applied))]
-fn applied(alloc: Global, tokens: &mut Cursor<'_>, room: usize, name: &Text) -> Result<STerm, Stop>
-    ensures { Reads (spec.applied (spec.arguments room) name.now tokens.old) result tokens.new }
+fn applied(alloc: Global, tokens: &mut Cursor<'_>, room: usize, name: Text) -> Result<STerm, Stop>
+    ensures { Reads (spec.applied (spec.arguments room) name tokens.old) result tokens.new }
 {
-    let function = Text::from_slice(alloc, name.as_slice())?;
     match tokens.peek() {
-        Some(Token::Mark(Mark::Open)) => Ok(STerm::App(function, arguments(alloc, tokens, room)?)),
-        _ => Ok(STerm::App(function, List::new(alloc))),
+        Some(Token::Mark(Mark::Open)) => Ok(STerm::App(name, arguments(alloc, tokens, room)?)),
+        _ => Ok(STerm::App(name, List::new(alloc))),
     }
 }
 
@@ -147,7 +149,10 @@ pub fn atom(alloc: Global, tokens: &mut Cursor<'_>, room: usize) -> Result<Surfa
     ensures { Reads (spec.atom room tokens.old) result tokens.new }
 {
     match tokens.peek() {
-        Some(Token::Dollar(word)) => constant(tokens, word.as_slice()),
+        Some(Token::Dollar(word)) => {
+            let word = word.as_slice();
+            constant(tokens, word)
+        }
         _ => {
             let left = term(alloc, tokens, room)?;
             equated(alloc, tokens, room, left)
@@ -161,7 +166,10 @@ pub fn basic(alloc: Global, tokens: &mut Cursor<'_>, room: usize) -> Result<Surf
     ensures { Reads (spec.basic room tokens.old) result tokens.new }
 {
     match tokens.peek() {
-        Some(Token::Dollar(word)) => constant(tokens, word.as_slice()),
+        Some(Token::Dollar(word)) => {
+            let word = word.as_slice();
+            constant(tokens, word)
+        }
         _ => {
             let left = term(alloc, tokens, room)?;
             compared(alloc, tokens, room, left)

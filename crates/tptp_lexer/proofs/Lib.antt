@@ -10,4 +10,5 @@ pub mod Sound
 pub mod Cuts
 pub mod Answering
 pub mod Places
+pub mod Following
 pub mod Stepping

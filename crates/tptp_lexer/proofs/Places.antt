@@ -10,14 +10,9 @@ use Rattle.memchr.specs.Find.{IsLastByte, is_byte}
 use Rattle.tptp_base.specs.declared.place.Place.{Place}
 use Rattle.tptp_base.specs.Place.{place_of, is_line_feed, is_no_line_feed}
 use Rattle.tptp_lexer.specs.Bytes.{Text}
-use Rattle.tptp_lexer.specs.code.Step.{IsOneLine}
 use Rattle.tptp_lexer.proofs.Runs.{not_true}
 
 -- ---- the last line feed of a piece
-
-true_not : (b : Bool) → b ≡ true → not b ≡ true → ⊥
-true_not true e h = (cc)
-true_not false e h = (cc)
 
 behind_last : (piece : Text) (at : ℕ) → IsLastByte (is_byte 10) piece (Some at) → suffix_len is_no_line_feed piece ≡ length piece - (at + 1)
 behind_last piece at last =
@@ -34,18 +29,6 @@ count_none (byte ∷ piece) h =
     let other : byte == 10 ≡ false = false_from_ne_true (byte == 10) (h 0 (omega arith)) in
     let rest = count_none piece (λ k lt. h (suc k) (omega arith)) in
     rw other (omega arith)
-
--- the line goes on through what stands before its line feed
-pub line_goes_on : (text : Text) (from to : ℕ) → IsOneLine text from (from + prefix_len is_no_line_feed (slice_range text from to))
-line_goes_on text from to offset low high feed =
-    let piece = slice_range text from to in
-    let k = offset - from in
-    let short : k < prefix_len is_no_line_feed piece = omega arith in
-    let passes : is_no_line_feed (get_or piece k 0) ≡ true = prefix_len_passes is_no_line_feed piece k 0 short in
-    let within : k < to - from = omega (arith, prefix_len-le-length is_no_line_feed piece, length-take (to - from) (drop from text)) in
-    let same : get_or piece k 0 ≡ get_or text offset 0 = get_or-take (to - from) (drop from text) k 0 within ∙ get_or-drop from text k 0 ∙ (let e : from + k ≡ offset = omega arith in ap (λ n. get_or text n 0) e) in
-    let other : not (is_line_feed (get_or text offset 0)) ≡ true = ap is_no_line_feed (sym same) ∙ passes in
-    absurd (true_not _ feed other)
 
 -- ---- a piece behind a text
 
@@ -92,16 +75,6 @@ module _ (text : Text) (place : Place) (to : ℕ) (placed : place ≡ place_of p
       place_parts place.file to _ _ _ _
       (omega (arith, line_is, lines_are, count_none piece (λ k lt. last k (omega arith) lt), ap (count_by is_line_feed) is))
       (omega (arith, column_is, ap (suffix_len is_no_line_feed) all_is, column_same (take place.offset text) piece (no_last piece last), ap (λ z. suffix_len is_no_line_feed (take place.offset text ++ z)) is))
-
-  -- where no line feed stands up to the later offset
-  pub on_line : (line_end : ℕ) → to ≤ line_end → to ≤ length text → IsOneLine text place.offset line_end
-      → ◌≡◌ {A = Place} (record { file = place.file; offset = to; line = place.line; column = place.column + (to - place.offset) }) (place_of place.file text to)
-  on_line line_end reached within line =
-      let piece = take (to - place.offset) (drop place.offset text) in
-      let long : length piece ≡ to - place.offset = omega (arith, length-take (to - place.offset) (drop place.offset text), length-drop place.offset text) in
-      let at : (k : ℕ) → k < to - place.offset → get_or piece k 0 ≡ get_or text (place.offset + k) 0 = λ k lt. get_or-take (to - place.offset) (drop place.offset text) k 0 lt ∙ get_or-drop place.offset text k 0 in
-      let none : IsLastByte (is_byte 10) piece None = λ k low lt e. line (place.offset + k) (omega arith) (omega arith) (ap is_line_feed (sym (at k (omega arith))) ∙ e) in
-      subst (λ n. ◌≡◌ {A = Place} (record { file = place.file; offset = to; line = place.line; column = place.column + n }) (place_of place.file text to)) long (same_line piece refl none)
 
   pub new_line : (piece : Text) (at : ℕ) → piece ≡ take (to - place.offset) (drop place.offset text) → IsLastByte (is_byte 10) piece (Some at) → (feeds : ℕ) → feeds ≡ count_by is_line_feed piece
       → ◌≡◌ {A = Place} (record { file = place.file; offset = to; line = place.line + feeds; column = length piece - at }) (place_of place.file text to)

@@ -6,4 +6,5 @@ pub mod Numbers
 pub mod Quotes
 pub mod Spelled
 pub mod Tokenized
+pub mod Words
 pub mod code

@@ -1,20 +1,18 @@
 //! The tokens of a part of a text.
-ghost use Rattle.std.specs.Prelude.{◌≡◌, ◌<◌, ◌≤◌, ◌-◌, ◌++◌, ◌∷◌, [], List, Result, length, IfOk, IfErr, OnOk};
-ghost use Rattle.tptp_base.specs.Place.{place_of};
+ghost use Rattle.std.specs.Prelude.{◌≡◌, ◌<◌, ◌≤◌, ◌-◌, ◌^◌, [], List, Result, length, IfOk};
 ghost use Rattle.tptp_lexer.specs.declared.fault.LexFault.{LexFault};
 ghost use Rattle.tptp_lexer.specs.declared.token.Token.{Token};
 ghost use Rattle.tptp_lexer.specs.declared.token.Tokens.{Tokens};
 ghost use Rattle.tptp_lexer.specs.Answer.{IsWithin, Answers, IsOne, Gives, part};
-ghost use Rattle.tptp_lexer.specs.code.Step.{Stepped, IsOneLine};
+ghost use Rattle.tptp_lexer.specs.code.Step.{Stepped};
 ghost use Rattle.tptp_lexer.specs.Tokenized.{Tokenized, bare_items};
-ghost use Rattle.tptp_lexer.specs.code.Scan as scan;
 
-use crate::advance::advance;
-use crate::make::token_of;
-use crate::scan::{Front, Kind, front_of};
-use crate::{LexFault, Style, Token, Tokens};
+use crate::advance::place_behind;
+use crate::lexeme::Lexeme;
+use crate::scan::{Front, front_of};
+use crate::{LexFault, Style, TokenList, Tokens};
 use std::alloc::Global;
-use tptp_base::{FILE_SIZE, LimitName, List, Place, Region, place_at};
+use tptp_base::{FILE_SIZE, LimitName, List, Region, place_at};
 
 /// The tokens of a region of a text, with their places in the whole text.
 ///
@@ -27,7 +25,7 @@ pub fn tokens(
     text: &[u8],
     region: Region,
     style: Style,
-) -> Result<Tokens, LexFault>
+) -> Result<Tokens<'_>, LexFault>
     requires { IsWithin text.now region }
     // The tokens, or the fault at its place.
     ensures answer { Answers file text.now region style result }
@@ -42,82 +40,53 @@ pub fn tokens(
     if region.end - region.start > FILE_SIZE {
         return Err(LexFault::Limit(LimitName::FileSize));
     }
-    let mut items = room_for(alloc, region.end - region.start);
-    let mut place = place_at(file, text, region.start);
-    let mut line_end = region.start;
-    while place.offset < region.end {
-        place = step(
-            alloc,
-            text,
-            region.end,
-            style,
-            place,
-            &mut line_end,
-            &mut items,
-        )?;
+    let mut list = room_for(alloc, region.end - region.start);
+    let mut at = region.start;
+    while at < region.end {
+        at = step(file, text, region.end, style, at, &mut list)?;
     }
+    let start = place_at(file, text, region.start);
     Ok(Tokens {
-        items,
-        end: place,
+        items: TokenList::new(text, start, list),
+        end: place_behind(text, start, at),
         style,
     })
 }
 
 // An empty list. Where memory allows, it has room for a token in every second byte, so that the list of a usual text
 // does not grow. The room that is not used is never touched.
-fn room_for(alloc: Global, bytes: u64) -> List<(Token, Place)>
+fn room_for(alloc: Global, bytes: u64) -> List<Lexeme>
     ensures { result ≡ [] }
 {
     match Vec::with_capacity(alloc, bytes as usize / 2) {
-        Ok(items) => List::from_vec(items),
+        Ok(list) => List::from_vec(list),
         Err(_) => List::new(alloc),
     }
 }
 
-// Passes over the blanks at a place, or takes the token there, and gives the place behind. No line feed stands between
-// the place and `line_end`.
+// Passes over the blanks at an offset, or takes the token there, and gives the offset behind.
 fn step(
-    alloc: Global,
+    file: u32,
     text: &[u8],
     end: u64,
     style: Style,
-    place: Place,
-    line_end: &mut u64,
-    items: &mut List<(Token, Place)>,
-) -> Result<Place, LexFault>
-    requires placed { place ≡ place_of place.file text.now place.offset }
-    requires before { place.offset < end }
+    at: u64,
+    list: &mut List<Lexeme>,
+) -> Result<u64, LexFault>
+    requires before { at < end }
     requires within { end ≤ length text.now }
-    requires line { IsOneLine text.now place.offset line_end.old }
-    ensures stepped { Stepped style text.now end place items.old items.new result }
-    ensures line { IfOk result (λ next. IsOneLine text.now next.offset line_end.new) }
+    requires small { end - at < 2 ^ 32 }
+    ensures { Stepped style file text.now end at list.old list.new result }
 {
-    let rest = &text[place.offset as usize..end as usize];
-    let len = match front_of(style, rest) {
-        Front::Blanks(len) => len,
+    let rest = &text[at as usize..end as usize];
+    match front_of(style, rest) {
+        Front::Blanks(len) => Ok(at + len as u64),
         Front::Token(kind, len) => {
-            take(alloc, kind, &rest[..len], place, items)?;
-            len
+            let len = len as u32;
+            list.push(Lexeme { kind, len, at })?;
+            Ok(at + len as u64)
         }
-        Front::Open => return Err(LexFault::Unfinished(place)),
-        Front::Nothing => return Err(LexFault::Byte(place)),
-    };
-    let to = place.offset + len as u64;
-    Ok(advance(text, place, to, end, line_end))
-}
-
-// Adds the token of a kind that is spelled so.
-fn take(
-    alloc: Global,
-    kind: Kind,
-    spelling: &[u8],
-    place: Place,
-    items: &mut List<(Token, Place)>,
-) -> Result<(), LexFault>
-    ensures ok { OnOk result (items.new ≡ items.old ++ (scan.token_of kind spelling.now, place) ∷ []) }
-    ensures err { IfErr result (λ fault. fault ≡ LexFault.Memory) }
-{
-    let token = token_of(alloc, kind, spelling)?;
-    items.push((token, place))?;
-    Ok(())
+        Front::Open => Err(LexFault::Unfinished(place_at(file, text, at))),
+        Front::Nothing => Err(LexFault::Byte(place_at(file, text, at))),
+    }
 }

@@ -1,27 +1,36 @@
 //! Tokens from their spellings.
-ghost use Rattle.std.specs.Prelude.{◌≡◌, ◌≤◌, ◌++◌, ◌∷◌, [], length, IfOk, OnOk};
+ghost use Rattle.std.specs.Prelude.{◌≡◌, ◌≤◌, ◌++◌, ◌∷◌, [], length};
+ghost use Rattle.tptp_lexer.specs.code.Lexemes.{taken};
 ghost use Rattle.tptp_lexer.specs.code.Scan as spec;
 
-use crate::Token;
-use crate::quotes::unescaped;
 use crate::scan::Kind;
-use std::alloc::Global;
-use tptp_base::{Memory, Text};
+use crate::{Chars, Token, Word};
 
-/// The token of a kind that is spelled so.
-pub fn token_of(alloc: Global, kind: Kind, spelling: &[u8]) -> Result<Token, Memory>
-    ensures { IfOk result (λ token. token ≡ spec.token_of kind spelling.now) }
+/// The token of a kind that is spelled so. A distinct object is given as a word where `words` says so.
+pub fn token_of<'a>(kind: Kind, spelling: &'a [u8], words: bool) -> Token<'a>
+    ensures { result ≡ taken words (spec.token_of kind spelling.now) }
 {
     match kind {
-        Kind::Lower => Ok(Token::Lower(Text::from_slice(alloc, spelling)?)),
-        Kind::Quoted => Ok(Token::Quoted(unescaped(alloc, inside(spelling))?)),
-        Kind::Upper => Ok(Token::Upper(Text::from_slice(alloc, spelling)?)),
-        Kind::Dollar => Ok(Token::Dollar(Text::from_slice(alloc, spelling)?)),
-        Kind::System => Ok(Token::System(Text::from_slice(alloc, spelling)?)),
-        Kind::Number => Ok(Token::Number(Text::from_slice(alloc, spelling)?)),
-        Kind::Distinct => Ok(Token::Distinct(unescaped(alloc, inside(spelling))?)),
-        Kind::Comment => Ok(Token::Comment(Text::from_slice(alloc, spelling)?)),
-        Kind::Mark(mark) => Ok(Token::Mark(mark)),
+        Kind::Lower => Token::Lower(Word::new(spelling)),
+        Kind::Quoted => Token::Quoted(Chars::new(inside(spelling))),
+        Kind::Upper => Token::Upper(Word::new(spelling)),
+        Kind::Dollar => Token::Dollar(Word::new(spelling)),
+        Kind::System => Token::System(Word::new(spelling)),
+        Kind::Number => Token::Number(Word::new(spelling)),
+        Kind::Distinct => distinct(inside(spelling), words),
+        Kind::Comment => Token::Comment(Word::new(spelling)),
+        Kind::Mark(mark) => Token::Mark(mark),
+    }
+}
+
+// The distinct object that is written so between its quotes, or the word for it.
+fn distinct<'a>(written: &'a [u8], words: bool) -> Token<'a>
+    ensures { result ≡ taken words (Token.Distinct (spec.unescaped written.now)) }
+{
+    if words {
+        Token::Quoted(Chars::behind_mark(written))
+    } else {
+        Token::Distinct(Chars::new(written))
     }
 }
 

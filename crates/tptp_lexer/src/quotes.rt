@@ -4,8 +4,8 @@ ghost use Rattle.tptp_lexer.specs.Quotes as written;
 ghost use Rattle.tptp_lexer.specs.code.Scan as spec;
 
 use memchr::memchr;
-use std::alloc::Global;
-use tptp_base::{Memory, Text};
+use std::alloc::{AllocError, Global};
+use tptp_base::Text;
 
 /// How a quote ends.
 #[derive(Clone, Copy)]
@@ -77,16 +77,16 @@ pub fn quote_end(quote: u8, text: &[u8]) -> Quote
 }
 
 /// The characters that are written so between quotes.
-pub fn unescaped(alloc: Global, text: &[u8]) -> Result<Text, Memory>
+pub fn unescaped(alloc: Global, text: &[u8]) -> Result<Text, AllocError>
     ensures { IfOk result (λ chars. chars ≡ spec.unescaped text.now) }
 {
     match memchr(b'\\', text) {
-        None => Ok(Text::from_slice(alloc, text)?),
+        None => Text::from_slice(alloc, text),
         Some(_) => without_escapes(alloc, text),
     }
 }
 
-fn without_escapes(alloc: Global, text: &[u8]) -> Result<Text, Memory>
+fn without_escapes(alloc: Global, text: &[u8]) -> Result<Text, AllocError>
     ensures { IfOk result (λ chars. chars ≡ spec.unescaped text.now) }
 {
     let mut chars = Vec::with_capacity(alloc, text.len())?;

@@ -1,5 +1,5 @@
-use crate::Style;
-use tptp_base::{List, Place, Text};
+use crate::{Chars, Style, TokenList, Word};
+use tptp_base::Place;
 
 /// The marks.
 #[derive(Clone, Copy, PartialEq, Eq)]
@@ -52,31 +52,31 @@ pub enum Mark {
 
 /// A token. Comments are tokens too, blanks are not.
 #[derive(Drop)]
-pub enum Token {
+pub enum Token<'a> {
     /// A word that begins with a small letter.
-    Lower(Text),
+    Lower(Word<'a>),
     /// What stands between single quotes, without escapes.
-    Quoted(Text),
+    Quoted(Chars<'a>),
     /// A word that begins with a capital letter.
-    Upper(Text),
+    Upper(Word<'a>),
     /// A word that begins with `$`, that byte included.
-    Dollar(Text),
+    Dollar(Word<'a>),
     /// A word that begins with `$$`, those bytes included.
-    System(Text),
+    System(Word<'a>),
     /// A number, as it was written.
-    Number(Text),
+    Number(Word<'a>),
     /// What stands between double quotes, without escapes.
-    Distinct(Text),
+    Distinct(Chars<'a>),
     /// A comment, its first bytes included: of a line all before the line feed, of a block through `*/`.
-    Comment(Text),
+    Comment(Word<'a>),
     Mark(Mark),
 }
 
 /// The tokens of a part of a text.
 #[derive(Drop)]
-pub struct Tokens {
+pub struct Tokens<'a> {
     /// The tokens in turn, each with the place where it begins.
-    pub items: List<(Token, Place)>,
+    pub items: TokenList<'a>,
     /// The place of the part's end.
     pub end: Place,
     /// How the text was read.

@@ -21,7 +21,7 @@ use Rattle.sort_check.specs.declared.line.Line.{Line}
 use Rattle.sort_check.specs.declared.line.TextKind.TheVariants as kind
 use Rattle.sort_check.specs.Given.{given_entries}
 use Rattle.sort_check.specs.Texts.{denoted}
-use Rattle.fi_model.specs.Distinct.{as_words}
+use Rattle.tptp_lexer.specs.Words.{as_words}
 use Rattle.fi_model.specs.Interpretations.{Interpretation, is_true}
 use Rattle.fi_model.proofs.Loops.{at_member}
 use Rattle.tptp_run.specs.Denoted.{first_vocabulary, IsProblemRefusal}

@@ -17,7 +17,7 @@ use Rattle.sort_check.specs.declared.line.GivenEntry.{GivenEntry}
 use Rattle.sort_check.specs.Given.{given_entries}
 use Rattle.szs_report.specs.Region.{region_of}
 use Rattle.szs_report.specs.Report.{text_line}
-use Rattle.fi_model.specs.Distinct.{as_words}
+use Rattle.tptp_lexer.specs.Words.{as_words}
 use Rattle.fi_model.specs.declared.fault.ModelFault.{ModelFault}
 use Rattle.fi_model.specs.Faults.{IsModelFault}
 use Rattle.fi_model.specs.Interpretations.{Interpretation, is_true}

@@ -25,7 +25,7 @@ pub fn read_model_items(alloc: Global, name: &str, text: &[u8]) -> Result<List<I
     ensures cause { IfStopped result (λ stop. HasCause stop ⊥ ⊥) }
 {
     let tokens = read_model_tokens(alloc, name, text)?;
-    let words = as_words(alloc, tokens)?;
+    let words = as_words(tokens);
     match parse(alloc, &words) {
         Ok(items) => Ok(items),
         Err(fault) => Err(Halt::Refused(say_grammar_fault(alloc, name.as_bytes(), fault)?)),
@@ -33,7 +33,7 @@ pub fn read_model_items(alloc: Global, name: &str, text: &[u8]) -> Result<List<I
 }
 
 // The tokens of the text.
-fn read_model_tokens(alloc: Global, name: &str, text: &[u8]) -> Result<Tokens, Halt>
+fn read_model_tokens<'a>(alloc: Global, name: &str, text: &'a [u8]) -> Result<Tokens<'a>, Halt>
     ensures lexed { IfOk result (λ tokens. IsModelLexed text.now (Ok tokens)) }
     ensures refused { IfRefused result (λ answer. (fault : lex_fault) × IsModelLexed text.now (Err fault)
         × SaysLexFault name.now fault (ending_of answer)) }

@@ -27,7 +27,7 @@ pub fn read_items(alloc: Global, name: &str, text: &[u8]) -> Result<List<Item>, 
 }
 
 // The tokens of the text.
-fn read_tokens(alloc: Global, name: &str, text: &[u8]) -> Result<Tokens, Halt>
+fn read_tokens<'a>(alloc: Global, name: &str, text: &'a [u8]) -> Result<Tokens<'a>, Halt>
     ensures lexed { IfOk result (λ tokens. IsLexed text.now (Ok tokens)) }
     ensures refused { IfRefused result (λ answer. (fault : lex_fault) × IsLexed text.now (Err fault)
         × SaysLexFault name.now fault (ending_of answer)) }

@@ -1,39 +1,34 @@
--- What one step of the lexer does: it passes over a run of blanks, or takes the longest token at its place.
-use Rattle.std.specs.Prelude.{◌≡◌, ◌<◌, ◌≤◌, ℕ, true, List, ◌++◌, slice_range, slice_index, Result, Ok, Err}
+-- What one step of the lexer does: it passes over a run of blanks, or takes the longest token at its offset.
+use Rattle.std.specs.Prelude.{◌≡◌, ◌<◌, ◌≤◌, ℕ, false, List, ◌++◌, slice_range, Result, Ok, Err}
 use Rattle.tptp_base.specs.declared.place.Place.{Place}
-use Rattle.tptp_base.specs.Place.{place_of, is_line_feed}
+use Rattle.tptp_base.specs.Place.{place_of}
 use Rattle.tptp_lexer.specs.declared.fault.LexFault.{LexFault}
 use Rattle.tptp_lexer.specs.declared.fault.LexFault.TheVariants.{Byte, Unfinished, Limit, Memory}
+use Rattle.tptp_lexer.specs.declared.lexeme.Lexeme.{Lexeme}
 use Rattle.tptp_lexer.specs.declared.style.Style.{Style}
 use Rattle.tptp_lexer.specs.declared.token.Token.{Token}
 use Rattle.tptp_lexer.specs.Answer.{BeginsNothing, IsOpen}
 use Rattle.tptp_lexer.specs.Bytes.{Text}
 use Rattle.tptp_lexer.specs.Tokenized.{Cut, placed}
+use Rattle.tptp_lexer.specs.code.Lexemes.{items_of, Follow}
 
-abbrev pub Items : Type 0
-Items = List (Token × Place)
+-- the tokens that are found there
+abbrev pub found : ℕ → Text → List Lexeme → List (Token × Place)
+found file text list = items_of false file text list
 
--- the text from one offset up to another
-abbrev pub rest_of : Text → Place → ℕ → Text
-rest_of text place end = slice_range text place.offset end
-
--- No line feed stands from one offset up to another.
-abbrev pub IsOneLine : Text → ℕ → ℕ → Type 0
-IsOneLine text from to = (offset : ℕ) → from ≤ offset → offset < to → is_line_feed (slice_index text offset) ≡ true → ⊥
-
--- The step led from one place to the next, and added what was taken.
-pub record Takes (style : Style) (text : Text) (end : ℕ) (place next : Place) (old new : Items) : Type 0 where
-  pub more : Items
+-- The step led from one offset to the next, and added what was taken.
+pub record Takes (style : Style) (file : ℕ) (text : Text) (end at next : ℕ) (old new : List Lexeme) : Type 0 where
+  pub more : List Lexeme
   pub added : new ≡ old ++ more
-  pub cut : Cut style (placed place.file text) place.offset (rest_of text place end) more next.offset (rest_of text next end)
-  pub moves : place.offset < next.offset
-  pub within : next.offset ≤ end
-  pub is_place : next ≡ place_of place.file text next.offset
+  pub cut : Cut style (placed file text) at (slice_range text at end) (found file text more) next (slice_range text next end)
+  pub follow : Follow at more next
+  pub moves : at < next
+  pub within : next ≤ end
 
 -- what the answer of a step says
-abbrev pub Stepped : Style → Text → ℕ → Place → Items → Items → Result Place LexFault → Type 0
-Stepped style text end place old new (Ok next) = Takes style text end place next old new
-Stepped style text end place old new (Err (Byte at)) = (at ≡ place) × BeginsNothing style (rest_of text place end)
-Stepped style text end place old new (Err (Unfinished at)) = (at ≡ place) × IsOpen (rest_of text place end)
-Stepped style text end place old new (Err (Limit limit)) = ⊥
-Stepped style text end place old new (Err Memory) = Unit {0}
+abbrev pub Stepped : Style → ℕ → Text → ℕ → ℕ → List Lexeme → List Lexeme → Result ℕ LexFault → Type 0
+Stepped style file text end at old new (Ok next) = Takes style file text end at next old new
+Stepped style file text end at old new (Err (Byte place)) = (place ≡ place_of file text at) × BeginsNothing style (slice_range text at end)
+Stepped style file text end at old new (Err (Unfinished place)) = (place ≡ place_of file text at) × IsOpen (slice_range text at end)
+Stepped style file text end at old new (Err (Limit limit)) = ⊥
+Stepped style file text end at old new (Err Memory) = Unit {0}

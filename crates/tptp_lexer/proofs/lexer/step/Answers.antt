@@ -1,47 +1,34 @@
-use Rattle.std.proofs.Common.{◌+◌, ◌≤◌, refl, sym, ◌∙◌, ap, arith}
-use Rattle.tptp_base.specs.Place.{place_of}
-use Rattle.tptp_lexer.proofs.Stepping.{opens, begins_none, blanks_within, token_within, token_length, blanks_taken, token_taken}
+use Rattle.std.proofs.Common.{◌+◌, ◌≤◌, refl, sym, arith}
+use Rattle.tptp_lexer.proofs.Stepping.{opens, begins_none, blanks_within, token_within, blanks_taken, token_taken}
 use Rattle.tptp_lexer.proofs.lexer.step.Goals as goal
-use Rattle.tptp_lexer.proofs.lexer.step.Goals.{in-Blanks, in-Token+in_ok-take-in-Token}
-
-pub slice_bounds-take-end : goal.slice_bounds-take-end
-slice_bounds-take-end c = token_length c.args.style c.args.text.now c.args.end c.args.place c.requires.before c.requires.within c.in-Token.kind c.in-Token.len (sym c.in-Token.ensures)
-
-pub returns-in-Open-clause-stepped : goal.returns-in-Open-clause-stepped
-returns-in-Open-clause-stepped c = (refl, opens c.args.style c.args.text.now c.args.end c.args.place c.requires.before c.requires.within (sym c.in-Open.ensures))
-
-pub returns-in-Nothing-clause-stepped : goal.returns-in-Nothing-clause-stepped
-returns-in-Nothing-clause-stepped c = (refl, begins_none c.args.style c.args.text.now c.args.end c.args.place c.requires.before c.requires.within (sym c.in-Nothing.ensures))
 
 -- what was found lies before the end
-abbrev Within : goal.After-row_known-1 → Type 0
-Within c = c.args.place.offset + c.match-front_of.len ≤ c.args.end
+blanks_fit : (c : goal.In-Blanks) → c.args.at + c.in-Blanks.len ≤ c.args.end
+blanks_fit c = blanks_within c.args.style c.args.file c.args.text.now c.args.end c.args.at c.requires.before c.requires.within c.in-Blanks.len (sym c.in-Blanks.ensures)
 
-found_within : (c : goal.After-row_known-1) → Within c
-found_within c =
-    elim c.match-front_of.branch [
-      | in-Blanks w ↦ (let fits = blanks_within c.args.style c.args.text.now c.args.end c.args.place c.requires.before c.requires.within w.in-Blanks.len (sym w.in-Blanks.ensures) in omega (arith, w.len-is))
-      | in-Token+in_ok-take-in-Token w ↦ (let fits = token_within c.args.style c.args.text.now c.args.end c.args.place c.requires.before c.requires.within w.in-Token.kind w.in-Token.len (sym w.in-Token.ensures) in omega (arith, w.len-is))
-    ]
+token_fits : (c : goal.In-Token) → c.args.at + c.in-Token.len ≤ c.args.end
+token_fits c = token_within c.args.style c.args.file c.args.text.now c.args.end c.args.at c.requires.before c.requires.within c.in-Token.kind c.in-Token.len (sym c.in-Token.ensures)
 
-pub overflow_add-to : goal.overflow_add-to
-overflow_add-to c = let within = found_within c in grind (arith, within)
+pub overflow_add-result : goal.overflow_add-result
+overflow_add-result c = let fits = blanks_fit c in grind (arith, fits)
 
-pub advance-requires-clause-before : goal.advance-requires-clause-before
-advance-requires-clause-before c =
-    elim c.match-front_of.branch [
-      | in-Blanks w ↦ (let fits = blanks_within c.args.style c.args.text.now c.args.end c.args.place c.requires.before c.requires.within w.in-Blanks.len (sym w.in-Blanks.ensures) in omega (arith, w.len-is))
-      | in-Token+in_ok-take-in-Token w ↦ (let fits = token_within c.args.style c.args.text.now c.args.end c.args.place c.requires.before c.requires.within w.in-Token.kind w.in-Token.len (sym w.in-Token.ensures) in omega (arith, w.len-is))
-    ]
+pub overflow_cast-len : goal.overflow_cast-len
+overflow_cast-len c = let fits = token_fits c in let small = c.requires.small in grind (arith, fits, small)
 
-pub returns-clause-stepped : goal.returns-clause-stepped
-returns-clause-stepped c =
-    let text = c.args.text.now in let place = c.args.place in
-    elim c.match-front_of.branch [
-      | in-Blanks w ↦
-          blanks_taken c.args.style text c.args.end place c.requires.before c.requires.within w.in-Blanks.len c.args.items.now _ _ (sym w.in-Blanks.ensures) w.items-is
-          (c.advance.ensures.place ∙ ap (λ n. place_of place.file text (place.offset + n)) w.len-is)
-      | in-Token+in_ok-take-in-Token w ↦
-          token_taken c.args.style text c.args.end place c.requires.before c.requires.within w.in-Token.kind w.in-Token.len c.args.items.now _ _ (sym w.in-Token.ensures) (w.items-is ∙ w.in_ok-take-in-Token.ensures.ok) c.requires.placed
-          (c.advance.ensures.place ∙ ap (λ n. place_of place.file text (place.offset + n)) w.len-is)
-    ]
+pub overflow_add-result-in-Token : goal.overflow_add-result-in-Token
+overflow_add-result-in-Token c =
+    let fits = token_within c.args.style c.args.file c.args.text.now c.args.end c.args.at c.requires.before c.requires.within c.in-Token.kind c.in-Token.len (sym c.in-Token.ensures) in
+    grind (arith, fits)
+
+pub returns-in-Blanks : goal.returns-in-Blanks
+returns-in-Blanks c = blanks_taken c.args.style c.args.file c.args.text.now c.args.end c.args.at c.requires.before c.requires.within c.in-Blanks.len c.args.list.now _ (sym c.in-Blanks.ensures) refl
+
+pub returns-in_ok-push-in-Token : goal.returns-in_ok-push-in-Token
+returns-in_ok-push-in-Token c =
+    token_taken c.args.style c.args.file c.args.text.now c.args.end c.args.at c.requires.before c.requires.within c.in-Token.kind c.in-Token.len c.args.list.now _ (sym c.in-Token.ensures) c.in_ok-push-in-Token.ensures.ok
+
+pub returns-in-Open : goal.returns-in-Open
+returns-in-Open c = (c.place_at.ensures, opens c.args.style c.args.file c.args.text.now c.args.end c.args.at c.requires.before c.requires.within (sym c.in-Open.ensures))
+
+pub returns-in-Nothing : goal.returns-in-Nothing
+returns-in-Nothing c = (c.place_at-in-Nothing.ensures, begins_none c.args.style c.args.file c.args.text.now c.args.end c.args.at c.requires.before c.requires.within (sym c.in-Nothing.ensures))

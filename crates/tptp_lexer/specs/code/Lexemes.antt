@@ -1,0 +1,46 @@
+-- How a list of tokens is kept: of each, where it is spelled. Only the contracts of private functions cite it.
+use Rattle.std.specs.Prelude.{◌≡◌, ◌+◌, ◌≤◌, ℕ, Bool, if◌then◌else◌, List, [], ◌∷◌, length, map, slice_range}
+use Rattle.tptp_base.specs.declared.place.Place.{Place}
+use Rattle.tptp_base.specs.Place.{place_of}
+use Rattle.tptp_lexer.specs.declared.lexeme.Lexeme.{Lexeme}
+use Rattle.tptp_lexer.specs.declared.token.Token.{Token}
+use Rattle.tptp_lexer.specs.declared.token.Token.TheVariants as t
+use Rattle.tptp_lexer.specs.Bytes.{Text}
+use Rattle.tptp_lexer.specs.code.Scan.{token_of, unescaped}
+
+-- the characters that are written so between quotes, with the byte 0 in front where `marked` says so
+abbrev pub chars_of : Bool → Text → Text
+chars_of marked written = if marked then 0 ∷ unescaped written else unescaped written
+
+-- the bytes of its spelling
+abbrev pub spelling : Text → Lexeme → Text
+spelling text lexeme = slice_range text lexeme.at (lexeme.at + lexeme.len)
+
+-- the token, with a word in place of a distinct object where `words` says so
+abbrev pub taken : Bool → Token → Token
+taken words (t.Distinct text) = if words then t.Quoted (0 ∷ text) else t.Distinct text
+taken words (t.Lower text) = t.Lower text
+taken words (t.Quoted text) = t.Quoted text
+taken words (t.Upper text) = t.Upper text
+taken words (t.Dollar text) = t.Dollar text
+taken words (t.System text) = t.System text
+taken words (t.Number text) = t.Number text
+taken words (t.Comment text) = t.Comment text
+taken words (t.Mark mark) = t.Mark mark
+
+-- the token with its place
+abbrev pub item_of : Bool → ℕ → Text → Lexeme → Token × Place
+item_of words file text lexeme = (taken words (token_of lexeme.kind (spelling text lexeme)), place_of file text lexeme.at)
+
+abbrev pub items_of : Bool → ℕ → Text → List Lexeme → List (Token × Place)
+items_of words file text list = map (item_of words file text) list
+
+-- They follow one another, from one offset up to another.
+abbrev pub Follow : ℕ → List Lexeme → ℕ → Type 0
+Follow from [] to = from ≤ to
+Follow from (lexeme ∷ rest) to = (from ≤ lexeme.at) × Follow (lexeme.at + lexeme.len) rest to
+
+-- They follow one another in the text, behind a place of it.
+pub record IsPlaced (text : Text) (start : Place) (list : List Lexeme) : Type 0 where
+  pub is_place : start ≡ place_of start.file text start.offset
+  pub follow : Follow start.offset list (length text)

@@ -1,0 +1,11 @@
+use crate::scan::Kind;
+
+/// A token as the scanner finds it: of what kind it is, and where it is spelled.
+#[derive(Clone, Copy)]
+pub struct Lexeme {
+    pub kind: Kind,
+    /// The bytes of its spelling.
+    pub len: u32,
+    /// The bytes of the text before it.
+    pub at: u64,
+}
