@@ -1,5 +1,5 @@
 -- The parser's loop over all tokens, a token or an item at a time.
-use Rattle.std.proofs.Common.{◌≡◌, Bool, true, false, if◌then◌else◌, ℕ, zero, ◌-◌, ◌<◌, List, [], ◌∷◌, ◌++◌, length, refl, sym, subst, ap, arith}
+use Rattle.std.proofs.Common.{◌≡◌, ◌↔◌, Bool, true, false, IsTrue, if◌then◌else◌, ℕ, zero, ◌-◌, ◌<◌, List, [], ◌∷◌, ◌++◌, length, refl, sym, subst, ap, arith}
 use Rattle.tptp_lexer.specs.declared.style.Style.{Style}
 use Rattle.tptp_lexer.specs.declared.token.Token.{Token}
 use Rattle.tptp_base.specs.declared.item.Item.{Item}
@@ -20,6 +20,10 @@ module _ (style : Style) (all : List Placed) (found : List Item) (left : ℕ) (c
   kept_passed (entry ∷ others) new now more p h =
       let (is, count) = p entry others refl in
       subst (λ (ts : List Placed). Kept style all found now ts cursor) (sym is) (subst (λ n. Kept style all found n others cursor) (sym count) (passed_by entry others (is_remark entry) refl h))
+
+-- where a list is not found empty
+pub more_left : (b : Bool) (us : List Placed) → (IsTrue b ↔ (us ≡ [])) → b ≡ false → us ≡ [] → ⊥
+more_left b us h e none = let t : IsTrue b = h.1 none in cc
 
 pub passes_one : (us new : List Placed) (left now : ℕ) → (us ≡ [] → ⊥) → Passes us left new now → length new < length us
 passes_one [] new left now more p = absurd (more refl)
