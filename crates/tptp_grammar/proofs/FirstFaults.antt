@@ -14,7 +14,7 @@ use Rattle.tptp_grammar.specs.Items as g
 use Rattle.tptp_grammar.specs.Items.{IsItem}
 use Rattle.tptp_grammar.specs.Solid.{Placed, is_comment, is_remark, solid}
 use Rattle.tptp_grammar.specs.code.Solid.{BeginsSolid}
-use Rattle.tptp_grammar.specs.Files.{token, IsFile, end_of_file, comment, input, SpellsWithin}
+use Rattle.tptp_grammar.specs.Files.{IsFile, end_of_file, comment, input, SpellsWithin}
 use Rattle.tptp_grammar.specs.code.ReadItems.{item}
 use Rattle.tptp_grammar.specs.code.ReadFile.{FileOutcome, with_item, file}
 use Rattle.tptp_grammar.proofs.SolidItems.{SolidTo, none, one, of_item}

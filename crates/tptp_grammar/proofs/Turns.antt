@@ -1,5 +1,5 @@
 -- The parser's loop over all tokens, a token or an item at a time.
-use Rattle.std.proofs.Common.{◌≡◌, ◌↔◌, Bool, true, false, IsTrue, if◌then◌else◌, ℕ, zero, ◌-◌, ◌<◌, List, [], ◌∷◌, ◌++◌, length, refl, sym, subst, ap, arith}
+use Rattle.std.proofs.Common.{◌≡◌, ◌↔◌, Bool, true, false, IsTrue, if◌then◌else◌, ℕ, ◌-◌, ◌<◌, List, [], ◌∷◌, length, refl, sym, subst, ap, arith}
 use Rattle.tptp_lexer.specs.declared.style.Style.{Style}
 use Rattle.tptp_lexer.specs.declared.token.Token.{Token}
 use Rattle.tptp_base.specs.declared.item.Item.{Item}

@@ -1,6 +1,5 @@
-use Rattle.std.proofs.Common.{◌≡◌, ℕ, zero, List, [], ◌∷◌, ◌++◌, sym, subst, arith}
+use Rattle.std.proofs.Common.{◌≡◌, ℕ, zero, List, sym, subst, arith}
 use Rattle.tptp_base.specs.declared.item.Item.{Item}
-use Rattle.tptp_lexer.specs.declared.token.Token.{Token}
 use Rattle.tptp_grammar.specs.Solid.{Placed}
 use Rattle.tptp_grammar.proofs.Whole.{Kept, kept_first, kept_start}
 use Rattle.tptp_grammar.proofs.Turns.{more_left, kept_passed, passes_one}
