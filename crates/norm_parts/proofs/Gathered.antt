@@ -10,11 +10,13 @@ use Rattle.fof_terms.specs.declared.form.Form.{Form, And, All, Imp}
 use Rattle.fof_terms.specs.Lift.{lifted}
 use Rattle.fof_terms.specs.Sorts.{SortedTo, Sorted}
 use Rattle.fof_terms.proofs.SortsFacts.{binder_depth-All}
-use Rattle.fof_terms.proofs.Scoped.{raised, member_of, and_sorted, sorted_of_and, sorted_of_all, sorted_of_imp}
+use Rattle.fof_terms.proofs.Scoped.{raised, member_of, and_sorted, sorted_of_and, sorted_of_all}
 use Rattle.fof_terms.proofs.LiftingLaws.{closed_stays}
 use Rattle.fof_terms.proofs.Moved.{closed_anywhere}
 use Rattle.clause_form.specs.ClauseView.{closed_by}
 use Rattle.clause_form.specs.Norm.{norm_of}
+use Rattle.clause_form.proofs.NormFits.{norm_fits}
+use Rattle.clause_form.proofs.NormSorts.{norm_depth}
 use Rattle.clause_form.specs.Reached.{around}
 use Rattle.clause_form.specs.Sizes.{norm_size_of}
 use Rattle.clause_form.proofs.ReachedFacts.{around_length, around_append}
@@ -314,10 +316,20 @@ Back line back = (t : Statements) (v : List ℕ) (h : List Form) → length v �
 abbrev pub Applies : Proof → Proof → Proof → Type 0
 Applies implication part made = (t : Statements) (v : List ℕ) (h : List Form) (a b : Form) → Proves t v h implication (Imp a b) → Proves t v h part a → Proves t v h made b
 
-pub line_by_each : (line norm : Form) (proofs : List Proof) (back whole made : Proof) → norm ≡ norm_of true line → Back line back → ByEach norm proofs whole → Applies back whole made
+-- the line by its normal form
+abbrev pub ByNorm : Form → Proof → Proof → Type 0
+ByNorm line whole made = (t : Statements) (h : List Form) → Sorted t.vocabulary [] line → Proves t [] h whole (norm_of true line) → Proves t [] h made line
+
+pub line_by_norm : (line : Form) (back whole made : Proof) → Back line back → Applies back whole made → ByNorm line whole made
+line_by_norm line back whole made implies apply t h sorted shown = apply t [] h (norm_of true line) line (implies t [] h (omega arith) sorted) shown
+
+pub line_by_each : (line norm : Form) (proofs : List Proof) (whole made : Proof) → norm ≡ norm_of true line → ByEach norm proofs whole → ByNorm line whole made
     → (t : Statements) (h : List Form) → Sorted t.vocabulary [] line → ShowEach t h proofs (parts_of (norm_of true line)) → Proves t [] h made line
-line_by_each line norm proofs back whole made is implies by apply t h sorted each =
-    let to_line : Proves t [] h back (Imp (norm_of true line) line) = implies t [] h (omega arith) sorted in
-    let closed : Sorted t.vocabulary [] (norm_of true line) = (sorted_of_imp t.vocabulary [] 2147483647 (norm_of true line) line (shown_sorted t [] h back (Imp (norm_of true line) line) to_line)).0 in
-    let by_norm : ByEach (norm_of true line) proofs whole = subst (λ (x : Form). ByEach x proofs whole) is by in
-    apply t [] h (norm_of true line) line to_line (by_norm t h closed each)
+line_by_each line norm proofs whole made is by from t h sorted each =
+    let closed : Sorted t.vocabulary [] (norm_of true line) = record {
+      scope_fits = sorted.scope_fits;
+      few_binders = omega (arith, norm_depth line true, sorted.few_binders);
+      fits = norm_fits t.vocabulary line true [] sorted.fits;
+    } in
+    let by_whole : ByEach (norm_of true line) proofs whole = subst (λ (x : Form). ByEach x proofs whole) is by in
+    from t h sorted (by_whole t h closed each)

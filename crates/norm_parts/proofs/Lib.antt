@@ -1,7 +1,9 @@
 pub mod ClosedParts
 pub mod DecidedParts
 pub mod Gathered
+pub mod InstanceParts
 pub mod Known
 pub mod PartsFacts
 pub mod Ready
 pub mod Showing
+pub mod TogetherParts

@@ -90,6 +90,12 @@ module _ (w : Vocabulary) (parents : List Parent) where
       let parts : lent ≡ parts_of (norm_of true line) = same ∙ are ∙ ap parts_of is in
       by (theory_of w formulas) [] (full w line ready) (each_in formulas all proofs (parts_of (norm_of true line)) (subst (ShowLines w parents proofs) parts shown))
 
+  -- the line by its normal form
+  pub line_by_whole : (line norm : Form) (whole made : Proof) → IsReady w line → norm ≡ norm_of true line → ShowsLine w parents norm whole
+      → ((t : Statements) (h : List Form) → Sorted t.vocabulary [] line → Proves t [] h whole (norm_of true line) → Proves t [] h made line) → ShowsLine w parents line made
+  line_by_whole line normal whole made ready is shown by = λ formulas all.
+      by (theory_of w formulas) [] (full w line ready) (subst (λ (x : Form). Proves (theory_of w formulas) [] [] whole x) is (shown formulas all))
+
   -- One part.
   pub is_tautology : (part : Form) (just : Just) → IsShownPart w parents part just → ((a : ℕ) (path : Path) (images : List Term) → just ≡ Cover a path images → ⊥) → IsTautologyStep part
   is_tautology part (Cover a path images) h other = absurd (other a path images refl)

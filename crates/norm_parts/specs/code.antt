@@ -2,4 +2,6 @@
 pub mod Candidates
 pub mod Found
 pub mod Gathering
+pub mod Instances
 pub mod Known
+pub mod Together

@@ -55,8 +55,8 @@ fn of_norm(
     decided(alloc, signature, parents, known.as_slice(), members)
 }
 
-// The normal form of the formula, if its norm size is not over the limit.
-fn norm_within(alloc: Global, form: &Form) -> Result<Option<Boxed<Form>>, Memory>
+/// The normal form of the formula, if its norm size is not over the limit.
+pub(crate) fn norm_within(alloc: Global, form: &Form) -> Result<Option<Boxed<Form>>, Memory>
     ensures { IfOk result (λ found. MatchOption found (100000 < norm_size_of form.now) (HasNorm form.now)) }
 {
     match norm(alloc, form) {

@@ -30,8 +30,18 @@ pub fn line_of_parts(alloc: Global, line: &Form, proofs: List<Proof>) -> Result<
         → ShowEach t h proofs (parts_of (norm_of true line.now)) → Proves t [] h made line.now) }
 {
     let norm = Boxed::new(alloc, small_norm(alloc, line)?)?;
-    let back = norm_back(alloc, line)?;
     let whole = norm_of_parts(alloc, norm.get(), proofs)?;
+    line_of_norm(alloc, line, whole)
+}
+
+/// The closed line, by a proof of its normal form.
+pub(crate) fn line_of_norm(alloc: Global, line: &Form, whole: Part) -> Result<Part, Memory>
+    requires small { norm_size_of line.now ≤ 100000 }
+    requires sorted { SortedSomewhere line.now }
+    ensures { IfOk result (λ made. (t : Statements) (h : ListOf Formula) → Sorted t.vocabulary [] line.now
+        → Proves t [] h whole (norm_of true line.now) → Proves t [] h made line.now) }
+{
+    let back = norm_back(alloc, line)?;
     apply(alloc, back, whole)
 }
 

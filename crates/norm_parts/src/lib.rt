@@ -3,9 +3,11 @@
 
 mod candidates;
 mod deciding;
+mod instances;
 mod joining;
 mod proving;
 mod splitting;
+mod together;
 
 pub use deciding::by_parts;
 pub use joining::line_of_parts;

@@ -10,8 +10,9 @@ ghost use Rattle.norm_parts.specs.Shown.{IsLineByParts};
 ghost use Rattle.norm_parts.specs.code.Known.{EachReady, ShowLines};
 
 use crate::deciding::by_parts;
-use crate::joining::{line_of_parts, small_norm};
+use crate::joining::{line_of_norm, line_of_parts, small_norm};
 use crate::splitting::parts;
+use crate::together::at_once;
 use clause_form::{Parent, Path};
 use clause_rules::Just;
 use cover_proofs::by_cover;
@@ -57,6 +58,9 @@ pub fn shown_by_parts(
     ensures { IfOk result (ShowsLine signature.now parents.now line.now) }
 {
     let norm = Boxed::new(alloc, small_norm(alloc, line)?)?;
+    if let Some(whole) = at_once(alloc, signature, parents, norm.get(), justs)? {
+        return line_of_norm(alloc, line, whole);
+    }
     let members = parts(alloc, norm.get())?;
     let members = members.as_slice();
     let proofs = each_proved(alloc, signature, parents, members, justs)?;

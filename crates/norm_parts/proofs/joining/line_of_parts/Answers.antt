@@ -10,4 +10,4 @@ norm_of_parts-requires c = omega (arith, ap norm_size_of (c.get.ensures ∙ c.in
 
 pub returns : goal.returns
 returns c =
-    ok_map c.apply.result (λ made f. line_by_each c.args.line.now c.get.result.now c.args.proofs c.in_ok-back.back c.in_ok-whole.whole made (c.get.ensures ∙ c.in_ok-norm.ensures ∙ c.in_ok-small_norm.ensures) c.in_ok-back.ensures c.in_ok-whole.ensures f) c.apply.ensures
+    ok_map c.line_of_norm.result (λ made f. line_by_each c.args.line.now c.get.result.now c.args.proofs c.in_ok-whole.whole made (c.get.ensures ∙ c.in_ok-norm.ensures ∙ c.in_ok-small_norm.ensures) c.in_ok-whole.ensures f) c.line_of_norm.ensures
