@@ -2,9 +2,11 @@
 #![tactic(auto)]
 
 mod candidates;
+mod choosing;
 mod deciding;
 mod instances;
 mod joining;
+mod members;
 mod proving;
 mod splitting;
 mod together;

@@ -2,7 +2,7 @@ use Rattle.std.proofs.Common.{◌∙◌}
 use Rattle.fof_terms.specs.Scope.{scope_sorts}
 use Rattle.derive_kit.proofs.Built.{ok_map}
 use Rattle.norm_parts.proofs.TogetherParts.{some_map, other_sorted, under_other}
-use Rattle.norm_parts.proofs.together.by_other.Goals as goal
+use Rattle.norm_parts.proofs.members.by_other.Goals as goal
 
 pub along-requires : goal.along-requires
 along-requires c =

@@ -2,7 +2,7 @@ use Rattle.std.proofs.Common.{refl}
 use Rattle.fof_terms.specs.Scope.{scope_sorts}
 use Rattle.derive_kit.proofs.Built.{ok_map}
 use Rattle.norm_parts.proofs.TogetherParts.{some_map, from_literals}
-use Rattle.norm_parts.proofs.together.at_literals.Goals as goal
+use Rattle.norm_parts.proofs.members.at_literals.Goals as goal
 
 pub returns-in-Some : goal.returns-in-Some
 returns-in-Some c =

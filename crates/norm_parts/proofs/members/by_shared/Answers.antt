@@ -2,7 +2,7 @@ use Rattle.std.proofs.Common.{◌∙◌}
 use Rattle.fof_terms.specs.Scope.{scope_sorts}
 use Rattle.clause_rules.proofs.Firsts.{there_at}
 use Rattle.norm_parts.proofs.TogetherParts.{by_one, one_sorted}
-use Rattle.norm_parts.proofs.together.by_shared.Goals as goal
+use Rattle.norm_parts.proofs.members.by_shared.Goals as goal
 
 pub under-requires-clause-form : goal.under-requires-clause-form
 under-requires-clause-form c =

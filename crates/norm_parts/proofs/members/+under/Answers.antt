@@ -6,7 +6,7 @@ use Rattle.fof_terms.proofs.Reaches.{lift_fits}
 use Rattle.fof_terms.proofs.ScopeFacts.{scope_sorts-Under}
 use Rattle.kernel.specs.Proves.{over}
 use Rattle.norm_parts.proofs.TogetherParts.{inner_room, inner_sorted, moved_sorted, from_all}
-use Rattle.norm_parts.proofs.together.+under.Goals as goal
+use Rattle.norm_parts.proofs.members.+under.Goals as goal
 
 pub lift-requires : goal.lift-requires
 lift-requires t c = lift_fits c.args.signature.now (scope_sorts c.args.scope.now) c.get.result.now (subst (Sorted c.args.signature.now (scope_sorts c.args.scope.now)) (sym c.get.ensures) c.requires.form)
