@@ -38,7 +38,7 @@ pub record IsStretch (facts : List Fact) (from : List ℕ) (lits : List Lit) (s 
   pub same : HasSame lits s.lits
   pub kept : AreKept s.known
   pub leads : (t : Statements) → HoldEach t facts from → Sorted t.vocabulary [] (all_false s.lits) → LeadTo t s.lits s.steps s.known.lits
-  pub over : (P : AtomOf → Type 0) → AreOver P s.lits → FactsAreOver P facts from → AreOver P s.known.lits
+  pub over : (atoms : List AtomOf) → AreOver atoms s.lits → FactsAreOver atoms facts from → AreOver atoms s.known.lits
   pub ends : EndsIn facts from s.known.lits s.left s.last
 
 -- the proof shows that not all of the stretch's literals are false, where its steps lead to hypotheses that deny those of

@@ -1,5 +1,5 @@
 //! Clauses as facts.
-ghost use Rattle.std.specs.Prelude.{◌≡◌, IfOk};
+ghost use Rattle.std.specs.Prelude.{◌≡◌, ◌<◌, length, slice_get, IfOk, Some};
 ghost use Rattle.chain_proofs.specs.Facts.{all_false as all_are_false, denied_form as form_of_denial};
 
 use clause_form::{Lit, form_of_lit};
@@ -31,4 +31,12 @@ pub fn all_false(alloc: Global, lits: &[Lit]) -> Result<Form, Memory>
         forms.push(denied_form(alloc, lit)?)?;
     }
     Ok(Form::And(forms))
+}
+
+/// The fact at the place.
+pub fn fact_at(facts: &[Fact], place: u64) -> &Fact
+    requires { place < length facts.now }
+    ensures { slice_get facts.now place ≡ Some result.now }
+{
+    &facts[place as usize]
 }

@@ -30,8 +30,10 @@ fn wrapped(alloc: Global, steps: List<Step>, part: Part) -> Result<Part, Memory>
 {
     let mut left = steps;
     let mut made = part;
-    while let Some(Step { fact, part }) = left.pop() {
-        made = imp_e(alloc, imp_i(alloc, fact, made)?, part)?;
+    while let Some(step) = left.pop() {
+        let Step { fact, part } = step;
+        let under = imp_i(alloc, fact, made)?;
+        made = imp_e(alloc, under, part)?;
     }
     Ok(made)
 }

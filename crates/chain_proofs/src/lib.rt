@@ -5,11 +5,12 @@
 mod context;
 mod fact;
 mod finishing;
+mod keys;
 mod known;
 mod refuting;
 mod stretching;
 
-pub use fact::{Fact, all_false, denied_form};
+pub use fact::{Fact, all_false, denied_form, fact_at};
 pub use finishing::stretch_proof;
 pub use known::Known;
-pub use stretching::{Step, Stretch, stretch};
+pub use stretching::{Step, Stretch, walk_back};

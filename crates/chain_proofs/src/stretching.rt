@@ -1,13 +1,13 @@
 //! Walks over the clauses that a further one was made from, the last first. Where the literals of what comes out are
 //! false, each clause has at most one literal that is not known to be false; so that one is true, and its opposite is
 //! known to be false for the next clause, until all literals of a clause are.
-ghost use Rattle.std.specs.Prelude.{IfOk, OnOk};
+ghost use Rattle.std.specs.Prelude.{◌≡◌, ◌+◌, IfOk, OnOk};
 ghost use Rattle.chain_proofs.specs.Chains.{Derives};
 ghost use Rattle.chain_proofs.specs.Known.{AreKept};
 ghost use Rattle.chain_proofs.specs.Stretches.{IsStretch};
 ghost use Rattle.chain_proofs.specs.code.Walks.{IsAdvanced, IsMissing, IsWalk};
 
-use crate::fact::{Fact, denied_form};
+use crate::fact::{Fact, denied_form, fact_at};
 use crate::known::Known;
 use crate::refuting::refuted_by;
 use clause_form::{Lit, copy_lits};
@@ -49,7 +49,7 @@ pub(crate) struct Walk {
 }
 
 /// Walks over the clauses of these numbers, from which one with some of the literals is derived.
-pub fn stretch(
+pub fn walk_back(
     alloc: Global,
     facts: &[Fact],
     lits: &[Lit],
@@ -61,8 +61,7 @@ pub fn stretch(
     let mut known = Known::of(alloc, lits)?;
     let lits = copy_lits(alloc, known.lits.as_slice())?;
     let mut left = from;
-    let walk = walk(alloc, facts, &mut known, &mut left)?;
-    let Walk { steps, last } = walk;
+    let Walk { steps, last } = take_steps(alloc, facts, &mut known, &mut left)?;
     Ok(Stretch {
         lits,
         known,
@@ -73,7 +72,7 @@ pub fn stretch(
 }
 
 // The same from the literals that are known, each once.
-fn walk(
+fn take_steps(
     alloc: Global,
     facts: &[Fact],
     known: &mut Known,
@@ -87,7 +86,7 @@ fn walk(
     let base = known.lits.len();
     let mut steps = List::new(alloc);
     while let Some(number) = left.pop() {
-        let fact = &facts[number as usize];
+        let fact = fact_at(facts, number);
         match missing(alloc, known, fact.lits.as_slice())? {
             Some(lit) => advance(alloc, base, fact, lit, known, &mut steps)?,
             None => {
@@ -131,7 +130,7 @@ fn advance(
     ensures advanced { OnOk result
         (IsAdvanced base fact.now lit known.old.lits steps.old known.new.lits steps.new) }
 {
-    let count = known.lits.len() + 1;
+    let count = one_more(known.lits.len())?;
     let refuted = refuted_by(alloc, known, base, count, fact)?;
     let part = denial(alloc, &lit, refuted)?;
     let fact = denied_form(alloc, &lit)?;
@@ -139,4 +138,14 @@ fn advance(
         steps.push(Step { fact, part })?;
     }
     Ok(())
+}
+
+// One more. More than the type of counts has, of which no memory has any, are answered by want of memory.
+fn one_more(count: usize) -> Result<usize, Memory>
+    ensures { IfOk result (λ more. more ≡ count + 1) }
+{
+    match count.checked_add(1) {
+        Some(more) => Ok(more),
+        None => Err(Memory),
+    }
 }

@@ -34,7 +34,8 @@ pub fn decide_step(
     requires narrow { is_wide (length theory.now.vocabulary.symbols) (forms_of parents.now) line.now ≡ false }
     ensures { IfOk result (IsDecided theory.now parents.now line.now) }
 {
-    if !is_propositional_step(alloc, parents, line)? {
+    let is_propositional = is_propositional_step(alloc, parents, line)?;
+    if !is_propositional {
         return Ok(None);
     }
     let clauses = clauses_of_step(alloc, theory, parents, line)?;

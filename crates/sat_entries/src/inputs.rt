@@ -3,6 +3,7 @@ ghost use Rattle.std.specs.Prelude.{◌≡◌, length, IfOk};
 ghost use Rattle.input_proofs.specs.Formulas.{has_or as keeps_or};
 ghost use Rattle.clause_form.specs.Paths.{is_plain as plain_atom};
 ghost use Rattle.sat_entries.specs.code.Inputs.{AreStatedInputs, IsStatedIf, IsTurned, arms_of, clash_tree};
+ghost use Rattle.sat_entries.specs.code.Inputs.{contradiction_tree};
 
 use crate::placing::further;
 use chain_proofs::{Fact, all_false};
@@ -63,15 +64,27 @@ fn turned(alloc: Global, lits: &[Lit], number: u64) -> Result<Part, Memory>
     ensures { IfOk result (IsTurned lits.now number) }
 {
     let denied = all_false(alloc, lits)?;
-    let own = line(alloc, number)?;
-    let falsehood = if has_or(lits) {
-        let goal = Form::Or(List::new(alloc));
-        or_e(alloc, goal, own, arms(alloc, lits)?)?
-    } else {
-        let other = and_e(alloc, 0, hyp(alloc, 0)?)?;
-        clash(alloc, &lits[0], own, other)?
-    };
+    let falsehood = contradiction(alloc, lits, number)?;
     not_i(alloc, denied, falsehood)
+}
+
+// Falsehood by the formula of that number and the denial of all literals, as hypothesis 0.
+fn contradiction(alloc: Global, lits: &[Lit], number: u64) -> Result<Part, Memory>
+    ensures { IfOk result (λ part. part ≡ contradiction_tree lits.now number) }
+{
+    let own = line(alloc, number)?;
+    if has_or(lits) {
+        let goal = Form::Or(List::new(alloc));
+        let arms = arms(alloc, lits)?;
+        return or_e(alloc, goal, own, arms);
+    }
+    match lits.first() {
+        Some(lit) => {
+            let other = and_e(alloc, 0, hyp(alloc, 0)?)?;
+            clash(alloc, lit, own, other)
+        }
+        None => Ok(own),
+    }
 }
 
 // For each literal falsehood by it, as hypothesis 0, and by the denial of all, as hypothesis 1.

@@ -6,7 +6,7 @@ ghost use Rattle.sat_entries.specs.code.Learning.{IsShown, AreLearned};
 ghost use Rattle.sat_step.specs.Decisions.{entry_of, opposite};
 
 use crate::placing::further;
-use chain_proofs::{Fact, stretch, stretch_proof};
+use chain_proofs::{Fact, fact_at, stretch_proof, walk_back};
 use clause_form::{Lit, copy_lits};
 use kernel::Proof;
 use sat_step::Learned;
@@ -47,10 +47,10 @@ fn show(
     requires { Derives facts.now from lits.now }
     ensures { IfOk result (IsShown start facts.now from lits.now proofs.old proofs.new) }
 {
-    let stretch = stretch(alloc, facts, lits, from)?;
+    let stretch = walk_back(alloc, facts, lits, from)?;
     let lits = copy_lits(alloc, stretch.lits.as_slice())?;
     let part = match stretch.last {
-        Some(number) => stretch_proof(alloc, stretch, &facts[number as usize])?,
+        Some(number) => stretch_proof(alloc, stretch, fact_at(facts, number))?,
         None => {
             let left = List::from_slice(alloc, stretch.left.as_slice())?;
             let known = stretch.known.lits.as_slice();

@@ -23,7 +23,8 @@ pub fn is_propositional_step(
     ensures { IfOk result (λ answer. IsTrue answer ↔ IsPropositionalStep (forms_of parents.now) line.now) }
 {
     for parent in parents {
-        if !has_propositional_norm(alloc, &parent.form, true)? {
+        let own = has_propositional_norm(alloc, &parent.form, true)?;
+        if !own {
             return Ok(false);
         }
     }

@@ -42,8 +42,8 @@ impl Atoms {
     }
 }
 
-/// What the atom is found by.
-pub fn key_of(alloc: Global, atom: &AtomOf) -> Result<Vec<usize>, Memory>
+// What the atom is found by.
+fn key_of(alloc: Global, atom: &AtomOf) -> Result<Vec<usize>, Memory>
     ensures { IfOk result (λ key. key.items ≡ code_of atom.now) }
 {
     let mut key = Vec::new(alloc);

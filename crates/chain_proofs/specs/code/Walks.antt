@@ -26,7 +26,7 @@ LacksOnly known lits l = (x : Lit) → Contains lits x → (Contains known x →
 -- the literal is known too, by a step where it was not known before
 pub record IsAdvanced (base : ℕ) (f : Fact) (l : Lit) (old : List Lit) (steps : List Step) (new : List Lit) (more : List Step) : Type 0 where
   pub lits : (new ≡ old ++ l ∷ []) ⊎ ((new ≡ old) × Contains old l)
-  pub leads : (t : Statements) (first : List Lit) → length first ≡ base → Sorted t.vocabulary [] (all_false first) → Holds t f → LacksOnly old f.lits l → LeadTo t first steps old → LeadTo t first more new
+  pub leads : (t : Statements) (first : List Lit) → length first ≡ base → Sorted t.vocabulary [] (all_false first) → Holds t f → Contains f.lits (opposite l) → LacksOnly old f.lits l → LeadTo t first steps old → LeadTo t first more new
 
 -- the first steps of a walk, and what is left to walk over
 pub record IsWalked (facts : List Fact) (from : List ℕ) (first known : List Lit) (left : List ℕ) (steps : List Step) : Type 0 where
@@ -34,10 +34,10 @@ pub record IsWalked (facts : List Fact) (from : List ℕ) (first known : List Li
   pub named : (k : ℕ) → Contains left k → Contains from k
   pub fewer : length left ≤ length from
   pub leads : (t : Statements) → HoldEach t facts from → Sorted t.vocabulary [] (all_false first) → LeadTo t first steps known
-  pub over : (P : AtomOf → Type 0) → AreOver P first → FactsAreOver P facts from → AreOver P known
+  pub over : (atoms : List AtomOf) → AreOver atoms first → FactsAreOver atoms facts from → AreOver atoms known
 
 -- a walk that has come to an end, or is to go on
 pub record IsWalk (facts : List Fact) (from : List ℕ) (first known : List Lit) (left : List ℕ) (w : Walk) : Type 0 where
   pub leads : (t : Statements) → HoldEach t facts from → Sorted t.vocabulary [] (all_false first) → LeadTo t first w.steps known
-  pub over : (P : AtomOf → Type 0) → AreOver P first → FactsAreOver P facts from → AreOver P known
+  pub over : (atoms : List AtomOf) → AreOver atoms first → FactsAreOver atoms facts from → AreOver atoms known
   pub ends : EndsIn facts from known left w.last

@@ -1,5 +1,5 @@
 -- Clauses of a log as facts, each by the facts before it.
-use Rattle.std.specs.Prelude.{ℕ, ◌≡◌, ◌≤◌, ◌++◌, List, [], length, map, Some, slice_get}
+use Rattle.std.specs.Prelude.{ℕ, ◌≡◌, ◌+◌, ◌≤◌, ◌++◌, List, [], length, map, Some, slice_get}
 use Rattle.std.specs.List.{Contains}
 use Rattle.fof_terms.specs.Sorts.{Sorted}
 use Rattle.fof_terms.specs.declared.form.Form.{Form}
@@ -20,27 +20,28 @@ use Rattle.sat_entries.specs.code.Naming.{IsNamed}
 abbrev pub FactsStand : Setting → List Form → List Fact → (ℕ → Type 0) → Type 0
 FactsStand s forms facts Named = (k : ℕ) (f : Fact) → Named k → slice_get facts k ≡ Some f → StandsAt s forms f.number (not_all_false f.lits)
 
--- and their atoms have the property
-abbrev pub FactsHave : (AtomOf → Type 0) → List Fact → (ℕ → Type 0) → Type 0
-FactsHave P facts Named = (k : ℕ) (f : Fact) → Named k → slice_get facts k ≡ Some f → AreOver P f.lits
+-- and their atoms are among these
+abbrev pub FactsHave : List AtomOf → List Fact → (ℕ → Type 0) → Type 0
+FactsHave atoms facts Named = (k : ℕ) (f : Fact) → Named k → slice_get facts k ≡ Some f → AreOver atoms f.lits
 
--- that not all of some literals are false, whose atoms have the property
-abbrev pub IsStated : (AtomOf → Type 0) → Form → Type 0
-IsStated P a = (lits : List Lit) × AreOver P lits × (a ≡ not_all_false lits)
+-- that not all of some literals are false, whose atoms are among these
+abbrev pub IsStated : List AtomOf → Form → Type 0
+IsStated atoms a = (lits : List Lit) × AreOver atoms lits × (a ≡ not_all_false lits)
 
--- atoms with the property are well-sorted
-abbrev pub AreSortedBy : Setting → (AtomOf → Type 0) → Type 0
-AreSortedBy s P = (a : AtomOf) → P a → Sorted s.vocabulary [] (form_of_atom a)
+-- the atoms are well-sorted
+abbrev pub AreSorted : Setting → List AtomOf → Type 0
+AreSorted s atoms = (a : AtomOf) → Contains atoms a → Sorted s.vocabulary [] (form_of_atom a)
 
 -- Where the first proofs show facts, among which those of these numbers stand, the second ones show those and more, and
 -- then this one.
 pub record IsShown (start : ℕ) (facts : List Fact) (from : List ℕ) (lits : List Lit) (old new : List Proof) (fact : Fact) : Type 0 where
   pub same : HasSame lits fact.lits
-  pub shows : (s : Setting) (P : AtomOf → Type 0) → first_fact s ≡ start → AreSortedBy s P → AreOver P lits → FactsHave P facts (Contains from) → (forms : List Form) → AreShown s old forms → FactsStand s forms facts (Contains from)
-      → (all : List Form) × ShowMore s (IsStated P) new forms all × StandsAt s all fact.number (not_all_false fact.lits)
+  pub shows : (s : Setting) (atoms : List AtomOf) → first_fact s ≡ start → AreSorted s atoms → AreOver atoms lits → FactsHave atoms facts (Contains from) → (forms : List Form) → AreShown s old forms → FactsStand s forms facts (Contains from)
+      → (all : List Form) × ShowMore s (IsStated atoms) new forms all × StandsAt s all fact.number (not_all_false fact.lits)
 
 -- the same of all clauses of the log
 pub record AreLearned (start : ℕ) (log : List Learned) (facts more : List Fact) (old new : List Proof) : Type 0 where
   pub stated : AreStated (map (λ f. f.lits) facts ++ map (λ e. e.lits) log) more
-  pub shows : (s : Setting) (P : AtomOf → Type 0) → first_fact s ≡ start → AreSortedBy s P → FactsHave P facts (IsNamed log) → (forms : List Form) → AreShown s old forms → FactsStand s forms facts (IsNamed log)
-      → (all : List Form) × ShowMore s (IsStated P) new forms all × ((k : ℕ) (f : Fact) → length facts ≤ k → slice_get more k ≡ Some f → StandsAt s all f.number (not_all_false f.lits))
+  pub count : length more ≡ length facts + length log
+  pub shows : (s : Setting) (atoms : List AtomOf) → first_fact s ≡ start → AreSorted s atoms → FactsHave atoms facts (IsNamed log) → (forms : List Form) → AreShown s old forms → FactsStand s forms facts (IsNamed log)
+      → (all : List Form) × ShowMore s (IsStated atoms) new forms all × ((k : ℕ) (f : Fact) → length facts ≤ k → slice_get more k ≡ Some f → StandsAt s all f.number (not_all_false f.lits))

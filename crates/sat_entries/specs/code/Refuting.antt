@@ -13,7 +13,7 @@ use Rattle.search_proofs.specs.code.Facts.{AreShown, Setting, first_fact}
 use Rattle.search_proofs.specs.code.Members.{ShowFalsehoodLast}
 use Rattle.search_proofs.specs.code.Placed.{numbers_from, there}
 use Rattle.sat_entries.specs.code.Inputs.{WantedHave, WantedStand}
-use Rattle.sat_entries.specs.code.Learning.{AreSortedBy, IsStated}
+use Rattle.sat_entries.specs.code.Learning.{AreSorted, IsStated}
 use Rattle.sat_entries.specs.code.Naming.{IsMarked, IsNamed}
 
 -- the proof shows falsehood wherever the formula of this number says that not all of no literals are false
@@ -21,8 +21,8 @@ abbrev pub IsFalsehoodBy : ℕ → Proof → Type 0
 IsFalsehoodBy n p = (t : Statements) → Sorted t.vocabulary [] (not_all_false []) → slice_get t.formulas n ≡ Some (not_all_false []) → Proves t [] [] p (Or [])
 
 -- the formula is a clause as a fact, or falsehood
-abbrev pub IsLater : (AtomOf → Type 0) → Form → Type 0
-IsLater P a = IsStated P a ⊎ (a ≡ Or [])
+abbrev pub IsLater : List AtomOf → Form → Type 0
+IsLater atoms a = IsStated atoms a ⊎ (a ≡ Or [])
 
 -- the clauses that the log names are marked
 abbrev pub NamedAreMarked : List Clause → List Bool → List Learned → Type 0
@@ -32,5 +32,5 @@ NamedAreMarked clauses wanted log = (k : ℕ) → IsNamed log k → k < length c
 -- show more, and falsehood at last.
 abbrev pub LeadToFalsehood : ℕ → List Proof → List (Option Proof) → List Clause → List Bool → List Learned → List Proof → Type 0
 LeadToFalsehood start opened inputs clauses wanted log proofs =
-    NamedAreMarked clauses wanted log → (s : Setting) (P : AtomOf → Type 0) → first_fact s ≡ start → AreSortedBy s P → WantedHave P clauses wanted → (forms : List Form) → AreShown s (opened ++ there inputs) forms
-    → WantedStand s forms clauses wanted (numbers_from (start + length opened) inputs) → ShowFalsehoodLast s (IsLater P) proofs forms
+    NamedAreMarked clauses wanted log → (s : Setting) (atoms : List AtomOf) → first_fact s ≡ start → AreSorted s atoms → WantedHave atoms clauses wanted → (forms : List Form) → AreShown s (opened ++ there inputs) forms
+    → WantedStand s forms clauses wanted (numbers_from (start + length opened) inputs) → ShowFalsehoodLast s (IsLater atoms) proofs forms

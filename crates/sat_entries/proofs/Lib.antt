@@ -1,0 +1,10 @@
+pub mod Admitted
+pub mod InputFacts
+pub mod Lacking
+pub mod LearningFacts
+pub mod LogFacts
+pub mod NamingFacts
+pub mod PlainSteps
+pub mod PropositionalFacts
+pub mod RefutingFacts
+pub mod Whole
