@@ -12,10 +12,10 @@ use Rattle.split_defs.specs.SplitRule.{IsSplitStep}
 use Rattle.clause_form.specs.Paths.{forms_of}
 use Rattle.elaborate.specs.declared.answer.Rule.{Rule}
 use Rattle.elaborate.specs.declared.answer.Rule.TheVariants.{Norm, Cover, Tautology, Resolution, Paramodulation}
-use Rattle.elaborate.specs.declared.answer.Rule.TheVariants.{EqFactor, Rewrite, Split, Skolem, Definition, Choice, Search}
+use Rattle.elaborate.specs.declared.answer.Rule.TheVariants.{EqFactor, Rewrite, Split, Skolem, Definition, Choice, Search, Sat}
 
 -- With the symbols of the theory, and its formulas as those in which a new symbol occurs nowhere, the rule gives the
--- line from some of the parents. A search is no rule of this kind.
+-- line from some of the parents. A search and a decision are no rules of this kind.
 abbrev pub Applies : Statements → List Parent → Form → Rule → Type 0
 Applies t parents line Norm = Gives t.vocabulary parents line norm
 Applies t parents line Cover = Gives t.vocabulary parents line cover
@@ -29,6 +29,7 @@ Applies t parents line Skolem = IsSkolemStep t (forms_of parents) line
 Applies t parents line Definition = IsDefinitionStep t line
 Applies t parents line Choice = IsChoiceStep t line
 Applies t parents line Search = ⊥
+Applies t parents line Sat = ⊥
 
 -- the rules that are recognised by shape, in the order in which they are tried
 abbrev pub shape_rules : List Rule

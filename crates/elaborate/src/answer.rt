@@ -32,9 +32,12 @@ pub enum Rule {
     /// `search`: no other rule gives the line, and it follows part by part from its parents, or with new functions in
     /// place of a parent's existential variables, or a search refutes the clauses of its parents and of its negation.
     Search,
+    /// `sat`: no other rule gives the line, nor does a search, and the step is propositional and its parents entail it.
+    Sat,
 }
 
-/// Why a line isn't verified. No reason says that functions with which it follows could not be found.
+/// Why a line isn't verified. No reason says that functions with which it follows could not be found. `Dry`, `Full` and
+/// `Heavy` also say that the step is not propositional, or that its parents do not entail the line.
 #[derive(Clone, Copy, PartialEq, Eq)]
 pub enum Reason {
     /// `dry`: the search made all clauses that are to be made, and none is empty.
@@ -52,13 +55,13 @@ pub enum Reason {
 /// The answer to one line of a derivation.
 #[derive(Drop)]
 pub enum StepAnswer {
-    /// The first rule that gives the line or, where none does, `Search`; the numbers of the formulas of the theory that
-    /// the line cites; and the entries that derive it, the last of which adds it.
+    /// The first rule that gives the line or, where none does, `Search` or `Sat`; the numbers of the formulas of the
+    /// theory that the line cites; and the entries that derive it, the last of which adds it.
     Accepted {
         rule: Rule,
         cites: List<u64>,
         entries: List<Entry>,
     },
-    /// No rule gives the line, it does not follow part by part, and no search refutes its clauses.
+    /// No rule gives the line, it does not follow part by part, no search refutes its clauses, and no decision does.
     Unverified(Reason),
 }

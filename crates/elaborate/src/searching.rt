@@ -1,15 +1,15 @@
 // Lines that no rule gives.
-ghost use Rattle.std.specs.Prelude.{◌≡◌, ◌∷◌, [], length, IfOk};
+ghost use Rattle.std.specs.Prelude.{◌≡◌, ◌∷◌, [], false, length, IfOk};
 ghost use Rattle.clause_form.specs.Paths.{forms_of};
 ghost use Rattle.clause_rules.specs.Steps.{AreReady, IsReady};
 ghost use Rattle.derive_kit.specs.Derived.{AreOfTheory, numbers_of};
 ghost use Rattle.elaborate.specs.Answers.{IsSearchAnswer};
-ghost use Rattle.elaborate.specs.code.Proofs.{IsFoundAtOnce};
-ghost use Rattle.elaborate.specs.declared.answer.Rule.TheVariants.{Search};
+ghost use Rattle.elaborate.specs.code.Proofs.{IsFoundAtOnce, IsOpenAnswer};
 ghost use Rattle.elaborate.specs.declared.answer.StepAnswer.TheVariants.{Accepted};
 ghost use Rattle.kernel.specs.Statements.{AreClosed};
 ghost use Rattle.kernel.specs.declared.entry.Entry.TheVariants.{Lemma};
 ghost use Rattle.step_clauses.specs.Room.{HasRoom};
+ghost use Rattle.step_clauses.specs.Wide.{is_wide};
 
 use crate::answer::{Reason, Rule, StepAnswer};
 use clause_form::Parent;
@@ -19,12 +19,13 @@ use function_choices::clausified;
 use kernel::Entry;
 use norm_parts::line_by_parts;
 use proof_check::Theory;
+use sat_entries::decide_step;
 use std::alloc::Global;
 use step_search::{Searched, searched};
 use tptp_base::{List, Memory};
 
 /// The answer to a line that no rule gives: part by part from the parents, or with new functions in place of a parent's
-/// existential variables, or else by a search under the limit.
+/// existential variables, or by a search under the limit, or else as a propositional step that is decided.
 pub fn by_search(
     alloc: Global,
     theory: &Theory,
@@ -40,14 +41,37 @@ pub fn by_search(
     ensures { IfOk result (IsSearchAnswer theory.now parents.now line.now limit) }
 {
     if let Some(entries) = found_at_once(alloc, theory, parents, line)? {
-        return found(alloc, parents, entries);
+        return citing_all(alloc, parents, Rule::Search, entries);
     }
     match searched(alloc, theory, parents, line, limit)? {
-        Searched::Refuted(entries) => found(alloc, parents, entries),
-        Searched::Dry => Ok(StepAnswer::Unverified(Reason::Dry)),
-        Searched::Full => Ok(StepAnswer::Unverified(Reason::Full)),
-        Searched::Heavy => Ok(StepAnswer::Unverified(Reason::Heavy)),
+        Searched::Refuted(entries) => citing_all(alloc, parents, Rule::Search, entries),
+        Searched::Dry => decided(alloc, theory, parents, line, Reason::Dry),
+        Searched::Full => decided(alloc, theory, parents, line, Reason::Full),
+        Searched::Heavy => decided(alloc, theory, parents, line, Reason::Heavy),
         Searched::Wide => Ok(StepAnswer::Unverified(Reason::Wide)),
+    }
+}
+
+// The answer to a line of a step that is not wide and that a search leaves open for this reason. A propositional step is
+// decided, and the reason stays only where the parents do not entail the line.
+fn decided(
+    alloc: Global,
+    theory: &Theory,
+    parents: &[Parent],
+    line: &Form,
+    reason: Reason,
+) -> Result<StepAnswer, Memory>
+    requires parents { AreOfTheory theory.now parents.now }
+    requires ready { AreReady theory.now.vocabulary parents.now }
+    requires line { IsReady theory.now.vocabulary line.now }
+    requires closed { AreClosed theory.now }
+    requires room { HasRoom (length theory.now.vocabulary.symbols) (forms_of parents.now) line.now }
+    requires narrow { is_wide (length theory.now.vocabulary.symbols) (forms_of parents.now) line.now ≡ false }
+    ensures { IfOk result (IsOpenAnswer theory.now parents.now line.now reason) }
+{
+    match decide_step(alloc, theory, parents, line)? {
+        Some(entries) => citing_all(alloc, parents, Rule::Sat, entries),
+        None => Ok(StepAnswer::Unverified(reason)),
     }
 }
 
@@ -71,20 +95,25 @@ fn found_at_once(
     clausified(alloc, theory, parents, line)
 }
 
-// The answer that the line is accepted with these entries, citing all parents.
-fn found(alloc: Global, parents: &[Parent], entries: List<Entry>) -> Result<StepAnswer, Memory>
-    ensures { IfOk result (λ answer. answer ≡ Accepted Search (numbers_of parents.now) entries) }
+/// The answer that the line is accepted by the rule, with these entries, citing all parents.
+pub fn citing_all(
+    alloc: Global,
+    parents: &[Parent],
+    rule: Rule,
+    entries: List<Entry>,
+) -> Result<StepAnswer, Memory>
+    ensures { IfOk result (λ answer. answer ≡ Accepted rule (numbers_of parents.now) entries) }
 {
     let cites = numbers(alloc, parents)?;
     Ok(StepAnswer::Accepted {
-        rule: Rule::Search,
+        rule,
         cites,
         entries,
     })
 }
 
-/// The numbers of the parents.
-pub fn numbers(alloc: Global, parents: &[Parent]) -> Result<List<u64>, Memory>
+// The numbers of the parents.
+fn numbers(alloc: Global, parents: &[Parent]) -> Result<List<u64>, Memory>
     ensures { IfOk result (λ cites. cites ≡ numbers_of parents.now) }
 {
     let mut cites = List::new(alloc);

@@ -11,7 +11,7 @@ ghost use Rattle.step_clauses.specs.Room.{HasRoom};
 
 use crate::answer::{Rule, StepAnswer};
 use crate::naming::{chosen, defined, skolemized, split};
-use crate::searching::{by_search, lemma, numbers};
+use crate::searching::{by_search, citing_all, lemma};
 use clause_form::Parent;
 use cover_proofs::{by_cover, by_norm};
 use derive_kit::Part;
@@ -22,11 +22,13 @@ use rule_proofs::{by_eqfactor, by_paramodulation, by_resolution, by_rewrite, by_
 use std::alloc::Global;
 use tptp_base::{List, Memory};
 
-/// The first rule by which the line follows from some of the parents or, where there is none, `Search`, with entries
-/// that derive the line: they are legal in turn after the theory, and the last adds the line. They need no formula of
-/// the theory but the parents, which the line cites. By `Search` it follows part by part from the parents, or with new
-/// functions in place of a parent's existential variables, or by a refutation of the clauses of all the parents and of
-/// its negation. Where it is found in none of these ways, the reason says how the search ended.
+/// The first rule by which the line follows from some of the parents or, where there is none, `Search` or `Sat`, with
+/// entries that derive the line: they are legal in turn after the theory, and the last adds the line. They need no
+/// formula of the theory but the parents, which the line cites. By `Search` it follows part by part from the parents, or
+/// with new functions in place of a parent's existential variables, or by a refutation of the clauses of all the parents
+/// and of its negation. Where it is found in none of these ways, a propositional step is decided: by `Sat` the line is
+/// derived by a decision of those clauses. Else the reason says how the search ended, and that the step is not
+/// propositional or that the parents do not entail the line.
 ///
 /// The search makes at most `limit` clauses. There must be room for its functions.
 pub fn step(
@@ -156,11 +158,6 @@ fn accepted(alloc: Global, parents: &[Parent], found: Found) -> Result<StepAnswe
 fn by_entries(alloc: Global, parents: &[Parent], derived: Derived) -> Result<StepAnswer, Memory>
     ensures { IfOk result (λ answer. answer ≡ Accepted derived.rule (numbers_of parents.now) derived.entries) }
 {
-    let cites = numbers(alloc, parents)?;
     let Derived { rule, entries } = derived;
-    Ok(StepAnswer::Accepted {
-        rule,
-        cites,
-        entries,
-    })
+    citing_all(alloc, parents, rule, entries)
 }

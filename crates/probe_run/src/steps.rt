@@ -17,7 +17,7 @@ use tptp_base::Memory;
 
 /// Answers steps and leaves.
 pub trait Answering {
-    /// The first rule by which the line follows from some parents, or else `Search`, with entries that derive it.
+    /// The first rule by which the line follows from some parents, or else `Search` or `Sat`, with entries that derive it.
     fn step(
         alloc: Global,
         theory: &Theory,
@@ -32,8 +32,8 @@ pub trait Answering {
         requires room { HasRoom (length theory.now.vocabulary.symbols) (forms_of parents.now) line.now }
         ensures { IfOk result (IsStepAnswer theory.now parents.now line.now limit) };
 
-    /// The first rule for leaves by which the line follows from one of the candidates, or else `Search`, with entries
-    /// that derive it.
+    /// The first rule for leaves by which the line follows from one of the candidates, or else `Search` or `Sat`, with
+    /// entries that derive it.
     fn leaf(
         alloc: Global,
         theory: &Theory,

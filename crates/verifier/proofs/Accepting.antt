@@ -9,6 +9,7 @@ use Rattle.kernel.specs.Statements.{Statements}
 use Rattle.kernel.specs.declared.entry.Entry.{Entry}
 use Rattle.elaborate.specs.ByRule.{rules, leaf_rules}
 use Rattle.elaborate.specs.declared.answer.Rule.{Rule}
+use Rattle.elaborate.specs.declared.answer.Rule.TheVariants.{Search, Sat}
 use Rattle.elaborate.specs.declared.answer.StepAnswer.TheVariants as step
 use Rattle.tstp_graph.specs.declared.shape.Ref.{Ref}
 use Rattle.tstp_graph.specs.declared.shape.Ref.TheVariants as ref
@@ -56,14 +57,18 @@ kind_follows true t u given cited refs parents form rule cites same (i, c, there
   ),
 )
 
--- a line that is accepted, and not by a search, is accepted by a rule
+-- a line that is accepted, and neither by a search nor by a decision, is accepted by a rule
 pub not_searched : (is_leaf : Bool) (t : Statements) (d : Derivation) (cited : Bool) (parents : List Parent) (form : Form) (rule : Rule) (cites : List ℕ) (entries : List Entry) → IsUnsearched (Accepted rule cites) → AnswersKind is_leaf t d cited parents form (step.Accepted rule cites entries)
     → ByARule is_leaf t d.given cited parents form rule cites entries
 not_searched is_leaf t d cited parents form rule cites entries direct answers = by (kind_ways is_leaf t d cited parents form rule cites entries answers)
   where
+    neither : (rule ≡ Search) ⊎ (rule ≡ Sat) → ⊥
+    neither (inl is) = direct.0 is
+    neither (inr is) = direct.1 is
+
     by : ByARule is_leaf t d.given cited parents form rule cites entries ⊎ ByASearch is_leaf t d.given cited parents form rule cites entries → ByARule is_leaf t d.given cited parents form rule cites entries
     by (inl ruled) = ruled
-    by (inr found) = absurd (direct found.rule_is)
+    by (inr found) = absurd (neither found.rule_is)
 
 -- A line that is accepted follows, and what it cites by its text is marked where what the answer cites is.
 record IsFollowed (v : Vocabulary) (d : Derivation) (taken : List ℕ) (earlier : List Form) (place : ℕ) (line : Line) (answer : LineAnswer) (new : Progress) : Type 0 where

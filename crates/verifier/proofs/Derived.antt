@@ -12,11 +12,11 @@ use Rattle.kernel.specs.declared.entry.Decl.TheVariants as decl
 use Rattle.derive_kit.specs.Derived.{IsDerivedFrom, numbers_of, with_formulas}
 use Rattle.derive_kit.proofs.DerivedFacts.{derived_adds, has_its_own}
 use Rattle.elaborate.specs.ByRule.{ByRule, ByNone, LeafRule, ByNoLeafRule}
-use Rattle.elaborate.specs.Answers.{IsFoundFrom, IsSearchAnswer}
+use Rattle.elaborate.specs.Answers.{IsDecidedFrom, IsFoundFrom, IsSearchAnswer}
 use Rattle.elaborate.specs.declared.answer.Reason.{Reason}
 use Rattle.elaborate.specs.declared.answer.Reason.TheVariants.{Leaf}
 use Rattle.elaborate.specs.declared.answer.Rule.{Rule}
-use Rattle.elaborate.specs.declared.answer.Rule.TheVariants.{Search}
+use Rattle.elaborate.specs.declared.answer.Rule.TheVariants.{Search, Sat}
 use Rattle.elaborate.specs.declared.answer.StepAnswer.{StepAnswer}
 use Rattle.elaborate.specs.declared.answer.StepAnswer.TheVariants as step
 use Rattle.proof_log.proofs.OneTheory.{one_admitted}
@@ -46,11 +46,12 @@ pub record ByARule (is_leaf : Bool) (t : Statements) (given : List Form) (cited 
   pub ruled : IsRuled is_leaf t given cited parents form rule cites
   pub derived : IsDerivedFrom t cites entries form
 
--- Where no rule gives the line: with entries that derive it, part by part or by new functions, or with those of a search.
+-- Where no rule gives the line: with entries that derive it, part by part, by new functions or by a decision, or with
+-- those of a search.
 pub record ByASearch (is_leaf : Bool) (t : Statements) (given : List Form) (cited : Bool) (parents : List Parent) (form : Form) (rule : Rule) (cites : List ℕ) (entries : List Entry) : Type 0 where
   pub unruled : IsUnruled is_leaf t given cited parents form
   pub may : (is_leaf ≡ false) ⊎ (cited ≡ true)
-  pub rule_is : rule ≡ Search
+  pub rule_is : (rule ≡ Search) ⊎ (rule ≡ Sat)
   pub cites_are : cites ≡ numbers_of (sources_of is_leaf given cited parents)
   pub found : IsDerivedFrom t (numbers_of (sources_of is_leaf given cited parents)) entries form ⊎ IsSearchedFrom t (sources_of is_leaf given cited parents) entries form
 
@@ -59,14 +60,21 @@ found_ways t sources form limit entries (inl by_parts) = inl by_parts.1
 found_ways t sources form limit entries (inr (inl by_functions)) = inl by_functions.derives
 found_ways t sources form limit entries (inr (inr searched)) = inr searched.1
 
+given_ways : (t : Statements) (sources : List Parent) (form : Form) (limit : ℕ) (rule : Rule) (entries : List Entry) → ((rule ≡ Search) × IsFoundFrom t sources form limit entries) ⊎ ((rule ≡ Sat) × IsDecidedFrom t sources form limit entries)
+    → ((rule ≡ Search) ⊎ (rule ≡ Sat)) × (IsDerivedFrom t (numbers_of sources) entries form ⊎ IsSearchedFrom t sources entries form)
+given_ways t sources form limit rule entries (inl (is, found)) = (inl is, found_ways t sources form limit entries found)
+given_ways t sources form limit rule entries (inr (is, decided)) = (inr is, inl decided.entailed.derived)
+
 pub kind_ways : (is_leaf : Bool) (t : Statements) (d : Derivation) (cited : Bool) (parents : List Parent) (form : Form) (rule : Rule) (cites : List ℕ) (entries : List Entry) → AnswersKind is_leaf t d cited parents form (step.Accepted rule cites entries)
     → ByARule is_leaf t d.given cited parents form rule cites entries ⊎ ByASearch is_leaf t d.given cited parents form rule cites entries
 kind_ways true t d cited parents form rule cites entries (inl (i, c, there, by, is, derived)) = inl (record { ruled = (i, c, there, by, is); derived = derived })
-kind_ways true t d cited parents form rule cites entries (inr (none, is_cited, (rule_is, cites_are, found))) =
-    inr (record { unruled = none; may = inr is_cited; rule_is = rule_is; cites_are = cites_are; found = found_ways t (candidates_of d.given cited parents) form d.limit entries found })
+kind_ways true t d cited parents form rule cites entries (inr (none, is_cited, (cites_are, given))) =
+    let ways = given_ways t (candidates_of d.given cited parents) form d.limit rule entries given in
+    inr (record { unruled = none; may = inr is_cited; rule_is = ways.0; cites_are = cites_are; found = ways.1 })
 kind_ways false t d cited parents form rule cites entries (inl (by, is, derived)) = inl (record { ruled = (by, is); derived = derived })
-kind_ways false t d cited parents form rule cites entries (inr (none, (rule_is, cites_are, found))) =
-    inr (record { unruled = none; may = inl refl; rule_is = rule_is; cites_are = cites_are; found = found_ways t parents form d.limit entries found })
+kind_ways false t d cited parents form rule cites entries (inr (none, (cites_are, given))) =
+    let ways = given_ways t parents form d.limit rule entries given in
+    inr (record { unruled = none; may = inl refl; rule_is = ways.0; cites_are = cites_are; found = ways.1 })
 
 -- no rule gives a line that is not verified
 pub kind_unruled : (is_leaf : Bool) (t : Statements) (d : Derivation) (cited : Bool) (parents : List Parent) (form : Form) (reason : Reason) → AnswersKind is_leaf t d cited parents form (step.Unverified reason) → IsUnruled is_leaf t d.given cited parents form

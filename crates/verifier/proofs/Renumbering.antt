@@ -17,7 +17,7 @@ use Rattle.split_defs.specs.SplitRule.{IsSplitStep}
 use Rattle.clause_form.specs.Paths.{forms_of}
 use Rattle.elaborate.specs.ByRule.{Applies, IsFirst, GivesAlone, GivesNowhere, IsFirstAlone}
 use Rattle.elaborate.specs.declared.answer.Rule.{Rule}
-use Rattle.elaborate.specs.declared.answer.Rule.TheVariants.{Norm, Cover, Tautology, Resolution, Paramodulation, EqFactor, Rewrite, Split, Skolem, Definition, Choice, Search}
+use Rattle.elaborate.specs.declared.answer.Rule.TheVariants.{Norm, Cover, Tautology, Resolution, Paramodulation, EqFactor, Rewrite, Split, Skolem, Definition, Choice, Search, Sat}
 use Rattle.verifier.proofs.Symbols.{SameSymbols, other_way}
 
 -- both have the same formulas
@@ -170,6 +170,7 @@ holds_alike t u line Skolem ps qs same alike holds = skolem_alike t u same.vocab
 holds_alike t u line Definition ps qs same alike holds = definition_alike t u line same.vocabulary same.forth holds
 holds_alike t u line Choice ps qs same alike holds = choice_alike t u same.vocabulary same.forth line holds
 holds_alike t u line Search ps qs same alike holds = absurd holds
+holds_alike t u line Sat ps qs same alike holds = absurd holds
 
 -- nor does it hold there where it does not here
 fails_alike : (t u : Statements) (line : Form) (rule : Rule) (ps qs : List Parent) → SameSymbols t u → Alike ps qs → (Applies t ps line rule → ⊥) → Applies u qs line rule → ⊥

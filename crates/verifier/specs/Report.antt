@@ -6,7 +6,7 @@ use Rattle.tptp_base.specs.declared.name.Name.{Name}
 use Rattle.fof_terms.specs.declared.form.Form.{Form, Or}
 use Rattle.elaborate.specs.declared.answer.Rule.{Rule}
 use Rattle.elaborate.specs.declared.answer.Rule.TheVariants.{Norm, Cover, Tautology, Resolution, Paramodulation}
-use Rattle.elaborate.specs.declared.answer.Rule.TheVariants.{EqFactor, Rewrite, Split, Skolem, Definition, Choice, Search}
+use Rattle.elaborate.specs.declared.answer.Rule.TheVariants.{EqFactor, Rewrite, Split, Skolem, Definition, Choice, Search, Sat}
 use Rattle.elaborate.specs.declared.answer.Reason.{Reason}
 use Rattle.elaborate.specs.declared.answer.Reason.TheVariants.{Dry, Full, Heavy, Wide, Leaf}
 use Rattle.szs_report.specs.Report.{line_text, verdict_text}
@@ -33,6 +33,7 @@ rule_name Skolem = codes "skolem"
 rule_name Definition = codes "definition"
 rule_name Choice = codes "choice"
 rule_name Search = codes "search"
+rule_name Sat = codes "sat"
 
 -- the printed name of a reason
 abbrev pub reason_name : Reason → List ℕ

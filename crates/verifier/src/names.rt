@@ -25,6 +25,7 @@ pub fn rule_name(rule: Rule) -> &'static [u8]
         Rule::Definition => b"definition",
         Rule::Choice => b"choice",
         Rule::Search => b"search",
+        Rule::Sat => b"sat",
     }
 }
 

@@ -10,11 +10,14 @@ use Rattle.kernel.specs.declared.proof.Proof.{Proof}
 use Rattle.clause_proofs.specs.Shown.{ShowsLine}
 use Rattle.clausified_steps.specs.Clausified.{IsClausifiedBy}
 use Rattle.norm_parts.specs.ByParts.{ByParts}
-use Rattle.elaborate.specs.Answers.{IsSearchAnswer}
+use Rattle.sat_entries.specs.Decided.{IsEntailed}
+use Rattle.elaborate.specs.Answers.{IsNotEntailed, IsSearchAnswer}
 use Rattle.elaborate.specs.ByRule.{IsFirst, IsNone, shape_rules, symbol_rules}
+use Rattle.elaborate.specs.declared.answer.Reason.{Reason}
 use Rattle.elaborate.specs.declared.answer.Reason.TheVariants.{Leaf}
+use Rattle.elaborate.specs.declared.answer.Rule.TheVariants.{Sat}
 use Rattle.elaborate.specs.declared.answer.StepAnswer.{StepAnswer}
-use Rattle.elaborate.specs.declared.answer.StepAnswer.TheVariants.{Unverified}
+use Rattle.elaborate.specs.declared.answer.StepAnswer.TheVariants.{Accepted, Unverified}
 use Rattle.elaborate.specs.declared.leaves.FromOne.{FromOne}
 use Rattle.elaborate.specs.declared.steps.Derived.{Derived}
 use Rattle.elaborate.specs.declared.steps.Found.{Found}
@@ -71,6 +74,11 @@ IsByEntries t cites line holds (Some entries) = holds × IsDerivedFrom t cites e
 abbrev pub IsFoundAtOnce : Statements → List Parent → Form → Option (List Entry) → Type 0
 IsFoundAtOnce t parents line None = ByParts t.vocabulary parents line → ⊥
 IsFoundAtOnce t parents line (Some entries) = (ByParts t.vocabulary parents line × IsDerivedFrom t (numbers_of parents) entries line) ⊎ IsClausifiedBy t parents line entries
+
+-- what is answered of a line that a search leaves open for this reason: it is decided, or stays open
+abbrev pub IsOpenAnswer : Statements → List Parent → Form → Reason → StepAnswer → Type 0
+IsOpenAnswer t parents line reason (Accepted rule cites entries) = (rule ≡ Sat) × (cites ≡ numbers_of parents) × IsEntailed t parents line entries
+IsOpenAnswer t parents line reason (Unverified r) = (r ≡ reason) × IsNotEntailed parents line
 
 -- what is answered to a leaf that no rule gives
 abbrev pub IsLeftLeaf : Statements → List Parent → Bool → Form → ℕ → StepAnswer → Type 0
