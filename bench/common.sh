@@ -35,9 +35,12 @@ peak() {
     echo $(($(cat "$folder/peak") * 1024))
 }
 
-# What awk makes of an expression.
+# What awk makes of an expression, with so many digits behind the point.
+calculate_to() {
+    awk "BEGIN { printf \"%.$1f\", ($2) }"
+}
 calculate() {
-    awk "BEGIN { printf \"%.1f\", $1 }"
+    calculate_to 1 "$1"
 }
 
 # Measures a command of `tptp` on problems of about 10 MB and 20 MB: its speed, how its time grows, and its peak memory. The

@@ -256,6 +256,10 @@ colours() {
         print ",inference(r,[],[a]))."
     }' > x.s
 }
+pigeons() {
+    awk -v input=pigeons -v size="$1" -f "$top/bench/sat.awk" > x.p
+    echo 'cnf(e,plain,$false,inference(r,[],[a])).' > x.s
+}
 hurt literals_resolved 1250 1 verify x.p x.s x.log
 hurt literals_of_none 100000 1 verify x.p x.s x.log
 hurt deep_terms 245 0 verify x.p x.s x.log
@@ -264,5 +268,6 @@ hurt large_parent 2000 1 verify x.p x.s x.log
 hurt parts_turned 10000 1 verify x.p x.s x.log
 hurt growing_terms 12 1 verify x.p x.s x.log
 hurt colours 8 1 verify x.p x.s x.log
+hurt pigeons 8 0 --limit 1 verify x.p x.s x.log
 echo "$wrong are wrong"
 test "$wrong" -eq 0

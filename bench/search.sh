@@ -1,5 +1,5 @@
 #!/bin/sh
-# Measures lines that a search shows: for each input (search.awk says which) and size what is said of the line, the
+# Measures lines that a search or a decision shows: for each input (search.awk says which) and size what is said of the line, the
 # processor's seconds of `verify`, and how they grow from half the size; the entries of the log, its bytes, and the
 # processor's seconds of `check`.
 #
@@ -29,7 +29,7 @@ while read -r input size limit; do
     time=$(verifying)
     said=$(head -n 1 answer)
     checked=-
-    test "$said" != "l ok search" || checked=$(processor check x.p x.log)
+    case "$said" in "l ok "*) checked=$(processor check x.p x.log) ;; esac
     printf '%-8s %5d  %-22s %7.2f s  x%4.1f  %7d entries %9d bytes  check %s s\n' "$input" "$size" "$said" "$time" \
         "$(calculate "$time / ($half + 0.01)")" $(($(wc -l < x.log) - 1)) "$(wc -c < x.log)" "$checked"
 done << END
