@@ -2,7 +2,8 @@
 use Rattle.std.specs.Prelude.{ℕ, zero, suc, ◌≡◌, ◌+◌, ◌<◌, ◌≤◌, ◌⊎◌, Bool, true, false, not, if◌then◌else◌, List, [], ◌∷◌, ◌++◌, length, map, take, Some, None, slice_get, get_or, refl}
 use Rattle.std.specs.List.{AllByRecursion, Contains}
 use Rattle.std.specs.Option.{option_map}
-use Rattle.std.proofs.Common.{ap, sym, subst, ◌∙◌, arith, inl, inr, append_assoc, take-length}
+use Rattle.std.proofs.Common.{ap, sym, subst, ◌∙◌, arith, inl, inr, append_assoc}
+use Rattle.std.proofs.Math.Seq.{take-length}
 use Rattle.std.proofs.lemmas.List.{length-map, map-append, take_more}
 use Rattle.std.proofs.lemmas.Option.{slice_get-get_or, slice_get-map, slice_get_within}
 use Rattle.fof_terms.specs.Sorts.{Sorted}
@@ -204,7 +205,7 @@ module _ (start : ℕ) (clauses : List Clause) (wanted : List Bool) (numbers : L
           (λ k g marked at. elim (got_push_cases facts f k g at) [
             | inl old_one ↦ stands_on s (IsStated atoms) new all (all ++ a ∷ []) g.number (not_all_false g.lits) last (before.2 k g marked old_one.1)
             | inr own_one ↦ subst (λ (x : Fact). StandsAt s (all ++ a ∷ []) x.number (not_all_false x.lits)) own_one.1 (subst (λ (ls : List Lit). StandsAt s (all ++ a ∷ []) f.number (not_all_false ls)) (lits_is ∙ sym own_is)
-            (stands_last s mid all f.number a before.1.shown (number_is ∙ (made.3 ∙ ap (λ m. m + length mid) (sym starts)))))
+                (stands_last s mid all f.number a before.1.shown (number_is ∙ (made.3 ∙ ap (λ m. m + length mid) (sym starts)))))
           ]),
         )
 

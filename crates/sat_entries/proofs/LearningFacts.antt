@@ -80,8 +80,7 @@ module _ (start : ℕ) (facts : List Fact) (from : List ℕ) (lits : List Lit) (
         let mine = stretch_over atoms lits st.lits is.same own in
         let end = ends in
         let a = not_all_false st.lits in
-        let step = λ (t : Statements) (of : IsOf s t). stretch_shows s atoms sorts t of forms facts from lits st last p is proves mine have stand (have k last end.0 at) (stand k last end.0 at) (end.2 last at) in
-        (
+        let step = λ (t : Statements) (of : IsOf s t). stretch_shows s atoms sorts t of forms facts from lits st last p is proves mine have stand (have k last end.0 at) (stand k last end.0 at) (end.2 last at) in (
           forms ++ a ∷ [],
           one_of s (IsStated atoms) old new forms p a shown step (st.lits, mine, refl) new_is,
           subst (λ (ls : List Lit). StandsAt s (forms ++ a ∷ []) fact.number (not_all_false ls)) (sym own_is) (stands_last s old forms fact.number a shown (number ∙ ap (λ n. n + length old) (sym starts))),
@@ -123,8 +122,7 @@ module _ (start : ℕ) (facts : List Fact) (from : List ℕ) (lits : List Lit) (
           let still = λ (k : ℕ) (f : Fact) (there : Contains from k) (at : slice_get facts k ≡ Some f). stands_on s (IsStated atoms) mid forms all f.number (not_all_false f.lits) more (stand k f there at) in
           let in_known = λ (x : Lit) (there : Contains rest.lits x). subst (λ (ls : List Lit). Contains ls x) known_is ((rest_shown.same x).0 there) in
           let step = λ (t : Statements) (of : IsOf s t). stretch_shows s atoms sorts t of all facts from lits st rest p is proves mine have still (stretch_over atoms known rest.lits rest_shown.same known_own) first.2 in_known in
-          let last = one_of s (IsStated atoms) mid new all p a more.shown step (st.lits, mine, refl) new_is in
-          (
+          let last = one_of s (IsStated atoms) mid new all p a more.shown step (st.lits, mine, refl) new_is in (
             all ++ a ∷ [],
             shown_twice s (IsStated atoms) mid new forms all (all ++ a ∷ []) more last,
             subst (λ (ls : List Lit). StandsAt s (all ++ a ∷ []) fact.number (not_all_false ls)) (sym own_is) (stands_last s mid all fact.number a more.shown (number ∙ ap (λ n. n + length mid) (sym starts))),

@@ -1,8 +1,9 @@
 -- All clauses of a log as facts.
 use Rattle.std.specs.Prelude.{ℕ, zero, suc, ◌≡◌, ◌+◌, ◌-◌, ◌<◌, ◌≤◌, ◌⊎◌, nat_lt, Bool, true, false, List, [], ◌∷◌, ◌++◌, length, map, take, Some, None, slice_get, get_or, refl}
 use Rattle.std.specs.List.{Contains}
-use Rattle.std.proofs.Common.{ap, sym, subst, ◌∙◌, arith, inl, inr, append_assoc, append-nil, take-length}
+use Rattle.std.proofs.Common.{ap, sym, subst, ◌∙◌, arith, inl, inr, append_assoc, append-nil}
 use Rattle.std.proofs.lemmas.Bool.Decides.{nat_tests}
+use Rattle.std.proofs.Math.Seq.{take-length}
 use Rattle.std.proofs.lemmas.List.{length-append, length-map, map-append, take_more}
 use Rattle.std.proofs.lemmas.Option.{slice_get-get_or, slice_get_within}
 use Rattle.fof_terms.specs.declared.form.Form.{Form}
@@ -79,10 +80,10 @@ log_at clauses (d ∷ log) (suc i) e h at =
 module _ (atoms : List AtomOf) (clauses : List (List Lit)) where
   resolves_over : (p : List Lit) (from : List ℕ) (r : List Lit) → ((k : ℕ) (q : List Lit) → Contains from k → slice_get clauses k ≡ Some q → AreOver atoms q) → AreOver atoms p → Resolves opposite clauses p from r → AreOver atoms r
   resolves_over p [] r all own h x there = own x ((h x).0 there)
-  resolves_over p (k ∷ from) r all own h = resolves_over h.2 from r (λ j q there at. all j q (tail_in k from j there) at) made h.5
+  resolves_over p (k ∷ from) r all own h x there = resolves_over h.2 from r (λ j q named at. all j q (tail_in k from j named) at) made h.5 x there
     where
       made : AreOver atoms h.2
-      made x there = elim ((h.4.literals x).0 there) [ inl first ↦ own x first.0 | inr second ↦ all k h.1 (head_in k from) h.3 x second.0 ]
+      made y own_y = elim ((h.4.literals y).0 own_y) [ inl first ↦ own y first.0 | inr second ↦ all k h.1 (head_in k from) h.3 y second.0 ]
 
   derived_over : (from : List ℕ) (r : List Lit) → ((k : ℕ) (q : List Lit) → Contains from k → slice_get clauses k ≡ Some q → AreOver atoms q) → IsDerived opposite clauses from r → AreOver atoms r
   derived_over [] r all h = absurd h
@@ -163,8 +164,7 @@ module _ (start : ℕ) (log : List Learned) (i : ℕ) (first facts : List Fact) 
         let in_from = λ (k : ℕ) (there : Contains from k). named_by k (subst (λ (ks : List ℕ). Contains ks k) from_is there) in
         let own : AreOver atoms lits = subst (AreOver atoms) (sym lits_is) (derived_over atoms (lits_of_facts first ++ lits_of_log (take i log)) e.from e.lits
         (λ k q there at x own_x. let f = h.stated k q at in before.3 k f.0 (inl (named_by k there)) f.1 x ((f.2 x).1 own_x)) own_chain) in
-        let after = shown.shows s atoms starts sorts own (λ k f there at. before.3 k f (inl (in_from k there)) at) before.0 before.1.shown (λ k f there at. before.2 k f (inl (in_from k there)) at) in
-        (
+        let after = shown.shows s atoms starts sorts own (λ k f there at. before.3 k f (inl (in_from k there)) at) before.0 before.1.shown (λ k f there at. before.2 k f (inl (in_from k there)) at) in (
           after.0,
           shown_twice s (IsStated atoms) mid new forms before.0 after.0 before.1 after.1,
           (λ k f used at. elim (got_push_cases facts fact k f at) [

@@ -50,7 +50,7 @@ pub record Stays (a : Form) : Type 0 where
   pub none : is_propositional a ≡ true → (around : List ℕ) → existentials_within a around ≡ []
 
 never : (a : Form) → is_propositional a ≡ false → is_propositional a ≡ true → ⊥
-never a no yes = let two : false ≡ true = sym no ∙ yes in cc
+never a off on = let two : false ≡ true = sym off ∙ on in cc
 
 turn_stays : (as_ : List Form) → AllByRecursion Stays as_ → list_all is_propositional as_ ≡ true → (next : ℕ) → in_turn (map skolem_made as_) next 0 Var ≡ (as_, next)
 turn_stays [] h p next = refl
@@ -85,7 +85,7 @@ stays_or as_ h = record {
 
 -- two parts, one after the other
 two_made : (C : Form → Form → Form) (a b : Form) (next : ℕ) → skolem_made a next 0 Var ≡ (a, next) → skolem_made b next 0 Var ≡ (b, next)
-    → (C (skolem_made a next 0 Var).0 (skolem_made b (skolem_made a next 0 Var).1 0 Var).0, (skolem_made b (skolem_made a next 0 Var).1 0 Var).1) ≡ (C a b, next)
+    → ◌≡◌ {A = Form × ℕ} (C (skolem_made a next 0 Var).0 (skolem_made b (skolem_made a next 0 Var).1 0 Var).0, (skolem_made b (skolem_made a next 0 Var).1 0 Var).1) (C a b, next)
 two_made C a b next e d =
     ap (λ (x : Form × ℕ). (C x.0 (skolem_made b x.1 0 Var).0, (skolem_made b x.1 0 Var).1)) e ∙ ap (λ (x : Form × ℕ). (C a x.0, x.1)) d
 
@@ -113,7 +113,7 @@ stays_iff a b h k = record {
 }
 
 not_plain : (a : Form) → is_propositional a ≡ false → Stays a
-not_plain a no = record { made = λ p next. absurd (never a no p); none = λ p around. absurd (never a no p) }
+not_plain a off = record { made = λ p next. absurd (never a off p); none = λ p around. absurd (never a off p) }
 
 each_stays : (a : Form) → Stays a
 each_stays = form_induction Stays (record {

@@ -1,5 +1,5 @@
 -- The equations of propositional formulas, and tests of them.
-use Rattle.std.specs.Prelude.{ℕ, ◌≡◌, ◌&&◌, ◌<◌, ◌^◌, ◌++◌, ◌∷◌, [], ◌↔◌, Bool, true, false, List, map, take, length, get_or, IsTrue, refl}
+use Rattle.std.specs.Prelude.{ℕ, ◌≡◌, ◌+◌, ◌&&◌, ◌<◌, ◌^◌, ◌++◌, ◌∷◌, [], ◌↔◌, Bool, true, false, List, map, take, length, get_or, IsTrue, refl}
 use Rattle.std.specs.List.{All as Each, AllByRecursion, Contains, list_all}
 use Rattle.std.proofs.Common.{ap, sym, subst, ◌∙◌, arith, inl, inr}
 use Rattle.std.proofs.lemmas.List.{take_more}
@@ -67,11 +67,11 @@ pub no_parent : ArePropositional []
 no_parent p there = absurd (let lt = there.1 in omega arith)
 
 pub parent_more : (parents : List Parent) (i : ℕ) (p : Parent) (b : Bool) → i < length parents → p ≡ get_or parents i p → b ≡ is_propositional (norm_of true p.form) → b ≡ true → ArePropositional (take i parents) → ArePropositional (take (i + 1) parents)
-parent_more parents i p b lt is own yes all q there =
+parent_more parents i p b lt is own on all q there =
     let longer : take (i + 1) parents ≡ take i parents ++ p ∷ [] = take_more parents i p lt ∙ ap (λ (d : Parent). take i parents ++ d ∷ []) (sym is) in
     elim (Contains-push_cases (take i parents) p q (subst (λ (ps : List Parent). Contains ps q) longer there)) [
       | inl before ↦ all q before
-      | inr same ↦ subst (λ (r : Parent). is_propositional (norm_of true r.form) ≡ true) same (sym own ∙ yes)
+      | inr same ↦ subst (λ (r : Parent). is_propositional (norm_of true r.form) ≡ true) same (sym own ∙ on)
     ]
 
 module _ (parents : List Parent) (line : Form) where
@@ -80,11 +80,11 @@ module _ (parents : List Parent) (line : Form) where
 
   -- a parent whose norm is not propositional
   pub not_step : (p : Parent) → Contains parents p → is_propositional (norm_of true p.form) ≡ false → IsPropositionalStep (forms_of parents) line → ⊥
-  not_step p there no step =
+  not_step p there off step =
       let in_forms = map_in (λ (q : Parent). q.form) parents p there in
       let in_norms = map_in (norm_of true) (forms_of parents) p.form in_forms in
-      let yes = step (norm_of true p.form) (Contains-append_left norms (norm_of false line ∷ []) (norm_of true p.form) in_norms) in
-      let both : false ≡ true = sym no ∙ yes in
+      let on = step (norm_of true p.form) (Contains-append_left norms (norm_of false line ∷ []) (norm_of true p.form) in_norms) in
+      let both : false ≡ true = sym off ∙ on in
       cc
 
   pub line_of_step : IsPropositionalStep (forms_of parents) line → is_propositional (norm_of false line) ≡ true

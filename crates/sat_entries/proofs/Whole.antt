@@ -296,15 +296,14 @@ module _ (t : Statements) (parents : List Parent) (line : Form) (wanted : List B
   begun : AreShown setting (opened.facts ++ there opened.proofs) facts
   begun = inputs_shown t parents line wanted opened o base_theory is_base
 
-  facts_sorted : AllByRecursion (Sorted grown []) facts
-  facts_sorted = added_sorted (with_denied base_theory line []) (lemmas_by (opened.facts ++ there opened.proofs)) facts plain
-  (subst (λ (u : Statements). Admits (with_denied base_theory line []) (lemmas_by (opened.facts ++ there opened.proofs)) u) same (begun.legal base_theory is_base))
-    where
-      plain : ArePlain (lemmas_by (opened.facts ++ there opened.proofs))
-      plain = subst ArePlain (append-nil (lemmas_by (opened.facts ++ there opened.proofs))) (plain_lemmas (opened.facts ++ there opened.proofs) [] tt)
+  plain_facts : ArePlain (lemmas_by (opened.facts ++ there opened.proofs))
+  plain_facts = subst ArePlain (append-nil (lemmas_by (opened.facts ++ there opened.proofs))) (plain_lemmas (opened.facts ++ there opened.proofs) [] tt)
 
-      same : with_denied base_theory line facts ≡ with_formulas (with_denied base_theory line []) facts
-      same = ap (λ (gs : List Form). record base_theory { formulas = gs }) (sym (append_assoc base_theory.formulas (Not line ∷ []) facts))
+  facts_sorted : AllByRecursion (Sorted grown []) facts
+  facts_sorted =
+      let denied = with_denied base_theory line [] in
+      let same : with_denied base_theory line facts ≡ with_formulas denied facts = ap (λ (gs : List Form). record base_theory { formulas = gs }) (sym (append_assoc base_theory.formulas (Not line ∷ []) facts)) in
+      added_sorted denied (lemmas_by (opened.facts ++ there opened.proofs)) facts plain_facts (subst (λ (u : Statements). Admits denied (lemmas_by (opened.facts ++ there opened.proofs)) u) same (begun.legal base_theory is_base))
 
   open_at : (k : ℕ) (d : Clause) → slice_get clauses k ≡ Some d → d.sorts ≡ []
   open_at k d at =

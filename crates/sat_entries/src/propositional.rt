@@ -13,11 +13,7 @@ use tptp_base::Memory;
 
 /// Whether the normal forms of the parents and of the negation of the line have no quantifier and no equation. A normal
 /// form is made of each, so none of them is to be large.
-pub fn is_propositional_step(
-    alloc: Global,
-    parents: &[Parent],
-    line: &Form,
-) -> Result<bool, Memory>
+pub fn is_propositional_step(alloc: Global, parents: &[Parent], line: &Form) -> Result<bool, Memory>
     requires parents { Each (λ p. binder_depth p.form < 2 ^ 32) parents.now }
     requires line { binder_depth line.now < 2 ^ 32 }
     ensures { IfOk result (λ answer. IsTrue answer ↔ IsPropositionalStep (forms_of parents.now) line.now) }
