@@ -13,13 +13,12 @@ use Rattle.clause_proofs.specs.Shown.{ShowsLine}
 use Rattle.norm_parts.specs.ByParts.{ByParts}
 use Rattle.norm_parts.specs.Shown.{IsLineByParts}
 use Rattle.clausified_steps.specs.Clausified.{IsClausifiedBy}
-use Rattle.sat_entries.specs.Decided.{IsDecided}
 use Rattle.step_search.specs.Search.{IsSearched}
 use Rattle.step_search.specs.declared.outcome.Searched.{Searched}
 use Rattle.step_search.specs.declared.outcome.Searched.TheVariants.{Refuted, Dry, Full, Heavy, Wide}
 use Rattle.elaborate.specs.declared.answer.Reason.{Reason}
 use Rattle.elaborate.specs.declared.answer.Reason.TheVariants as why
-use Rattle.elaborate.specs.declared.answer.Rule.TheVariants.{Search, Sat}
+use Rattle.elaborate.specs.declared.answer.Rule.TheVariants.{Search}
 use Rattle.elaborate.specs.declared.answer.StepAnswer.{StepAnswer}
 use Rattle.elaborate.specs.declared.answer.StepAnswer.TheVariants.{Accepted, Unverified}
 use Rattle.elaborate.specs.Answers.{IsFoundFrom, IsLeftOpen, IsNotEntailed, IsSearchAnswer}
@@ -38,14 +37,6 @@ module _ (t : Statements) (w : Vocabulary) (e : w ≡ t.vocabulary) (parents : L
   pub functions_found : o ≡ None → (found : Option (List Entry)) → IfSome found (IsClausifiedBy t parents line) → IsFoundAtOnce t parents line found
   functions_found is None h = subst (λ (x : Vocabulary). ByParts x parents line → ⊥) e (subst (IsLineByParts w parents line) is shown)
   functions_found is (Some entries) h = inr h
-
--- where a decision is made of what a search leaves open
-module _ (t : Statements) (parents : List Parent) (line : Form) (reason : Reason) (o : Option (List Entry)) (decided : IsDecided t parents line o) where
-  pub decided_answer : (entries : List Entry) → o ≡ Some entries → IsOpenAnswer t parents line reason (Accepted Sat (numbers_of parents) entries)
-  decided_answer entries is = (refl, refl, subst (IsDecided t parents line) is decided)
-
-  pub undecided_answer : o ≡ None → IsOpenAnswer t parents line reason (Unverified reason)
-  undecided_answer is = (refl, subst (IsDecided t parents line) is decided)
 
 -- the answer with entries so found, or with those of a search
 module _ (t : Statements) (parents : List Parent) (line : Form) (limit : ℕ) where
