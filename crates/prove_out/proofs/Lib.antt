@@ -1,0 +1,9 @@
+pub mod EachFacts
+pub mod NumberedFacts
+pub mod Finding
+pub mod Scopes
+pub mod States
+pub mod Applications
+pub mod Connectives
+pub mod Binders
+pub mod Whole

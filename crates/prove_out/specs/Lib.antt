@@ -1,0 +1,4 @@
+pub mod Unambiguous
+pub mod Variables
+pub mod Denoting
+pub mod code
