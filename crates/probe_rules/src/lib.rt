@@ -3,6 +3,7 @@
 #![tactic(auto)]
 
 mod clauses;
+mod norms;
 mod proving;
 mod skolems;
 mod splits;
@@ -12,6 +13,7 @@ mod theories;
 mod unifying;
 
 pub use clauses::Clauses;
+pub use norms::Norms;
 pub use proving::Proving;
 pub use skolems::Skolems;
 pub use splits::Splits;

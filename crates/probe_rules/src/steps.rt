@@ -1,46 +1,21 @@
 // The rules of clauses.
-ghost use Rattle.clause_form.specs.Covers.{CoversBy, scope_of};
-ghost use Rattle.clause_rules.specs.Answers.{IsAnswer, IsFirst, cover, eqfactor, norm as by_norm, paramodulation};
+ghost use Rattle.clause_rules.specs.Answers.{IsAnswer, IsFirst, cover, eqfactor, paramodulation};
 ghost use Rattle.clause_rules.specs.Answers.{resolution, rewrite, tautology};
-ghost use Rattle.clause_rules.specs.NormRule.{IsFirstNorm, IsNormStep};
-ghost use Rattle.clause_rules.specs.Settled.{IsFit, Settles};
 ghost use Rattle.clause_rules.specs.Steps.{AreReady, IsReady};
-ghost use Rattle.std.specs.Prelude.{IfOk, IsTrue, MatchOption, ◌↔◌};
+ghost use Rattle.std.specs.Prelude.{IfOk, IsTrue, ◌↔◌};
 
 use crate::{Control, Probe};
-use clause_form::{Clause, Parent};
+use clause_form::Parent;
 use clause_rules::{Just, is_ready};
 use fof_terms::{Form, Signature};
 use rule_steps::{
-    cover_clause, cover_step, eqfactor_step, first_norm, norm_step, paramodulation_step, recognise,
-    resolution_step, rewrite_step, tautology_step,
+    eqfactor_step, paramodulation_step, recognise, resolution_step, rewrite_step, tautology_step,
 };
 use std::alloc::Global;
 use tptp_base::Memory;
-use unify_terms::Subst;
 
 /// Looks for justifications.
 pub trait Steps {
-    /// A justification by the rule `norm`: a parent has the line's normal form.
-    fn norm_step(
-        alloc: Global,
-        sig: &Signature,
-        parents: &[Parent],
-        line: &Form,
-    ) -> Result<Option<Just>, Memory>
-        ensures { IfOk result (λ answer. IsAnswer sig.now parents.now line.now by_norm answer) };
-
-    /// A justification by the rule `cover`: the line covers what some path reaches in a parent's normal form.
-    fn cover_step(
-        alloc: Global,
-        sig: &Signature,
-        parents: &[Parent],
-        line: &Form,
-    ) -> Result<Option<Just>, Memory>
-        requires parents { AreReady sig.now parents.now }
-        requires line { IsReady sig.now line.now }
-        ensures { IfOk result (λ answer. IsAnswer sig.now parents.now line.now cover answer) };
-
     /// A justification by the rule `tautology`: the line is a clause that is true by its form.
     fn tautology_step(
         alloc: Global,
@@ -110,23 +85,6 @@ pub trait Steps {
         requires line { IsReady sig.now line.now }
         ensures { IfOk result (λ answer. IsFirst sig.now parents.now line.now answer) };
 
-    /// A substitution that covers the clause by the line; None exactly where there is none.
-    fn cover_clause(
-        alloc: Global,
-        sig: &Signature,
-        clause: &Clause,
-        line: &Clause,
-    ) -> Result<Option<Subst>, Memory>
-        requires clause { IsFit sig.now clause.now }
-        requires line { IsFit sig.now line.now }
-        ensures { IfOk result (λ found. Settles sig.now line.now (scope_of clause.now)
-            (CoversBy sig.now (scope_of clause.now) clause.now.lits line.now) found) };
-
-    /// The number in the list, counted from 0, of the first parent with the line's normal form.
-    fn first_norm(alloc: Global, parents: &[Parent], line: &Form) -> Result<Option<usize>, Memory>
-        ensures { IfOk result (λ found. MatchOption found (IsNormStep parents.now line.now →
-            ⊥) (IsFirstNorm parents.now line.now)) };
-
     /// Whether the rules may be asked about the formula: it is closed and well-sorted, with at most
     /// 1,000,000,000 quantifiers inside each other.
     fn is_ready(sig: &Signature, form: &Form) -> bool
@@ -134,24 +92,6 @@ pub trait Steps {
 }
 
 impl Steps for Probe {
-    fn norm_step(
-        alloc: Global,
-        sig: &Signature,
-        parents: &[Parent],
-        line: &Form,
-    ) -> Result<Option<Just>, Memory> {
-        norm_step(alloc, sig, parents, line)
-    }
-
-    fn cover_step(
-        alloc: Global,
-        sig: &Signature,
-        parents: &[Parent],
-        line: &Form,
-    ) -> Result<Option<Just>, Memory> {
-        cover_step(alloc, sig, parents, line)
-    }
-
     fn tautology_step(
         alloc: Global,
         sig: &Signature,
@@ -206,49 +146,12 @@ impl Steps for Probe {
         recognise(alloc, sig, parents, line)
     }
 
-    fn cover_clause(
-        alloc: Global,
-        sig: &Signature,
-        clause: &Clause,
-        line: &Clause,
-    ) -> Result<Option<Subst>, Memory> {
-        cover_clause(alloc, sig, clause, line)
-    }
-
-    fn first_norm(alloc: Global, parents: &[Parent], line: &Form) -> Result<Option<usize>, Memory> {
-        first_norm(alloc, parents, line)
-    }
-
     fn is_ready(sig: &Signature, form: &Form) -> bool {
         is_ready(sig, form)
     }
 }
 
 impl Steps for Control {
-    fn norm_step(
-        alloc: Global,
-        sig: &Signature,
-        parents: &[Parent],
-        line: &Form,
-    ) -> Result<Option<Just>, Memory> {
-        match norm_step(alloc, sig, parents, line)? {
-            Some(Just::Norm { parent }) => Ok(Some(Just::Norm { parent })),
-            answer => Ok(answer),
-        }
-    }
-
-    fn cover_step(
-        alloc: Global,
-        sig: &Signature,
-        parents: &[Parent],
-        line: &Form,
-    ) -> Result<Option<Just>, Memory> {
-        match cover_step(alloc, sig, parents, line)? {
-            Some(just) => Ok(Some(just)),
-            None => Ok(None),
-        }
-    }
-
     fn tautology_step(
         alloc: Global,
         sig: &Signature,
@@ -381,25 +284,6 @@ impl Steps for Control {
     ) -> Result<Option<Just>, Memory> {
         match recognise(alloc, sig, parents, line)? {
             Some(just) => Ok(Some(just)),
-            None => Ok(None),
-        }
-    }
-
-    fn cover_clause(
-        alloc: Global,
-        sig: &Signature,
-        clause: &Clause,
-        line: &Clause,
-    ) -> Result<Option<Subst>, Memory> {
-        match cover_clause(alloc, sig, clause, line)? {
-            Some(subst) => Ok(Some(subst)),
-            None => Ok(None),
-        }
-    }
-
-    fn first_norm(alloc: Global, parents: &[Parent], line: &Form) -> Result<Option<usize>, Memory> {
-        match first_norm(alloc, parents, line)? {
-            Some(number) => Ok(Some(number)),
             None => Ok(None),
         }
     }
