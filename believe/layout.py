@@ -4,7 +4,7 @@ import os
 from reach import lines_of
 
 NOTHING_PUBLIC = 'Nothing public rests on this'
-MOST = {'headline': 1300, 'all': 3900}
+MOST = {'headline': 1300, 'all': 4000}
 HEADLINE = 'sound'
 
 

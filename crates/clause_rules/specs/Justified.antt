@@ -10,7 +10,7 @@ use Rattle.clause_rules.specs.declared.just.Just.{Just}
 use Rattle.clause_rules.specs.declared.just.Just.TheVariants.{Norm, Cover, Tautology, Resolution, Paramodulation}
 use Rattle.clause_rules.specs.declared.just.Just.TheVariants.{EqFactor, Rewrite}
 use Rattle.clause_rules.specs.Steps.{scope_of_both, IsJoint, images_of_parents}
-use Rattle.clause_rules.specs.NormRule.{HasLinesNorm}
+use Rattle.clause_rules.specs.NormRule.{HasLinesFlat}
 use Rattle.clause_rules.specs.CoverRule.{CoversReached}
 use Rattle.clause_rules.specs.TautologyRule.{IsTautologyStep}
 use Rattle.clause_rules.specs.ResolutionRule.{ResolvesAt}
@@ -24,7 +24,7 @@ IsMatch v into by images = IsJoint v into (scope_of by) images
 
 -- the justification shows that its rule gives the line from the parents
 abbrev pub Shows : Vocabulary → List Parent → Form → Just → Type 0
-Shows v parents line (Norm a) = HasLinesNorm parents line a
+Shows v parents line (Norm a) = HasLinesFlat parents line a
 Shows v parents line (Cover a path images) =
     (c e : Clause) × IsJoint v e (scope_of c) images × CoversReached v parents line a path c e (scope_of c) (images_of_parents e images)
 Shows v parents line Tautology = IsTautologyStep line

@@ -9,7 +9,7 @@ use unify_terms::Subst;
 /// that order; the variables of a clause are numbered from the innermost.
 #[derive(Drop)]
 pub enum Just {
-    /// The parent has the line's normal form.
+    /// The parent has the line's flat form.
     Norm {
         parent: usize,
     },

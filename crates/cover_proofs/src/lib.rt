@@ -1,5 +1,5 @@
-//! Proofs of lines by the rules that go by normal forms: a line's normal form is that of a parent, or the line covers a
-//! clause of a parent's.
+//! Proofs of lines by the rules that go by flat and normal forms: a line's flat form is that of a parent, or the line
+//! covers a clause of a parent's normal form.
 #![tactic(auto)]
 
 mod cover;

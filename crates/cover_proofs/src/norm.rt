@@ -1,22 +1,27 @@
-//! Lines whose normal form is that of a parent.
-ghost use Rattle.std.specs.Prelude.{◌≡◌, [], Some, slice_get, List as ListOf, IfOk};
+//! Lines whose flat form is that of a parent.
+ghost use Rattle.std.specs.Prelude.{◌≡◌, ◌≤◌, [], true, Some, slice_get, List as ListOf, IfOk};
 ghost use Rattle.fof_terms.specs.declared.form.Form.{Form as Formula};
+ghost use Rattle.clause_form.specs.Norm.{norm_of};
+ghost use Rattle.clause_form.specs.Sizes.{norm_size_of};
 ghost use Rattle.kernel.specs.Proves.{Proves};
-ghost use Rattle.clause_rules.specs.NormRule.{HasLinesNorm};
+ghost use Rattle.clause_rules.specs.NormRule.{HasLinesFlat};
 ghost use Rattle.clause_rules.specs.Steps.{AreReady, IsReady};
 ghost use Rattle.clause_rules.specs.Answers.{norm as norm_rule};
 ghost use Rattle.rule_proofs.specs.ByRule.{AreAlike, IsByRule};
 ghost use Rattle.clause_proofs.specs.Refuting.{theory_of};
+ghost use Rattle.cover_proofs.specs.code.Facts.{LeadsOn};
 
+use crate::cover::small_norm;
 use clause_form::Parent;
 use clause_proofs::line as formula;
 use clause_rules::Just;
 use derive_kit::Part;
+use flat_proofs::{flat_back, flat_forth};
 use fof_terms::{Form, Signature, equal};
 use norm_proofs::{apply, norm_back, norm_forth};
 use rule_steps::norm_step;
 use std::alloc::Global;
-use tptp_base::Memory;
+use tptp_base::{Boxed, Memory};
 
 /// A proof of the line by the rule `norm`; None exactly where the rule doesn't give it.
 pub fn by_norm(
@@ -42,8 +47,8 @@ pub fn by_norm(
 
 // The number of a parent that is the line itself, or else of the one given.
 fn likest(parents: &[Parent], parent: usize, line: &Form) -> usize
-    requires { HasLinesNorm parents.now line.now parent }
-    ensures { HasLinesNorm parents.now line.now result }
+    requires { HasLinesFlat parents.now line.now parent }
+    ensures { HasLinesFlat parents.now line.now result }
 {
     for number in 0..parents.len() {
         if equal(&parents[number].form, line) {
@@ -53,7 +58,8 @@ fn likest(parents: &[Parent], parent: usize, line: &Form) -> usize
     parent
 }
 
-/// A proof of the line, by a parent that has the line's normal form. A line that is the parent itself is cited.
+/// A proof of the line, by a parent that has the line's flat form. A line that is the parent itself is cited, and one
+/// that has the parent's normal form is proved by that, which is shorter.
 pub fn normed(
     alloc: Global,
     signature: &Signature,
@@ -71,8 +77,59 @@ pub fn normed(
     if equal(&parent.form, line) {
         return Ok(own);
     }
-    let forth = norm_forth(alloc, &parent.form)?;
-    let own = apply(alloc, forth, own)?;
+    let is_one_norm = have_one_norm(alloc, &parent.form, line)?;
+    if is_one_norm {
+        return by_normal_forms(alloc, signature, &parent.form, line, own);
+    }
+    by_flat_forms(alloc, signature, &parent.form, line, own)
+}
+
+// Whether the two formulas have one normal form.
+fn have_one_norm(alloc: Global, first: &Form, second: &Form) -> Result<bool, Memory>
+    requires first { norm_size_of first.now ≤ 100000 }
+    requires second { norm_size_of second.now ≤ 100000 }
+    ensures { IfOk result (λ found. found ≡ true → norm_of true first.now ≡ norm_of true second.now) }
+{
+    let one = Boxed::new(alloc, small_norm(alloc, first)?)?;
+    let other = Boxed::new(alloc, small_norm(alloc, second)?)?;
+    Ok(equal(one.get(), other.get()))
+}
+
+// A proof of the line by one of the parent, through the normal form that both have.
+fn by_normal_forms(
+    alloc: Global,
+    signature: &Signature,
+    parent: &Form,
+    line: &Form,
+    own: Part,
+) -> Result<Part, Memory>
+    requires parent { IsReady signature.now parent.now }
+    requires line { IsReady signature.now line.now }
+    requires alike { AreAlike parent.now line.now }
+    requires norms { norm_of true parent.now ≡ norm_of true line.now }
+    ensures { IfOk result (LeadsOn parent.now line.now own) }
+{
+    let forth = norm_forth(alloc, parent)?;
+    let middle = apply(alloc, forth, own)?;
     let back = norm_back(alloc, line)?;
-    apply(alloc, back, own)
+    apply(alloc, back, middle)
+}
+
+// The same through the flat form that both have.
+fn by_flat_forms(
+    alloc: Global,
+    signature: &Signature,
+    parent: &Form,
+    line: &Form,
+    own: Part,
+) -> Result<Part, Memory>
+    requires parent { IsReady signature.now parent.now }
+    requires line { IsReady signature.now line.now }
+    requires alike { AreAlike parent.now line.now }
+    ensures { IfOk result (LeadsOn parent.now line.now own) }
+{
+    let forth = flat_forth(alloc, parent)?;
+    let middle = apply(alloc, forth, own)?;
+    let back = flat_back(alloc, line)?;
+    apply(alloc, back, middle)
 }

@@ -7,7 +7,7 @@ use Rattle.std.proofs.lemmas.Option.{slice_get_within}
 use Rattle.fof_terms.specs.declared.form.Form.{Form}
 use Rattle.fof_terms.specs.Vocabulary.{Vocabulary}
 use Rattle.clause_form.specs.declared.path.Parent.{Parent}
-use Rattle.clause_rules.specs.NormRule.{HasLinesNorm, IsNormStep, IsFirstNorm}
+use Rattle.clause_rules.specs.NormRule.{HasLinesFlat, IsNormStep, IsFirstNorm}
 use Rattle.kernel.specs.Statements.{Statements}
 use Rattle.kernel.specs.Proves.{Proves}
 use Rattle.kernel.specs.declared.proof.Proof.{Proof}
@@ -151,16 +151,16 @@ alone_is c p e = cc
 none_is : {X : Type 0} (p : Parent) → None ≡ Some p → X
 none_is p e = cc
 
-alone_at : (c : Parent) (candidates : List Parent) (line : Form) (i : ℕ) → slice_get candidates i ≡ Some c → (a : ℕ) → HasLinesNorm (c ∷ []) line a → HasLinesNorm candidates line i
+alone_at : (c : Parent) (candidates : List Parent) (line : Form) (i : ℕ) → slice_get candidates i ≡ Some c → (a : ℕ) → HasLinesFlat (c ∷ []) line a → HasLinesFlat candidates line i
 alone_at c candidates line i at zero h =
     let same : c ≡ h.of_parent.parent = alone_is c h.of_parent.parent h.of_parent.there in
     record { made = h.made; of_line = h.of_line; of_parent = record { parent = h.of_parent.parent; there = at ∙ ap Some same; alike = h.of_parent.alike } }
 alone_at c candidates line i at (suc a) h = none_is h.of_parent.parent h.of_parent.there
 
-alone_has : (c : Parent) (candidates : List Parent) (line : Form) (i : ℕ) → slice_get candidates i ≡ Some c → IsNormStep (c ∷ []) line → HasLinesNorm candidates line i
+alone_has : (c : Parent) (candidates : List Parent) (line : Form) (i : ℕ) → slice_get candidates i ≡ Some c → IsNormStep (c ∷ []) line → HasLinesFlat candidates line i
 alone_has c candidates line i at (a, h) = alone_at c candidates line i at a h
 
-has_alone : (c : Parent) (candidates : List Parent) (line : Form) (i : ℕ) → slice_get candidates i ≡ Some c → HasLinesNorm candidates line i → IsNormStep (c ∷ []) line
+has_alone : (c : Parent) (candidates : List Parent) (line : Form) (i : ℕ) → slice_get candidates i ≡ Some c → HasLinesFlat candidates line i → IsNormStep (c ∷ []) line
 has_alone c candidates line i at h =
     let same : c ≡ h.of_parent.parent = alone_is c h.of_parent.parent (sym at ∙ h.of_parent.there) in
     (0, record { made = h.made; of_line = h.of_line; of_parent = record { parent = h.of_parent.parent; there = ap Some same; alike = h.of_parent.alike } })

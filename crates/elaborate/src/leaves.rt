@@ -43,7 +43,7 @@ pub fn leaf(
     requires room { HasRoom (length theory.now.vocabulary.symbols) (forms_of candidates.now) line.now }
     ensures { IfOk result (IsLeafAnswer theory.now candidates.now cited line.now limit) }
 {
-    match first_norm(alloc, candidates, line)? {
+    match first_norm(alloc, theory.signature(), candidates, line)? {
         Some(at) => {
             let candidate = &candidates[at as usize];
             let proof = normed(alloc, theory.signature(), candidate, line)?;

@@ -6,7 +6,7 @@ use Rattle.fof_terms.proofs.LiftingLaws.{below_or_above}
 use Rattle.clause_form.specs.ClauseView.{closed_by}
 use Rattle.flat_form.specs.Flat.{order_of, new_number, sort_of, closed_in, close_over}
 use Rattle.flat_form.specs.Renumbered.{renumbered}
-use Rattle.flat_form.specs.code.Numbers.{listed}
+use Rattle.flat_form.specs.Numbers.{listed}
 use Rattle.flat_form.proofs.Renumbering.{same_numbers}
 
 pub close_done : (sorts order numbers near outer outside_sorts : List ℕ) (outside : ℕ) (a inner body whole : Form) → order ≡ order_of (length sorts) a

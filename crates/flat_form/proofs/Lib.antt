@@ -11,6 +11,7 @@ pub mod Placing
 pub mod PullSteps
 pub mod PulledFacts
 pub mod PulledOwn
+pub mod Reach
 pub mod RenumberedFacts
 pub mod Renumbering
 pub mod Rooms

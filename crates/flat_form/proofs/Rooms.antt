@@ -11,7 +11,8 @@ use Rattle.fof_terms.specs.declared.form.Form.{Form, All}
 use Rattle.clause_form.proofs.Below.{below_greatest}
 use Rattle.clause_form.specs.Norm.{node}
 use Rattle.flat_form.specs.Flat.{pulled, sorts_of}
-use Rattle.flat_form.specs.code.Numbers.{HasRoomAt, HasPlaces}
+use Rattle.flat_form.specs.Numbers.{HasRoomAt}
+use Rattle.flat_form.specs.code.Numbers.{HasPlaces}
 use Rattle.flat_form.proofs.Lists.{sorts_within}
 use Rattle.flat_form.proofs.PulledFacts.{node_sorts, count-All}
 

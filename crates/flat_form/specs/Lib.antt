@@ -1,4 +1,5 @@
 pub mod Flat
+pub mod Numbers
 pub mod Renumbered
 pub mod Variables
 pub mod code

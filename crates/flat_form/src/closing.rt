@@ -4,7 +4,7 @@ ghost use Rattle.std.specs.List.{All as Each};
 ghost use Rattle.clause_form.specs.ClauseView.{closed_by as closed};
 ghost use Rattle.fof_terms.specs.Sorts.{binder_depth};
 ghost use Rattle.flat_form.specs.Flat.{close_over as closing, sort_of, new_number, place_in};
-ghost use Rattle.flat_form.specs.code.Numbers.{listed};
+ghost use Rattle.flat_form.specs.Numbers.{listed};
 
 use crate::numbering::renumber;
 use crate::ordering::order_of;
@@ -39,8 +39,9 @@ pub fn close_over(alloc: Global, sorts: &[SortId], body: &Form) -> Result<Boxed<
     closed_by(alloc, outer.as_slice(), Boxed::new(alloc, inner)?)
 }
 
-// The new numbers of so many variables, the last of which is that of variable 0.
-fn numbers_of(alloc: Global, order: &IndexSet<u32>, count: usize) -> Result<List<u32>, Memory>
+/// The new numbers of so many variables, the last of which is that of variable 0: the places in the order, counted from
+/// the last.
+pub fn numbers_of(alloc: Global, order: &IndexSet<u32>, count: usize) -> Result<List<u32>, Memory>
     requires few { length order.now.keys ≤ 100000 }
     requires count { count ≤ 100000 }
     ensures length { IfOk result (λ numbers. length numbers ≡ count) }
@@ -68,8 +69,8 @@ fn number_of(order: &IndexSet<u32>, variable: usize) -> u32
     }
 }
 
-// The sorts of the variables, in their order.
-fn sorts_in(alloc: Global, order: &IndexSet<u32>, sorts: &[SortId]) -> Result<List<SortId>, Memory>
+/// The sorts of the variables, in their order.
+pub fn sorts_in(alloc: Global, order: &IndexSet<u32>, sorts: &[SortId]) -> Result<List<SortId>, Memory>
     requires { Each (λ k. k < length sorts.now) order.now.keys }
     ensures { IfOk result (λ made. made ≡ map (sort_of sorts.now) order.now.keys) }
 {

@@ -12,7 +12,7 @@ use tptp_base::{Boxed, Memory};
 
 /// The flat form of the formula. Wide exactly where its norm size is over 100,000.
 pub fn flat(alloc: Global, form: &Form) -> Result<Form, FormFault>
-    requires room { pull_reach (norm_of true form.now) < 2 ^ 32 }
+    requires room { norm_size_of form.now ≤ 100000 → pull_reach (norm_of true form.now) < 2 ^ 32 }
     ensures ok { IfOk result (λ made. made ≡ flat_of form.now) }
     ensures wide { IsErrOf result FormFault.Wide ↔ (100000 < norm_size_of form.now) }
 {

@@ -9,7 +9,7 @@ mod numbering;
 mod ordering;
 mod pulling;
 
-pub use closing::{close_over, closed_by};
+pub use closing::{close_over, closed_by, numbers_of, sorts_in};
 pub use flattening::{flat, flatten};
 pub use laws::{flat_is_normal, flat_of_flat, one_flat_of_one_norm};
 pub use numbering::renumber;

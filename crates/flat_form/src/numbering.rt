@@ -6,7 +6,7 @@ ghost use Rattle.fof_terms.specs.Lift.{greatest, lift_reach, lift_term_reach};
 ghost use Rattle.fof_terms.specs.Sorts.{binder_depth};
 ghost use Rattle.fof_terms.specs.declared.term.Term.{Var};
 ghost use Rattle.flat_form.specs.Renumbered.{renumbered, renumbered_term};
-ghost use Rattle.flat_form.specs.code.Numbers.{listed, HasRoomAt};
+ghost use Rattle.flat_form.specs.Numbers.{listed, HasRoomAt};
 
 use fof_terms::{Form, Term};
 use std::alloc::Global;

@@ -3,7 +3,6 @@ use Rattle.std.specs.Prelude.{ℕ, ◌≡◌, ◌+◌, ◌<◌, ◌≤◌, ◌^�
 use Rattle.std.specs.List.{list_any}
 use Rattle.std.proofs.Common.{ap, sym, subst, ◌∙◌, arith}
 use Rattle.fof_terms.specs.declared.form.Form.{Form, Imp}
-use Rattle.fof_terms.specs.Lift.{lift_reach}
 use Rattle.fof_terms.specs.Sorts.{Sorted, binder_depth}
 use Rattle.clause_form.specs.ClauseView.{closed_by}
 use Rattle.clause_form.specs.Norm.{norm_of}
@@ -17,8 +16,8 @@ use Rattle.norm_proofs.specs.Placed.{SortedSomewhere}
 use Rattle.norm_proofs.specs.code.Steps.{Between}
 use Rattle.flat_form.specs.Flat.{pulled, pull_reach, order_of, flattened, flat_of}
 use Rattle.flat_form.proofs.Depths.{body_depth}
-use Rattle.flat_form.proofs.Lists.{count_within}
 use Rattle.flat_form.proofs.OwnNorms.{own_fixed, norm_own, own_of_norm}
+use Rattle.flat_form.proofs.Reach.{pull_room}
 use Rattle.flat_proofs.specs.code.Leading.{Leads}
 use Rattle.flat_proofs.specs.code.Loose.{loose, closed_of}
 use Rattle.flat_proofs.specs.code.Members.{room_of, IsSpacious}
@@ -29,7 +28,6 @@ use Rattle.flat_proofs.proofs.LooseFacts.{loose_sorts}
 use Rattle.flat_proofs.proofs.LooseFlat.{norm_of_loose}
 use Rattle.flat_proofs.proofs.LooseSizes.{loose_depth, loose_count, loose_flat_small}
 use Rattle.flat_proofs.proofs.Occurrence.{all_in_order}
-use Rattle.flat_proofs.proofs.Reach.{far_reach}
 
 pub start_spacious : (a : Form) → norm_size_of a ≤ 100000 → SortedSomewhere a → IsSpacious a
 start_spacious a le s = record { vocabulary = s.0; scope = s.1; room = omega (arith, le, s.2); sorted = s.3 }
@@ -53,9 +51,9 @@ norm_room a le = omega (arith, depth_within_size a)
 pub flat_is : (a norm flat : Form) → norm ≡ norm_of true a → flat ≡ flattened norm → flat ≡ flat_of a
 flat_is a norm flat e f = f ∙ ap flattened e
 
--- rooms for what is pulled out
-pub pull_room : (a : Form) → norm_size_of a ≤ 100000 → SortedSomewhere a → pull_reach a < 2 ^ 32
-pull_room a le s = omega (arith, far_reach s.0 (length (pulled a).sorts) a s.1 0 (omega arith) s.3.fits, s.2, depth_within_size a, count_within a)
+-- room for what is pulled out
+pub room_somewhere : (a : Form) → norm_size_of a ≤ 100000 → SortedSomewhere a → pull_reach a < 2 ^ 32
+room_somewhere a le s = pull_room s.0 s.1 a s.2 s.3.fits le
 
 module _ (a body : Form) (sorts : List ℕ) (small : norm_size_of a ≤ 100000) (es : sorts ≡ (loose a).sorts) where
   pub few_sorts : length sorts ≤ 100000

@@ -13,7 +13,6 @@ pub mod NormWalk
 pub mod Occurrence
 pub mod Opened
 pub mod Permutations
-pub mod Reach
 pub mod Refuting
 pub mod Reordered
 pub mod Reordering

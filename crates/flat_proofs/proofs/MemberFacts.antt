@@ -14,13 +14,13 @@ use Rattle.flat_form.specs.declared.pulling.Pulled.{Pulled as Made}
 use Rattle.flat_form.specs.Flat.{Pulled, sorts_of, bodies_of}
 use Rattle.flat_form.proofs.Lists.{take_next, take_end}
 use Rattle.flat_form.proofs.Places.{down, length-down}
+use Rattle.flat_form.proofs.Reach.{far_reach}
 use Rattle.norm_proofs.proofs.Places.{at_index}
 use Rattle.flat_proofs.specs.code.Gathering.{AreClosed}
 use Rattle.flat_proofs.specs.code.Loose.{loose, closed_of}
 use Rattle.flat_proofs.specs.code.Members.{seen, bare, HaveRoom}
 use Rattle.flat_proofs.proofs.GatherFacts.{listed_map}
 use Rattle.flat_proofs.proofs.Opened.{nothing, opened, depth_lifted}
-use Rattle.flat_proofs.proofs.Reach.{far_reach}
 
 -- one item more of a list that a loop makes
 pub onward : {X : Type 0} (made rest whole : List X) (x : X) → made ++ (x ∷ rest) ≡ whole → (made ++ x ∷ []) ++ rest ≡ whole

@@ -15,7 +15,7 @@ use Rattle.kernel.specs.Proves.{Proves}
 use Rattle.kernel.proofs.Building.{by_all_e}
 use Rattle.kernel.specs.declared.proof.Proof.{Proof, AllE}
 use Rattle.flat_form.specs.Renumbered.{renumbered_term, renumbered}
-use Rattle.flat_form.specs.code.Numbers.{listed}
+use Rattle.flat_form.specs.Numbers.{listed}
 use Rattle.flat_form.proofs.Placing.{listed_near, listed_far}
 use Rattle.flat_form.proofs.Renumbering.{renumbering_term, bound, free, same_numbers, itself, twice}
 use Rattle.flat_proofs.specs.code.Permuting.{at_numbers, StandIn}

@@ -10,7 +10,7 @@ use Rattle.fof_terms.proofs.LiftingLaws.{below_or_above}
 use Rattle.clause_form.specs.Reached.{around}
 use Rattle.flat_form.specs.Flat.{new_number, sort_of}
 use Rattle.flat_form.specs.Renumbered.{renumbered}
-use Rattle.flat_form.specs.code.Numbers.{listed}
+use Rattle.flat_form.specs.Numbers.{listed}
 use Rattle.flat_form.proofs.Order.{has, has_cons}
 use Rattle.flat_form.proofs.Places.{place, place_here, place_later, place_below, number_near, number_far}
 use Rattle.flat_form.proofs.Placing.{listed_near, listed_far}

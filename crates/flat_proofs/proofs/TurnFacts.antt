@@ -13,7 +13,7 @@ use Rattle.norm_proofs.specs.code.Numbering.{general}
 use Rattle.norm_proofs.specs.code.Steps.{Between}
 use Rattle.flat_form.specs.Flat.{order_of, new_number, sort_of}
 use Rattle.flat_form.specs.Renumbered.{renumbered}
-use Rattle.flat_form.specs.code.Numbers.{listed, HasRoomAt}
+use Rattle.flat_form.specs.Numbers.{listed, HasRoomAt}
 use Rattle.flat_form.proofs.Order.{has, order_only, order_few}
 use Rattle.flat_form.proofs.Placing.{listed_near}
 use Rattle.flat_form.proofs.Renumbering.{same_numbers}

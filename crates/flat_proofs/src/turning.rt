@@ -1,10 +1,10 @@
 //! Proofs between quantifiers in their own order and those in the order of their variables.
-ghost use Rattle.std.specs.Prelude.{◌≡◌, ◌<◌, ◌≤◌, ◌+◌, ℕ, nat_eq, true, map, length, position, IfOk};
+ghost use Rattle.std.specs.Prelude.{◌≡◌, ◌<◌, ◌≤◌, ◌+◌, ℕ, nat_eq, true, map, length, IfOk};
 ghost use Rattle.std.specs.List.{All as Each, list_any};
 ghost use Rattle.clause_form.specs.ClauseView.{closed_by as closing};
 ghost use Rattle.fof_terms.specs.Sorts.{binder_depth};
-ghost use Rattle.flat_form.specs.Flat.{order_of as order_in, new_number, place_in, sort_of};
-ghost use Rattle.flat_form.specs.code.Numbers.{listed};
+ghost use Rattle.flat_form.specs.Flat.{order_of as order_in, new_number, sort_of};
+ghost use Rattle.flat_form.specs.Numbers.{listed};
 ghost use Rattle.fof_terms.specs.declared.form.Form.{Form as Formula};
 ghost use Rattle.norm_proofs.specs.code.Steps.{Between};
 ghost use Rattle.flat_proofs.specs.code.Leading.{Leads};
@@ -13,7 +13,7 @@ ghost use Rattle.flat_proofs.specs.code.Permuting.{down, turned_by, turned_tree}
 use crate::instances::{at_numbers, general};
 use crate::members::closed;
 use derive_kit::{Part, hyp, imp_i};
-use flat_form::{Pulled, closed_by, order_of, renumber};
+use flat_form::{Pulled, closed_by, numbers_of, order_of, renumber, sorts_in};
 use fof_terms::{Form, SortId, equal};
 use indexmap::IndexSet;
 use std::alloc::Global;
@@ -33,48 +33,6 @@ struct Turn {
 pub(crate) struct Led {
     pub(crate) form: Boxed<Form>,
     pub(crate) part: Option<Part>,
-}
-
-// The new numbers of so many variables, from the outermost one on.
-fn numbers_of(alloc: Global, order: &IndexSet<u32>, count: usize) -> Result<List<u32>, Memory>
-    requires few { length order.now.keys ≤ 100000 }
-    requires count { count ≤ 100000 }
-    ensures length { IfOk result (λ numbers. length numbers ≡ count) }
-    ensures small { IfOk result (λ numbers. Each (λ n. n < 2147483648) numbers) }
-    ensures numbers { IfOk result (λ numbers. (k : ℕ)
-        → listed numbers (length order.now.keys) k ≡ new_number order.now.keys count k) }
-{
-    let mut numbers = List::new(alloc);
-    for place in 0..count {
-        numbers.push(number_of(order, count - 1 - place))?;
-    }
-    Ok(numbers)
-}
-
-// The place of the variable in the order, counted from the last.
-fn number_of(order: &IndexSet<u32>, variable: usize) -> u32
-    requires few { length order.now.keys ≤ 100000 }
-    requires variable { variable < 100000 }
-    ensures number { result ≡ place_in order.now.keys (position (nat_eq variable) order.now.keys) }
-    ensures small { result < 2147483648 }
-{
-    match order.get_index_of(&(variable as u32)) {
-        Some(place) => (order.len() - 1 - place) as u32,
-        None => 0,
-    }
-}
-
-// The sorts of the variables, in their order.
-fn sorts_in(alloc: Global, order: &IndexSet<u32>, sorts: &[SortId]) -> Result<List<SortId>, Memory>
-    requires { Each (λ k. k < length sorts.now) order.now.keys }
-    ensures { IfOk result (λ made. made ≡ map (sort_of sorts.now) order.now.keys) }
-{
-    let mut made = List::new(alloc);
-    let variables = order.as_slice();
-    for variable in variables {
-        made.push(sorts[sorts.len() - 1 - *variable as usize])?;
-    }
-    Ok(made)
 }
 
 // The turn of quantifiers of these sorts over the body, the last of which is that of variable 0.

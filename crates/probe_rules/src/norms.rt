@@ -17,13 +17,15 @@ use unify_terms::Subst;
 
 /// Looks for justifications by normal forms.
 pub trait Norms {
-    /// A justification by the rule `norm`: a parent has the line's normal form.
+    /// A justification by the rule `norm`: a parent has the line's flat form.
     fn norm_step(
         alloc: Global,
         sig: &Signature,
         parents: &[Parent],
         line: &Form,
     ) -> Result<Option<Just>, Memory>
+        requires parents { AreReady sig.now parents.now }
+        requires line { IsReady sig.now line.now }
         ensures { IfOk result (λ answer. IsAnswer sig.now parents.now line.now by_norm answer) };
 
     /// A justification by the rule `cover`: the line covers what some path reaches in a parent's normal form.
@@ -49,8 +51,15 @@ pub trait Norms {
         ensures { IfOk result (λ found. Settles sig.now line.now (scope_of clause.now)
             (CoversBy sig.now (scope_of clause.now) clause.now.lits line.now) found) };
 
-    /// The number in the list, counted from 0, of the first parent with the line's normal form.
-    fn first_norm(alloc: Global, parents: &[Parent], line: &Form) -> Result<Option<usize>, Memory>
+    /// The number in the list, counted from 0, of the first parent with the line's flat form.
+    fn first_norm(
+        alloc: Global,
+        sig: &Signature,
+        parents: &[Parent],
+        line: &Form,
+    ) -> Result<Option<usize>, Memory>
+        requires parents { AreReady sig.now parents.now }
+        requires line { IsReady sig.now line.now }
         ensures { IfOk result (λ found. MatchOption found (IsNormStep parents.now line.now →
             ⊥) (IsFirstNorm parents.now line.now)) };
 }
@@ -83,8 +92,13 @@ impl Norms for Probe {
         cover_clause(alloc, sig, clause, line)
     }
 
-    fn first_norm(alloc: Global, parents: &[Parent], line: &Form) -> Result<Option<usize>, Memory> {
-        first_norm(alloc, parents, line)
+    fn first_norm(
+        alloc: Global,
+        sig: &Signature,
+        parents: &[Parent],
+        line: &Form,
+    ) -> Result<Option<usize>, Memory> {
+        first_norm(alloc, sig, parents, line)
     }
 }
 
@@ -125,8 +139,13 @@ impl Norms for Control {
         }
     }
 
-    fn first_norm(alloc: Global, parents: &[Parent], line: &Form) -> Result<Option<usize>, Memory> {
-        match first_norm(alloc, parents, line)? {
+    fn first_norm(
+        alloc: Global,
+        sig: &Signature,
+        parents: &[Parent],
+        line: &Form,
+    ) -> Result<Option<usize>, Memory> {
+        match first_norm(alloc, sig, parents, line)? {
             Some(number) => Ok(Some(number)),
             None => Ok(None),
         }

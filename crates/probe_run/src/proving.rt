@@ -62,7 +62,7 @@ pub trait Proving {
         requires line { IsReady signature.now line.now }
         ensures { IfOk result (IsByRule signature.now parents.now line.now resolution) };
 
-    /// A proof of the line, by a parent that has the line's normal form.
+    /// A proof of the line, by a parent that has the line's flat form.
     fn normed(
         alloc: Global,
         signature: &Signature,

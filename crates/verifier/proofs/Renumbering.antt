@@ -7,7 +7,6 @@ use Rattle.clause_form.specs.ClauseView.{clause_of}
 use Rattle.clause_form.specs.declared.clause.Clause.{Clause}
 use Rattle.clause_form.specs.declared.path.Parent.{Parent}
 use Rattle.clause_rules.specs.Answers.{ShapeRule as Word, norm, cover, tautology, resolution, paramodulation, eqfactor, rewrite, Holds as Gives}
-use Rattle.clause_form.specs.Norm.{HasNorm}
 use Rattle.clause_rules.specs.Steps.{IsClauseAt, clauses_of}
 use Rattle.kernel.specs.Statements.{Statements}
 use Rattle.skolem_fresh.proofs.Alike.{choice_alike, skolem_alike}
@@ -62,7 +61,7 @@ gives_alike v line norm ps qs same (a, h) =
       record {
         made = h.made;
         of_line = h.of_line;
-        of_parent = record { parent = p.parent; there = p.there; alike = subst (λ (f : Form). HasNorm f h.made) (sym p.same) h.of_parent.alike };
+        of_parent = record { parent = p.parent; there = p.there; alike = rw p.same h.of_parent.alike };
       },
     )
 gives_alike v line cover ps qs same (a, path, c, e, more, s, h) =

@@ -5,6 +5,7 @@ use Rattle.fof_terms.specs.declared.form.Form.{Form}
 use Rattle.fof_terms.specs.Vocabulary.{Vocabulary}
 use Rattle.fof_terms.specs.Sorts.{Sorted, IsScope}
 use Rattle.kernel.specs.Proves.{Proves}
+use Rattle.kernel.specs.Statements.{Statements}
 use Rattle.kernel.specs.declared.proof.Proof.{Proof}
 use Rattle.clause_form.specs.declared.path.Parent.{Parent}
 use Rattle.clause_form.specs.declared.clause.Clause.{Clause}
@@ -38,6 +39,11 @@ IsFact = IsFactUpTo 900000000
 -- where the parent is among the formulas, the proof shows the line
 abbrev pub ShowsByParent : Vocabulary → Parent → Form → Proof → Type 0
 ShowsByParent w parent line p = (formulas : List Form) → slice_get formulas parent.number ≡ Some parent.form → Proves (theory_of w formulas) [] [] p line
+
+-- in each theory in which both formulas are well-sorted, where the first part shows the first formula the second part
+-- shows the second one
+abbrev pub LeadsOn : Form → Form → Proof → Proof → Type 0
+LeadsOn a b p q = (t : Statements) → Sorted t.vocabulary [] a → Sorted t.vocabulary [] b → Proves t [] [] p a → Proves t [] [] q b
 
 -- the images show that the line covers what the path reaches in the formula's normal form
 pub record CoversIn (w : Vocabulary) (form line : Form) (path : Path) (images : List Term) : Type 0 where

@@ -1,6 +1,6 @@
 use Rattle.std.proofs.Common.{◌≡◌, take, map}
 use Rattle.flat_form.specs.Renumbered.{renumbered}
-use Rattle.flat_form.specs.code.Numbers.{listed}
+use Rattle.flat_form.specs.Numbers.{listed}
 use Rattle.flat_form.proofs.numbering.+renumber.Given as goal
 
 abbrev pub invariant-renumber_all-loop-form : goal.invariant-renumber_all-loop-form

@@ -1,6 +1,6 @@
 use Rattle.std.proofs.Common.{◌≡◌, take, map}
 use Rattle.flat_form.specs.Renumbered.{renumbered_term}
-use Rattle.flat_form.specs.code.Numbers.{listed}
+use Rattle.flat_form.specs.Numbers.{listed}
 use Rattle.flat_form.proofs.numbering.+renumber_term.Given as goal
 
 abbrev pub invariant-renumber_terms-loop-term : goal.invariant-renumber_terms-loop-term

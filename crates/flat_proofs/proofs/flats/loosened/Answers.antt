@@ -1,12 +1,12 @@
 use Rattle.std.proofs.Common.{◌∙◌}
-use Rattle.flat_proofs.proofs.FlatFacts.{start_spacious, pull_room, few_sorts, loose_depths, pulled_depths, all_stand, loose_form, loosened_leads}
+use Rattle.flat_proofs.proofs.FlatFacts.{start_spacious, room_somewhere, few_sorts, loose_depths, pulled_depths, all_stand, loose_form, loosened_leads}
 use Rattle.flat_proofs.proofs.flats.loosened.Goals as goal
 
 pub out_of-requires-clause-spacious : goal.out_of-requires-clause-spacious
 out_of-requires-clause-spacious c = start_spacious c.args.norm.now c.requires.size c.requires.sorted
 
 pub pull-requires-clause-room : goal.pull-requires-clause-room
-pull-requires-clause-room c = pull_room c.args.norm.now c.requires.size c.requires.sorted
+pull-requires-clause-room c = room_somewhere c.args.norm.now c.requires.size c.requires.sorted
 
 pub turned-requires-clause-few : goal.turned-requires-clause-few
 turned-requires-clause-few c = few_sorts c.args.norm.now c.in_ok-flat.flat.body c.in_ok-pulled.field-0.pulled.sorts c.requires.size c.in_ok-pulled.ensures.sorts

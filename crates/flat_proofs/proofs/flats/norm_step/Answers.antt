@@ -1,9 +1,9 @@
 use Rattle.std.proofs.Common.{◌∙◌, sym}
-use Rattle.flat_proofs.proofs.FlatFacts.{pull_room, loose_fits, led_somewhere, loose_norm_is, step_leads}
+use Rattle.flat_proofs.proofs.FlatFacts.{room_somewhere, loose_fits, led_somewhere, loose_norm_is, step_leads}
 use Rattle.flat_proofs.proofs.flats.norm_step.Goals as goal
 
 pub flatten-requires-clause-room : goal.flatten-requires-clause-room
-flatten-requires-clause-room c = pull_room c.args.norm.now c.requires.size c.requires.sorted
+flatten-requires-clause-room c = room_somewhere c.args.norm.now c.requires.size c.requires.sorted
 
 pub norm_or_none-requires-clause-size : goal.norm_or_none-requires-clause-size
 norm_or_none-requires-clause-size c = loose_fits c.args.norm.now c.get.result.now (c.get.ensures ∙ c.in_ok-loose.ensures.form) c.requires.size

@@ -1,5 +1,6 @@
--- The distances that arise where what is well-sorted is lifted over several variables.
-use Rattle.std.specs.Prelude.{ℕ, ◌≡◌, ◌+◌, ◌≤◌, ◌<◌, nat_lt, true, List, [], ◌∷◌, map, length, slice_get, Some, if◌then◌else◌}
+-- The distances that arise where what is well-sorted is lifted over several variables, and where quantifiers are pulled
+-- out of it.
+use Rattle.std.specs.Prelude.{ℕ, ◌≡◌, ◌+◌, ◌≤◌, ◌<◌, ◌^◌, nat_lt, true, List, [], ◌∷◌, map, length, slice_get, Some, if◌then◌else◌}
 use Rattle.std.specs.List.{AllByRecursion}
 use Rattle.std.proofs.Common.{arith}
 use Rattle.std.proofs.lemmas.Bool.Decides.{nat_tests}
@@ -12,6 +13,13 @@ use Rattle.fof_terms.proofs.LiftingLaws.{both, each_true, one_found, applied_fou
 use Rattle.fof_terms.specs.Lift.{greatest, lift_term_reach, lift_reach}
 use Rattle.fof_terms.proofs.LiftFacts.{lift_term_reach-Var, lift_term_reach-App, lift_reach-Atom, lift_reach-Eq, lift_reach-Not, lift_reach-And, lift_reach-Or, lift_reach-Imp, lift_reach-Iff, lift_reach-All, lift_reach-Ex}
 use Rattle.fof_terms.specs.Sorts.{sort_of_term, is_sorted, binder_depth}
+use Rattle.clause_form.specs.Norm.{norm_of}
+use Rattle.clause_form.specs.Sizes.{norm_size_of}
+use Rattle.clause_form.proofs.NormFits.{norm_fits}
+use Rattle.clause_form.proofs.NormSize.{norm_small}
+use Rattle.clause_form.proofs.SizeLaws.{depth_within_size}
+use Rattle.flat_form.specs.Flat.{pulled, pull_reach}
+use Rattle.flat_form.proofs.Lists.{count_within}
 use Rattle.fof_terms.proofs.SortsFacts.{sort_of_term-Var, sort_of_term-App, is_sorted-Atom, is_sorted-Eq, is_sorted-Not, is_sorted-And, is_sorted-Or, is_sorted-Imp, is_sorted-Iff, is_sorted-All, is_sorted-Ex, binder_depth-Atom, binder_depth-Eq, binder_depth-Not, binder_depth-And, binder_depth-Or, binder_depth-Imp, binder_depth-Iff, binder_depth-All, binder_depth-Ex}
 
 module _ (v : Vocabulary) (by : ℕ) where
@@ -66,3 +74,11 @@ module _ (v : Vocabulary) (by : ℕ) where
         let parts = both (nat_lt s (length v.sorts)) (is_sorted v (s ∷ scope) a) (rw is_sorted-Ex at e) in
         rw (lift_reach-Ex, binder_depth-Ex) (omega (arith, ih (s ∷ scope) (d + 1) (omega arith) parts.1));
   })
+
+-- room for what is pulled out of a normal form
+pub pull_room : (v : Vocabulary) (scope : List ℕ) (a : Form) → length scope ≤ 1000000000 → is_sorted v scope a ≡ true → norm_size_of a ≤ 100000 → pull_reach a < 2 ^ 32
+pull_room v scope a few fits le = omega (arith, far_reach v (length (pulled a).sorts) a scope 0 (omega arith) fits, few, depth_within_size a, count_within a)
+
+-- and out of the normal form of a formula
+pub flat_room : (v : Vocabulary) (scope : List ℕ) (a : Form) → length scope ≤ 1000000000 → is_sorted v scope a ≡ true → norm_size_of a ≤ 100000 → pull_reach (norm_of true a) < 2 ^ 32
+flat_room v scope a few fits le = pull_room v scope (norm_of true a) few (norm_fits v a true scope fits) (omega (arith, norm_small a true))
