@@ -6,7 +6,7 @@ use Rattle.fof_terms.specs.declared.form.Form.{Form, Or}
 use Rattle.fof_terms.specs.Lift.{lifted}
 use Rattle.kernel.specs.declared.proof.Proof.{Proof, Hyp, AndE, OrI, OrE, NotE, Inhabit}
 use Rattle.derive_kit.proofs.Around.{twice_form}
-use Rattle.norm_proofs.specs.code.Numbering.{near}
+use Rattle.norm_proofs.specs.Numbering.{near}
 use Rattle.flat_form.specs.declared.pulling.Pulled.{Pulled as Made}
 use Rattle.flat_form.specs.Flat.{Pulled, sorts_of, bodies_of}
 use Rattle.flat_proofs.specs.code.Gathering.{inhabited, and_arms, or_arms, back_arm, back_arms, clashes, denied_arm, refuted}

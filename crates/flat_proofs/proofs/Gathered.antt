@@ -15,7 +15,7 @@ use Rattle.kernel.specs.Proves.{Proves}
 use Rattle.kernel.proofs.Building.{by_hyp, by_and_i, by_or_e, by_imp_i, by_raa}
 use Rattle.kernel.specs.declared.proof.Proof.{Hyp, AndI, OrE}
 use Rattle.derive_kit.proofs.Around.{all_around, head_around}
-use Rattle.norm_proofs.specs.code.Numbering.{general}
+use Rattle.norm_proofs.specs.Numbering.{general}
 use Rattle.norm_proofs.specs.code.Steps.{aimed}
 use Rattle.norm_proofs.proofs.NumberingFacts.{closed_sorted, by_general, around_sorted, around_scope}
 use Rattle.flat_form.specs.Flat.{Pulled, sorts_of, bodies_of}

@@ -4,7 +4,7 @@ use Rattle.fof_terms.specs.declared.form.Form.{Form, Or}
 use Rattle.clause_form.specs.ClauseView.{closed_by}
 use Rattle.clause_form.specs.Norm.{node}
 use Rattle.kernel.specs.declared.proof.Proof.{Proof, Hyp, AndI, OrE, ImpI, Raa}
-use Rattle.norm_proofs.specs.code.Numbering.{general}
+use Rattle.norm_proofs.specs.Numbering.{general}
 use Rattle.flat_form.specs.Flat.{Pulled, sorts_of, bodies_of}
 use Rattle.flat_proofs.specs.code.Gathering.{and_arms, or_arms, back_arms, refuted, gather_tree}
 use Rattle.flat_proofs.specs.code.Loose.{closed_of}

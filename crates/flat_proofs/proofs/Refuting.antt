@@ -18,7 +18,7 @@ use Rattle.kernel.proofs.Building.{by_hyp, by_or_i, by_or_e, by_not_e, by_raa}
 use Rattle.kernel.specs.declared.proof.Proof.{Hyp, OrI, OrE, Raa}
 use Rattle.derive_kit.proofs.Members.{first}
 use Rattle.derive_kit.proofs.Around.{twice_form, all_around}
-use Rattle.norm_proofs.specs.code.Numbering.{general, near}
+use Rattle.norm_proofs.specs.Numbering.{general, near}
 use Rattle.norm_proofs.proofs.NumberingFacts.{by_general, around_sorted, around_scope}
 use Rattle.flat_form.specs.Flat.{Pulled, sorts_of, bodies_of}
 use Rattle.flat_proofs.specs.code.Loose.{closed_of}

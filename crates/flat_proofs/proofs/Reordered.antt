@@ -16,7 +16,7 @@ use Rattle.kernel.proofs.Building.{shown_sorted, by_hyp, by_imp_i}
 use Rattle.kernel.specs.declared.proof.Proof.{Hyp}
 use Rattle.derive_kit.proofs.Around.{all_around, head_around}
 use Rattle.derive_kit.proofs.Members.{right_sorted}
-use Rattle.norm_proofs.specs.code.Numbering.{general}
+use Rattle.norm_proofs.specs.Numbering.{general}
 use Rattle.norm_proofs.specs.code.Steps.{Between}
 use Rattle.norm_proofs.proofs.NumberingFacts.{by_general, around_sorted, around_scope}
 use Rattle.flat_form.specs.Flat.{new_number, sort_of}

@@ -9,7 +9,7 @@ use Rattle.fof_terms.specs.Sorts.{binder_depth}
 use Rattle.fof_terms.specs.Lift.{lift_reach}
 use Rattle.clause_form.specs.ClauseView.{closed_by}
 use Rattle.kernel.specs.declared.proof.Proof.{Proof, Hyp, ImpI, AllE}
-use Rattle.norm_proofs.specs.code.Numbering.{general}
+use Rattle.norm_proofs.specs.Numbering.{general}
 use Rattle.norm_proofs.specs.code.Steps.{Between}
 use Rattle.flat_form.specs.Flat.{order_of, new_number, sort_of}
 use Rattle.flat_form.specs.Renumbered.{renumbered}

@@ -6,11 +6,11 @@ ghost use Rattle.flat_proofs.specs.code.Gathering.{clashes as clash_trees, denie
 ghost use Rattle.flat_proofs.specs.code.Loose.{closed_of};
 ghost use Rattle.flat_proofs.specs.code.Members.{seen, HaveRoom};
 
-use crate::instances::{general, near};
 use derive_kit::{Part, hyp, not_e, or_e, or_i, raa};
 use flat_form::Pulled;
 use fof_terms::{Form, lift, lift_all};
 use kernel::Proof;
+use norm_proofs::{general, near};
 use std::alloc::Global;
 use tptp_base::{List, Memory};
 

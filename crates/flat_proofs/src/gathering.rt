@@ -9,12 +9,12 @@ ghost use Rattle.flat_proofs.specs.code.Members.{seen, HaveRoom};
 ghost use Rattle.flat_proofs.specs.code.Nodes.{bodies_tree, closed_tree};
 
 use crate::denying::refuted;
-use crate::instances::{general, near};
 use clause_form::node;
 use derive_kit::{Part, and_e, and_i, hyp, imp_i, inhabit, or_e, or_i, raa};
 use flat_form::{Pulled, closed_by};
 use fof_terms::{Form, SortId, copy_all, lift};
 use kernel::Proof;
+use norm_proofs::{general, near};
 use std::alloc::Global;
 use tptp_base::{Boxed, List, Memory};
 

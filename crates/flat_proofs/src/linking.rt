@@ -1,5 +1,5 @@
 //! Proofs between a node and the node of what the parts lead to, member by member.
-ghost use Rattle.std.specs.Prelude.{◌≡◌, ◌≤◌, ◌+◌, length, reverse, IfOk};
+ghost use Rattle.std.specs.Prelude.{◌≡◌, ◌≤◌, ◌+◌, length, IfOk};
 ghost use Rattle.clause_form.specs.Norm.{node as node_of};
 ghost use Rattle.flat_proofs.specs.code.Moving.{link_arm, link_arms, linked as linked_tree, link_tree};
 ghost use Rattle.flat_proofs.specs.code.Nodes.{links_tree};
@@ -8,20 +8,9 @@ use clause_form::node;
 use derive_kit::{Part, and_e, and_i, hyp, imp_e, imp_i, or_e, or_i};
 use fof_terms::{Form, copy_all};
 use kernel::Proof;
+use norm_proofs::reversed;
 use std::alloc::Global;
 use tptp_base::{Boxed, List, Memory};
-
-// The proofs, the last one first.
-fn reversed(alloc: Global, parts: List<Proof>) -> Result<List<Proof>, Memory>
-    ensures { IfOk result (λ list. list ≡ reverse parts) }
-{
-    let mut list = List::new(alloc);
-    let mut left = parts;
-    while let Some(last) = left.pop() {
-        list.push(last)?;
-    }
-    Ok(list)
-}
 
 // What the part says of the member of that number of a conjunction, or under minus the disjunction by that.
 fn arm(alloc: Global, kind: bool, to: &[Form], number: u32, part: Part) -> Result<Part, Memory>

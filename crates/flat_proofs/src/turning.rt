@@ -10,12 +10,13 @@ ghost use Rattle.norm_proofs.specs.code.Steps.{Between};
 ghost use Rattle.flat_proofs.specs.code.Leading.{Leads};
 ghost use Rattle.flat_proofs.specs.code.Permuting.{down, turned_by, turned_tree};
 
-use crate::instances::{at_numbers, general};
+use crate::instances::at_numbers;
 use crate::members::closed;
 use derive_kit::{Part, hyp, imp_i};
 use flat_form::{Pulled, closed_by, numbers_of, order_of, renumber, sorts_in};
 use fof_terms::{Form, SortId, equal};
 use indexmap::IndexSet;
+use norm_proofs::general;
 use std::alloc::Global;
 use tptp_base::{Boxed, List, Memory};
 

@@ -28,7 +28,7 @@ use Rattle.kernel.specs.declared.proof.Proof.{Proof, Hyp, AndI, AndE, AllI}
 use Rattle.kernel.proofs.Building.{shown_sorted, by_hyp, by_and_i, by_and_e, by_all_i}
 use Rattle.derive_kit.proofs.Around.{head_around}
 use Rattle.norm_proofs.specs.code.Joining.{Stands}
-use Rattle.norm_proofs.specs.code.Numbering.{near}
+use Rattle.norm_proofs.specs.Numbering.{near}
 use Rattle.norm_proofs.proofs.JoiningFacts.{gather_nested}
 use Rattle.norm_proofs.proofs.NumberingFacts.{stand_between, near_shows}
 use Rattle.clause_rules.proofs.ListPlaces.{before, get_lifted}

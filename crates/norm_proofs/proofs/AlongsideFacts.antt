@@ -38,7 +38,7 @@ use Rattle.norm_proofs.specs.code.Links.{PartsFrom}
 use Rattle.norm_proofs.proofs.LinksFacts.{each_own}
 use Rattle.derive_kit.proofs.Around.{twice_form, all_around, head_around}
 use Rattle.norm_proofs.proofs.NumberingFacts.{closed_sorted, by_general, StandAt, stand_between, near_shows, around_sorted, around_scope}
-use Rattle.norm_proofs.specs.code.Numbering.{near}
+use Rattle.norm_proofs.specs.Numbering.{near}
 use Rattle.norm_proofs.specs.code.Alongside.{chosen, by_segment, widened, member_tree, pick_tree, under_tree, ArmAt}
 
 abbrev pub each_tree : List Form → Clause → List Proof → Proof

@@ -22,7 +22,7 @@ use Rattle.kernel.specs.declared.proof.Proof.{Proof, AndE}
 use Rattle.derive_kit.proofs.Around.{all_around}
 use Rattle.norm_proofs.specs.Narrowing.{LeadsTo}
 use Rattle.norm_proofs.specs.code.Narrowing.{picked_tree}
-use Rattle.norm_proofs.specs.code.Numbering.{near}
+use Rattle.norm_proofs.specs.Numbering.{near}
 use Rattle.norm_proofs.proofs.NormsFacts.{small_member}
 use Rattle.norm_proofs.proofs.Places.{at_index}
 use Rattle.norm_proofs.proofs.NumberingFacts.{by_general, stand_between, near_shows}

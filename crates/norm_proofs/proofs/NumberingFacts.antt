@@ -1,4 +1,4 @@
--- Lemmas on what specs/code/Numbering defines.
+-- Lemmas on what specs/Numbering defines.
 use Rattle.std.specs.Prelude.{ℕ, ◌+◌, ◌-◌, ◌≡◌, ◌<◌, ◌≤◌, List, [], ◌∷◌, length, slice_get, Some, refl}
 use Rattle.std.specs.List.{AllByRecursion}
 use Rattle.std.proofs.Common.{ap, subst, ◌∙◌, arith, inl, inr, suc}
@@ -20,7 +20,7 @@ use Rattle.kernel.specs.Statements.{Statements}
 use Rattle.kernel.specs.Proves.{Proves, all_over}
 use Rattle.kernel.proofs.Building.{by_all_i, by_all_e}
 use Rattle.kernel.specs.declared.proof.Proof.{Proof, AllE}
-use Rattle.norm_proofs.specs.code.Numbering.{general, near}
+use Rattle.norm_proofs.specs.Numbering.{general, near}
 use Rattle.derive_kit.proofs.Around.{all_around}
 
 place_var : (m d k : ℕ) → instance_term (Var m) d (lifted_term (m + 1) (d + 1) (Var k)) ≡ lifted_term m d (Var k)

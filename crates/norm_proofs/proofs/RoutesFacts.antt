@@ -34,7 +34,7 @@ use Rattle.norm_proofs.proofs.LinksFacts.{parts_more}
 use Rattle.norm_proofs.proofs.NormsFacts.{small_member}
 use Rattle.norm_proofs.specs.Placed.{SortedSomewhere}
 use Rattle.norm_proofs.proofs.Places.{at_index}
-use Rattle.norm_proofs.specs.code.Numbering.{near}
+use Rattle.norm_proofs.specs.Numbering.{near}
 use Rattle.norm_proofs.specs.code.Alongside.{chosen, by_segment, member_tree, pick_tree, under_tree, ArmAt}
 use Rattle.norm_proofs.proofs.AlongsideFacts.{member_shows, pick_shows, under_shows}
 use Rattle.norm_proofs.specs.code.Routes.{Leads, IsAlong}

@@ -1,3 +1,4 @@
 pub mod Narrowing
+pub mod Numbering
 pub mod Placed
 pub mod code

@@ -7,7 +7,6 @@ pub mod Fitting
 pub mod Joining
 pub mod Links
 pub mod Narrowing
-pub mod Numbering
 pub mod Placed
 pub mod Recursion
 pub mod Routes

@@ -45,8 +45,8 @@ pub(crate) fn arms_of(
     Ok(made)
 }
 
-// The proofs, the last one first.
-fn reversed(alloc: Global, parts: List<Proof>) -> Result<List<Proof>, Memory>
+/// The proofs, the last one first.
+pub fn reversed(alloc: Global, parts: List<Proof>) -> Result<List<Proof>, Memory>
     ensures { IfOk result (λ list. list ≡ reverse parts) }
 {
     let mut list = List::new(alloc);

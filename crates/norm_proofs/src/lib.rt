@@ -18,6 +18,8 @@ mod steps;
 mod widening;
 
 pub use applying::apply;
+pub use arms::reversed;
 pub use narrowing::{Narrowed, Rest, narrow_along, whole_path};
 pub use norms::{norm_back, norm_forth};
 pub use paths::path_proof;
+pub use widening::{general, near};

@@ -2,7 +2,7 @@ ghost use Rattle.std.specs.Prelude.{◌≡◌, ◌≤◌, ◌+◌, ◌<◌, ◌^
 ghost use Rattle.clause_form.specs.Norm.{alone};
 ghost use Rattle.kernel.specs.declared.proof.Proof.{Hyp};
 ghost use Rattle.norm_proofs.specs.code.Joining.{numbered};
-ghost use Rattle.norm_proofs.specs.code.Numbering.{general as general_tree, near as near_tree};
+ghost use Rattle.norm_proofs.specs.Numbering.{general as general_tree, near as near_tree};
 ghost use Rattle.norm_proofs.specs.code.Alongside.{chosen as chosen_tree, by_segment as segment_tree, member_tree};
 
 use crate::applying::applied;
@@ -14,8 +14,8 @@ use kernel::Proof;
 use std::alloc::Global;
 use tptp_base::{List, Memory};
 
-// All of the sorts over what the part shows, the first outermost.
-pub(crate) fn general(alloc: Global, sorts: &[SortId], part: Part) -> Result<Part, Memory>
+/// All of the sorts over what the part shows, the first outermost.
+pub fn general(alloc: Global, sorts: &[SortId], part: Part) -> Result<Part, Memory>
     ensures { IfOk result (λ made. made ≡ general_tree sorts.now part) }
 {
     let mut made = part;
@@ -26,8 +26,8 @@ pub(crate) fn general(alloc: Global, sorts: &[SortId], part: Part) -> Result<Par
     Ok(made)
 }
 
-// The instance at so many variables from the first on, the outermost of them first.
-pub(crate) fn near(alloc: Global, first: u32, count: usize, part: Part) -> Result<Part, Memory>
+/// The instance at so many variables from the first on, the outermost of them first.
+pub fn near(alloc: Global, first: u32, count: usize, part: Part) -> Result<Part, Memory>
     requires { first + count ≤ 100000 }
     ensures { IfOk result (λ made. made ≡ near_tree first count part) }
 {

@@ -7,7 +7,7 @@ use Rattle.fof_terms.specs.Sorts.{SortedTo}
 use Rattle.fof_terms.specs.Lift.{lifted}
 use Rattle.clause_form.specs.ClauseView.{closed_by}
 use Rattle.kernel.specs.declared.proof.Proof.{Proof, Hyp, AndI, AndE, OrI, OrE, ImpI, NotE, Raa, Inhabit}
-use Rattle.norm_proofs.specs.code.Numbering.{general, near}
+use Rattle.norm_proofs.specs.Numbering.{general, near}
 use Rattle.flat_form.specs.Flat.{Pulled, sorts_of, bodies_of}
 use Rattle.flat_proofs.specs.code.Loose.{closed_of}
 

@@ -7,7 +7,7 @@ use Rattle.flat_form.specs.Renumbered.{renumbered}
 use Rattle.flat_proofs.specs.code.Loose.{loose}
 use Rattle.fof_terms.specs.declared.term.Term.{Var}
 use Rattle.kernel.specs.declared.proof.Proof.{Proof, Hyp, ImpI, AllE}
-use Rattle.norm_proofs.specs.code.Numbering.{general}
+use Rattle.norm_proofs.specs.Numbering.{general}
 
 -- the instance at the variables of these numbers, the first for the outermost quantifier
 abbrev pub at_numbers : List ℕ → Proof → Proof

@@ -10,7 +10,7 @@ use Rattle.kernel.specs.Proves.{Proves}
 use Rattle.kernel.specs.code.Rules.{ProveAll}
 use Rattle.kernel.specs.declared.proof.Proof.{Proof, Hyp, AndI, AndE}
 use Rattle.norm_proofs.specs.code.Joining.{numbered}
-use Rattle.norm_proofs.specs.code.Numbering.{near}
+use Rattle.norm_proofs.specs.Numbering.{near}
 use Rattle.norm_parts.specs.Parts.{parts_of}
 
 -- the part of that number, at the nearest variables

@@ -12,7 +12,7 @@ use Rattle.kernel.specs.Proves.{Proves}
 use Rattle.kernel.specs.declared.proof.Proof.{Proof, Hyp, AndE, OrI, OrE, ImpI, ImpE, AllI, AllE}
 use Rattle.norm_proofs.specs.code.Applying.{applied, is_itself}
 use Rattle.norm_proofs.specs.code.Joining.{numbered}
-use Rattle.norm_proofs.specs.code.Numbering.{general, near}
+use Rattle.norm_proofs.specs.Numbering.{general, near}
 
 -- the disjunction of the formulas, one alone being itself, by the one of number k
 abbrev pub chosen : List Form → ℕ → Proof → Proof

@@ -1,7 +1,7 @@
 -- Members of conjunctions under universal quantifiers.
 use Rattle.std.specs.Prelude.{ℕ, List, length}
 use Rattle.kernel.specs.declared.proof.Proof.{Proof, AndE}
-use Rattle.norm_proofs.specs.code.Numbering.{general, near}
+use Rattle.norm_proofs.specs.Numbering.{general, near}
 
 -- for all of the sorts the member of that number of what the part says of all
 abbrev pub picked_tree : List ℕ → ℕ → Proof → Proof

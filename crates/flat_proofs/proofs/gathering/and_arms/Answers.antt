@@ -1,6 +1,6 @@
 use Rattle.std.proofs.Common.{◌∙◌, ap, arith, map, refl, List}
 use Rattle.kernel.specs.declared.proof.Proof.{AndE}
-use Rattle.norm_proofs.specs.code.Numbering.{near}
+use Rattle.norm_proofs.specs.Numbering.{near}
 use Rattle.flat_proofs.specs.code.Gathering.{and_arms}
 use Rattle.flat_proofs.specs.code.Members.{seen}
 use Rattle.flat_proofs.proofs.Arms.{left_less, own_left, and_next}

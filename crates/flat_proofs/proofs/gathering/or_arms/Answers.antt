@@ -1,7 +1,7 @@
 use Rattle.std.proofs.Common.{◌∙◌, ap, arith, map, refl, List}
 use Rattle.fof_terms.specs.declared.form.Form.{Form}
 use Rattle.kernel.specs.declared.proof.Proof.{OrI}
-use Rattle.norm_proofs.specs.code.Numbering.{near}
+use Rattle.norm_proofs.specs.Numbering.{near}
 use Rattle.flat_proofs.specs.code.Gathering.{or_arms}
 use Rattle.flat_proofs.specs.code.Members.{seen}
 use Rattle.flat_proofs.proofs.Arms.{left_less, own_left, or_next}

@@ -1,7 +1,7 @@
 use Rattle.std.proofs.Common.{◌∙◌, ap}
 use Rattle.fof_terms.specs.declared.form.Form.{Form}
 use Rattle.derive_kit.proofs.Built.{ok_map}
-use Rattle.norm_proofs.specs.code.Numbering.{general}
+use Rattle.norm_proofs.specs.Numbering.{general}
 use Rattle.kernel.specs.declared.proof.Proof.{ImpI}
 use Rattle.flat_proofs.specs.code.Permuting.{at_numbers}
 use Rattle.flat_proofs.proofs.TurnFacts.{forth_tree, back_tree}

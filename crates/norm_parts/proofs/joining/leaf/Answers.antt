@@ -1,7 +1,7 @@
 use Rattle.std.proofs.Common.{ap, arith, ◌∙◌, ℕ, ◌≡◌, ◌+◌, ◌-◌}
 use Rattle.fof_terms.specs.declared.term.Term.{Var}
 use Rattle.kernel.specs.declared.proof.Proof.{AndE, AllE}
-use Rattle.norm_proofs.specs.code.Numbering.{near}
+use Rattle.norm_proofs.specs.Numbering.{near}
 use Rattle.norm_proofs.proofs.RoutesFacts.{near_next, near_end}
 use Rattle.norm_parts.proofs.joining.leaf.Goals as goal
 

@@ -1,5 +1,5 @@
 use Rattle.std.proofs.Common.{◌≡◌, ◌-◌}
-use Rattle.norm_proofs.specs.code.Numbering.{near}
+use Rattle.norm_proofs.specs.Numbering.{near}
 use Rattle.norm_parts.specs.code.Gathering.{leaf_tree}
 use Rattle.norm_parts.proofs.joining.leaf.Given as goal
 

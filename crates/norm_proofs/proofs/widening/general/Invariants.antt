@@ -1,5 +1,5 @@
 use Rattle.std.proofs.Common.{◌≡◌, ◌-◌, drop, length}
-use Rattle.norm_proofs.specs.code.Numbering.{general}
+use Rattle.norm_proofs.specs.Numbering.{general}
 use Rattle.norm_proofs.proofs.widening.general.Given as goal
 
 abbrev pub invariant-loop-i : goal.invariant-loop-i

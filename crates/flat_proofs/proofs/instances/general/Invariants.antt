@@ -1,6 +1,0 @@
-use Rattle.std.proofs.Common.{◌≡◌, ◌-◌, drop, length}
-use Rattle.norm_proofs.specs.code.Numbering.{general}
-use Rattle.flat_proofs.proofs.instances.general.Given as goal
-
-abbrev pub invariant-loop-i : goal.invariant-loop-i
-invariant-loop-i l = l.made ≡ general (drop (length l.sorts - l.i) l.sorts) l.fn.part
