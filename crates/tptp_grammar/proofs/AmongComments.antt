@@ -11,8 +11,8 @@ use Rattle.tptp_grammar.specs.Tokens.{Tokens}
 use Rattle.tptp_grammar.specs.Items as g
 use Rattle.tptp_grammar.specs.Items.{IsItem}
 use Rattle.tptp_grammar.specs.Solid.{Placed, is_comment, solid}
-use Rattle.tptp_grammar.specs.code.Solid.{BeginsSolid}
 use Rattle.tptp_grammar.specs.Files.{Through, last_token, token, IsFile, end_of_file, comment, input}
+use Rattle.tptp_grammar.proofs.Solids.{BeginsSolid}
 use Rattle.tptp_grammar.proofs.SolidItems.{SolidTo, none, one}
 use Rattle.tptp_grammar.proofs.ExactFile.{Ends, ends_here, ends_drop, ends_keep, comment_text, solid_kept, solid_dropped, through_drop}
 

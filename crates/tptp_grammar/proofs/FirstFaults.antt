@@ -13,10 +13,10 @@ use Rattle.tptp_grammar.specs.Tokens.{Text, Tokens}
 use Rattle.tptp_grammar.specs.Items as g
 use Rattle.tptp_grammar.specs.Items.{IsItem}
 use Rattle.tptp_grammar.specs.Solid.{Placed, is_comment, is_remark, solid}
-use Rattle.tptp_grammar.specs.code.Solid.{BeginsSolid}
 use Rattle.tptp_grammar.specs.Files.{IsFile, end_of_file, comment, input, SpellsWithin}
 use Rattle.tptp_grammar.specs.code.ReadItems.{item}
 use Rattle.tptp_grammar.specs.code.ReadFile.{FileOutcome, with_item, file}
+use Rattle.tptp_grammar.proofs.Solids.{BeginsSolid}
 use Rattle.tptp_grammar.proofs.SolidItems.{SolidTo, none, one, of_item}
 use Rattle.tptp_grammar.proofs.ExactItems.{good_item}
 use Rattle.tptp_grammar.proofs.ExactFile.{Ends, comment_text, solid_kept, solid_ends, through_of, item_read, item_fails, started_comment}

@@ -3,6 +3,11 @@ use Rattle.std.proofs.Common.{◌≡◌, Bool, true, false, if◌then◌else◌,
 use Rattle.tptp_lexer.specs.declared.token.Token.{Token}
 use Rattle.tptp_grammar.specs.Solid.{Placed, is_comment, is_remark, solid}
 
+-- it begins with no comment
+abbrev pub BeginsSolid : List Placed → Type 0
+BeginsSolid [] = Unit {0}
+BeginsSolid (entry ∷ rest) = is_remark entry ≡ false
+
 shorter : (b : Bool) (t : Token) (us : List Token) (entry : Placed) (rest : List Placed) → length us ≤ length rest → length (if b then us else t ∷ us) ≤ length (entry ∷ rest)
 shorter true t us entry rest le = omega arith
 shorter false t us entry rest le = omega arith

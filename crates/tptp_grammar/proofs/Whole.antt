@@ -17,7 +17,6 @@ use Rattle.tptp_grammar.specs.declared.fault.GrammarFault.TheVariants as fault
 use Rattle.tptp_grammar.specs.Tokens.{Text, Tokens}
 use Rattle.tptp_grammar.specs.Items.{IsItem}
 use Rattle.tptp_grammar.specs.Solid.{Placed, is_comment, is_remark, solid}
-use Rattle.tptp_grammar.specs.code.Solid.{BeginsSolid}
 use Rattle.tptp_grammar.specs.Files.{IsFile, Spells, SpellsWithin, IsPossible, IsPossibleWithin}
 use Rattle.tptp_grammar.specs.Faults.{max_nesting, is_outside, IsImpossible, IsUnfinished, IsDeep}
 use Rattle.tptp_grammar.specs.code.Outcomes.{Fails}
@@ -25,6 +24,7 @@ use Rattle.tptp_grammar.specs.code.ReadItems.{item}
 use Rattle.tptp_grammar.specs.code.ReadFile.{FileOutcome, with_item, followed, started, file_from, file}
 use Rattle.tptp_grammar.specs.Answers as a
 use Rattle.tptp_grammar.specs.code.Answers as a_code
+use Rattle.tptp_grammar.proofs.Solids.{BeginsSolid}
 use Rattle.tptp_grammar.proofs.ExactItems.{good_item}
 use Rattle.tptp_grammar.proofs.ExactFile.{solid_kept, solid_dropped, comment_text, found_file}
 use Rattle.tptp_grammar.proofs.FirstFaults.{FileFault, FileSays, file_says, some_item}

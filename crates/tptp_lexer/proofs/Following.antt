@@ -8,8 +8,7 @@ use Rattle.tptp_lexer.specs.declared.token.Token.{Token}
 use Rattle.tptp_lexer.specs.declared.token.Token.TheVariants as t
 use Rattle.tptp_lexer.specs.Bytes.{Text}
 use Rattle.tptp_lexer.specs.Words.{as_word, as_words}
-use Rattle.tptp_lexer.specs.code.Lexemes.{Follow, IsPlaced, spelling, taken, item_of, items_of}
-use Rattle.tptp_lexer.specs.code.Scan.{token_of}
+use Rattle.tptp_lexer.specs.Lexemes.{Follow, IsPlaced, spelling, taken, item_of, items_of, token_of}
 use Rattle.tptp_lexer.specs.code.Step.{found}
 
 -- from an earlier offset

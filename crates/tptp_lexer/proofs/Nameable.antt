@@ -1,5 +1,5 @@
 -- The words among tokens are names that can be written between quotes.
-use Rattle.std.proofs.Common.{◌≡◌, ℕ, ◌<◌, ◌≤◌, ◌&&◌, ◌==◌, Bool, true, List, [], ◌∷◌, length, arith}
+use Rattle.std.proofs.Common.{◌≡◌, ℕ, true, List, [], ◌∷◌, arith}
 use Rattle.std.specs.List.{AllByRecursion, list_all}
 use Rattle.std.proofs.lemmas.Bool.{and_parts}
 use Rattle.std.proofs.lemmas.Bool.Decides.{nat_tests}
@@ -10,7 +10,7 @@ use Rattle.tptp_lexer.specs.declared.style.Style.{Style}
 use Rattle.tptp_lexer.specs.declared.token.Token.{Token}
 use Rattle.tptp_lexer.specs.declared.token.Token.TheVariants.{Lower, Quoted}
 use Rattle.tptp_lexer.specs.Bytes.{Text, is_lower_alpha, is_alpha_numeric}
-use Rattle.tptp_lexer.specs.Quotes.{IsWritten, nothing, plain, escaped, single_quote, is_plain, is_escaped}
+use Rattle.tptp_lexer.specs.Quotes.{IsWritten, nothing, plain, escaped, single_quote, is_escaped}
 use Rattle.tptp_lexer.specs.Spelled.{Spelled, lower_word, upper_word, dollar_word, dollar_dollar_word, single_quoted, distinct_object, number, comment_line, comment_block, mark}
 use Rattle.tptp_lexer.specs.Tokenized.{Cut, here, after_blank, after_token, placed}
 

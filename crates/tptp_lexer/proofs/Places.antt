@@ -1,10 +1,10 @@
 -- Lines and columns of a later place.
-use Rattle.std.proofs.Common.{◌≡◌, ℕ, suc, ◌+◌, ◌-◌, ◌<◌, ◌≤◌, ◌==◌, Bool, true, false, not, [], ◌∷◌, ◌++◌, length, take, drop, reverse, if◌then◌else◌, Some, None, get_or, refl, sym, ◌∙◌, ap, subst, arith, length-take, length-drop, slice_range, count_by}
+use Rattle.std.proofs.Common.{◌≡◌, ℕ, suc, ◌+◌, ◌-◌, ◌<◌, ◌≤◌, ◌==◌, Bool, true, false, not, [], ◌∷◌, ◌++◌, length, take, drop, reverse, if◌then◌else◌, Some, None, get_or, refl, sym, ◌∙◌, ap, subst, arith, length-take, count_by}
 use Rattle.std.specs.List.{suffix_len, prefix_len}
 use Rattle.std.proofs.lemmas.Bool.{eq-eqb, ne_eqb, false_from_ne_true, cond-true, cond-false}
-use Rattle.std.proofs.lemmas.List.{reverse-append, length-reverse, get_or-take, get_or-drop}
+use Rattle.std.proofs.lemmas.List.{reverse-append, length-reverse}
 use Rattle.std.proofs.lemmas.List.Folds.{prefix_len-append}
-use Rattle.std.proofs.lemmas.List.Sums.{suffix_len_is, suffix_len-le-length, prefix_len_passes, prefix_len-le-length, sum_by-append, count_by-le-length}
+use Rattle.std.proofs.lemmas.List.Sums.{suffix_len_is, suffix_len-le-length, sum_by-append, count_by-le-length}
 use Rattle.std.proofs.Math.Seq.{take-add}
 use Rattle.memchr.specs.Find.{IsLastByte, is_byte}
 use Rattle.tptp_base.specs.declared.place.Place.{Place}

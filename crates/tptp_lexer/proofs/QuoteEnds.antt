@@ -7,7 +7,8 @@ use Rattle.tptp_lexer.specs.declared.quotes.Turn.{Turn}
 use Rattle.tptp_lexer.specs.declared.quotes.Turn.TheVariants.{Goes, Closes, Breaks}
 use Rattle.tptp_lexer.specs.Bytes.{Text}
 use Rattle.tptp_lexer.specs.Quotes.{is_plain, is_escaped, IsWritten, nothing, plain, escaped}
-use Rattle.tptp_lexer.specs.code.Scan.{turn_of, quote_by, quote_end, unescaped, unescaped_from}
+use Rattle.tptp_lexer.specs.Lexemes.{unescaped, unescaped_from}
+use Rattle.tptp_lexer.specs.code.Scan.{turn_of, quote_by, quote_end}
 
 -- a character that stands for itself is neither the quote nor `\`
 plain_parts : (quote byte : ℕ) → is_plain quote byte ≡ true → (byte == quote ≡ false) × (byte == 92 ≡ false)

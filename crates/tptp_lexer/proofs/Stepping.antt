@@ -16,8 +16,8 @@ use Rattle.tptp_lexer.specs.declared.token.Token.{Token}
 use Rattle.tptp_lexer.specs.declared.token.Tokens.{Tokens}
 use Rattle.tptp_lexer.specs.Answer.{IsOpen, BeginsNothing, part, Answers}
 use Rattle.tptp_lexer.specs.Bytes.{Text}
-use Rattle.tptp_lexer.specs.code.Lexemes.{Follow, items_of, spelling, IsPlaced}
-use Rattle.tptp_lexer.specs.code.Scan.{front_of, token_of}
+use Rattle.tptp_lexer.specs.Lexemes.{Follow, items_of, spelling, IsPlaced, token_of}
+use Rattle.tptp_lexer.specs.code.Scan.{front_of}
 use Rattle.tptp_lexer.specs.Spelled.{IsLongest}
 use Rattle.tptp_lexer.specs.code.Step.{found, Takes, Stepped}
 use Rattle.tptp_lexer.specs.Tokenized.{Cut, here, after_token, placed}

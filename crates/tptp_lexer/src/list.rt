@@ -3,8 +3,7 @@
 ghost use Rattle.std.specs.Prelude.{◌≡◌, ◌↔◌, ◌+◌, ◌≤◌, ◌∷◌, [], false, length, IsTrue, MatchOption};
 ghost use Rattle.tptp_base.specs.declared.place.Place.{Place};
 ghost use Rattle.tptp_lexer.specs.Words.{as_words};
-ghost use Rattle.tptp_lexer.specs.code.Lexemes.{IsPlaced, items_of, spelling, taken};
-ghost use Rattle.tptp_lexer.specs.code.Scan as scan;
+ghost use Rattle.tptp_lexer.specs.Lexemes as spec;
 
 use crate::Token;
 use crate::advance::place_behind;
@@ -29,7 +28,7 @@ impl<'a> Model for TokenList<'a> {
 
     ghost Value = { List (Token × Place) };
 
-    ghost use Rattle.tptp_lexer.specs.code.Lexemes.{IsPlaced, items_of};
+    ghost use Rattle.tptp_lexer.specs.Lexemes.{IsPlaced, items_of};
 
     ghost view = { λ it. items_of it.words it.start.file it.text.now it.list };
 
@@ -39,8 +38,8 @@ impl<'a> Model for TokenList<'a> {
 impl<'a> TokenList<'a> {
     // The tokens that are spelled so behind a place of the text.
     pub(crate) fn new(text: &'a [u8], start: Place, list: List<Lexeme>) -> TokenList<'a>
-        requires { IsPlaced text.now start list }
-        ensures { result ≡ items_of false start.file text.now list }
+        requires { spec.IsPlaced text.now start list }
+        ensures { result ≡ spec.items_of false start.file text.now list }
     {
         TokenList {
             text,
@@ -98,7 +97,7 @@ impl<'a> Model for Rest<'a> {
 
     ghost Value = { List (Token × Place) };
 
-    ghost use Rattle.tptp_lexer.specs.code.Lexemes.{IsPlaced, items_of};
+    ghost use Rattle.tptp_lexer.specs.Lexemes.{IsPlaced, items_of};
 
     ghost view = { λ it. items_of it.words it.known.file it.text.now it.list.now };
 
@@ -149,7 +148,7 @@ impl<'a> Rest<'a> {
 // The token that is found there, with a word in place of a distinct object where `words` says so.
 fn token_at<'a>(text: &'a [u8], lexeme: Lexeme, words: bool) -> Token<'a>
     requires { lexeme.at + lexeme.len ≤ length text.now }
-    ensures { result ≡ taken words (scan.token_of lexeme.kind (spelling text.now lexeme)) }
+    ensures { result ≡ spec.taken words (spec.token_of lexeme.kind (spec.spelling text.now lexeme)) }
 {
     let from = lexeme.at as usize;
     token_of(lexeme.kind, &text[from..from + lexeme.len as usize], words)

@@ -1,14 +1,13 @@
 //! Tokens from their spellings.
 ghost use Rattle.std.specs.Prelude.{◌≡◌, ◌≤◌, ◌++◌, ◌∷◌, [], length};
-ghost use Rattle.tptp_lexer.specs.code.Lexemes.{taken};
-ghost use Rattle.tptp_lexer.specs.code.Scan as spec;
+ghost use Rattle.tptp_lexer.specs.Lexemes as spec;
 
 use crate::scan::Kind;
 use crate::{Chars, Token, Word};
 
 /// The token of a kind that is spelled so. A distinct object is given as a word where `words` says so.
 pub fn token_of<'a>(kind: Kind, spelling: &'a [u8], words: bool) -> Token<'a>
-    ensures { result ≡ taken words (spec.token_of kind spelling.now) }
+    ensures { result ≡ spec.taken words (spec.token_of kind spelling.now) }
 {
     match kind {
         Kind::Lower => Token::Lower(Word::new(spelling)),
@@ -25,7 +24,7 @@ pub fn token_of<'a>(kind: Kind, spelling: &'a [u8], words: bool) -> Token<'a>
 
 // The distinct object that is written so between its quotes, or the word for it.
 fn distinct<'a>(written: &'a [u8], words: bool) -> Token<'a>
-    ensures { result ≡ taken words (Token.Distinct (spec.unescaped written.now)) }
+    ensures { result ≡ spec.taken words (Token.Distinct (spec.unescaped written.now)) }
 {
     if words {
         Token::Quoted(Chars::behind_mark(written))

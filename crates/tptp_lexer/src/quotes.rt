@@ -1,6 +1,7 @@
 //! Where a quote ends, and what it holds.
 ghost use Rattle.std.specs.Prelude.{◌≡◌, ◌≤◌, ◌<◌, length, IfOk, false};
 ghost use Rattle.tptp_lexer.specs.Quotes as written;
+ghost use Rattle.tptp_lexer.specs.Lexemes as lexemes;
 ghost use Rattle.tptp_lexer.specs.code.Scan as spec;
 
 use memchr::memchr;
@@ -78,7 +79,7 @@ pub fn quote_end(quote: u8, text: &[u8]) -> Quote
 
 /// The characters that are written so between quotes.
 pub fn unescaped(alloc: Global, text: &[u8]) -> Result<Text, AllocError>
-    ensures { IfOk result (λ chars. chars ≡ spec.unescaped text.now) }
+    ensures { IfOk result (λ chars. chars ≡ lexemes.unescaped text.now) }
 {
     match memchr(b'\\', text) {
         None => Text::from_slice(alloc, text),
@@ -87,7 +88,7 @@ pub fn unescaped(alloc: Global, text: &[u8]) -> Result<Text, AllocError>
 }
 
 fn without_escapes(alloc: Global, text: &[u8]) -> Result<Text, AllocError>
-    ensures { IfOk result (λ chars. chars ≡ spec.unescaped text.now) }
+    ensures { IfOk result (λ chars. chars ≡ lexemes.unescaped text.now) }
 {
     let mut chars = Vec::with_capacity(alloc, text.len())?;
     let mut escaped = false;

@@ -1,6 +1,6 @@
 //! Words that a text lends.
 ghost use Rattle.std.specs.Prelude.{◌≡◌, ◌∷◌, IfOk};
-ghost use Rattle.tptp_lexer.specs.code.Scan as spec;
+ghost use Rattle.tptp_lexer.specs.Lexemes as spec;
 
 use crate::quotes::unescaped;
 use std::alloc::{AllocError, Global};
@@ -59,7 +59,7 @@ impl<'a> Model for Chars<'a> {
 
     ghost Value = { List ℕ };
 
-    ghost use Rattle.tptp_lexer.specs.code.Lexemes.{chars_of};
+    ghost use Rattle.tptp_lexer.specs.Lexemes.{chars_of};
 
     ghost view = { λ chars. chars_of chars.marked chars.written.now };
 }

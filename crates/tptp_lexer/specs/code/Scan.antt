@@ -1,7 +1,7 @@
 -- What the scanner computes of the bytes at the front of a text. It is no part of the definition of tokens: only the
 -- contracts of private functions cite it.
-use Rattle.std.specs.Prelude.{ℕ, suc, ◌+◌, ◌-◌, ◌<◌, Bool, true, false, ◌||◌, ◌&&◌, ◌==◌, if◌then◌else◌, nat_le, []}
-use Rattle.std.specs.Prelude.{◌∷◌, length, take, drop, slice_index, Option, None, Some, option_map}
+use Rattle.std.specs.Prelude.{ℕ, suc, ◌+◌, ◌<◌, Bool, true, false, ◌||◌, ◌&&◌, ◌==◌, if◌then◌else◌, nat_le, []}
+use Rattle.std.specs.Prelude.{◌∷◌, drop, slice_index, Option, None, Some, option_map}
 use Rattle.std.specs.List.{prefix_len}
 use Rattle.tptp_lexer.specs.declared.quotes.Quote.{Quote}
 use Rattle.tptp_lexer.specs.declared.quotes.Quote.TheVariants.{Closed, Unclosed, Broken}
@@ -12,7 +12,6 @@ use Rattle.tptp_lexer.specs.declared.scan.Front.TheVariants.{Blanks, Token as Fo
 use Rattle.tptp_lexer.specs.declared.scan.Kind.{Kind}
 use Rattle.tptp_lexer.specs.declared.style.Style.{Style}
 use Rattle.tptp_lexer.specs.declared.token.Mark.{Mark}
-use Rattle.tptp_lexer.specs.declared.token.Token.{Token}
 use Rattle.tptp_lexer.specs.Bytes.{Text, is_blank, is_lower_alpha, is_upper_alpha, is_numeric, is_alpha_numeric}
 use Rattle.tptp_base.specs.Place.{is_no_line_feed}
 use Rattle.tptp_lexer.specs.Comments.{begins_comment}
@@ -20,7 +19,6 @@ use Rattle.tptp_lexer.specs.Numbers.{is_sign, is_exponent}
 use Rattle.tptp_lexer.specs.Quotes.{is_plain, is_escaped}
 use Rattle.tptp_lexer.specs.declared.scan.Kind.TheVariants as k
 use Rattle.tptp_lexer.specs.declared.token.Mark.TheVariants as m
-use Rattle.tptp_lexer.specs.declared.token.Token.TheVariants as t
 
 -- ---- marks
 
@@ -120,19 +118,6 @@ abbrev pub EndsIn : ℕ → Quote → Type 0
 EndsIn end (Closed at) = at < end
 EndsIn end other = Unit {0}
 
--- the characters that are written so
-abbrev pub unescaped_from : Bool → Text → Text
-unescaped_from escaped [] = []
-unescaped_from true (byte ∷ text) = byte ∷ unescaped_from false text
-unescaped_from false (byte ∷ text) = if byte == 92 then unescaped_from true text else byte ∷ unescaped_from false text
-
-abbrev pub unescaped : Text → Text
-unescaped text = unescaped_from false text
-
--- what stands between the first and the last byte
-abbrev pub inside : Text → Text
-inside text = take (length text - 2) (drop 1 text)
-
 -- ---- comments
 
 -- how many bytes stand before the first `*/`
@@ -185,15 +170,3 @@ front_of style text =
     else (if is_blank first then Blanks (prefix_len is_blank text)
     else (if is_numeric first || is_sign first then counted k.Number 0 (number_len text)
     else behind_words style text)))
-
--- the token of a kind that is spelled so
-abbrev pub token_of : Kind → Text → Token
-token_of k.Lower text = t.Lower text
-token_of k.Quoted text = t.Quoted (unescaped (inside text))
-token_of k.Upper text = t.Upper text
-token_of k.Dollar text = t.Dollar text
-token_of k.System text = t.System text
-token_of k.Number text = t.Number text
-token_of k.Distinct text = t.Distinct (unescaped (inside text))
-token_of k.Comment text = t.Comment text
-token_of (k.Mark mark) text = t.Mark mark

@@ -10,7 +10,7 @@ use Rattle.tptp_lexer.specs.declared.token.Token.{Token}
 use Rattle.tptp_lexer.specs.Answer.{BeginsNothing, IsOpen}
 use Rattle.tptp_lexer.specs.Bytes.{Text}
 use Rattle.tptp_lexer.specs.Tokenized.{Cut, placed}
-use Rattle.tptp_lexer.specs.code.Lexemes.{items_of, Follow}
+use Rattle.tptp_lexer.specs.Lexemes.{items_of, Follow}
 
 -- the tokens that are found there
 abbrev pub found : ℕ → Text → List Lexeme → List (Token × Place)

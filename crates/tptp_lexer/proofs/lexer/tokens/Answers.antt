@@ -1,4 +1,4 @@
-use Rattle.std.proofs.Common.{◌≡◌, refl, sym, ◌∙◌, ap, subst, arith, Ok, Err, Result, List}
+use Rattle.std.proofs.Common.{◌≡◌, sym, ◌∙◌, ap, subst, Ok, Err, Result, List}
 use Rattle.std.proofs.lemmas.Result.{err_from_is_err_and}
 use Rattle.tptp_lexer.specs.declared.fault.LexFault.{LexFault}
 use Rattle.tptp_lexer.specs.declared.lexeme.Lexeme.{Lexeme}

@@ -1,5 +1,5 @@
 use Rattle.std.proofs.Common.{◌≡◌, ◌++◌, drop}
-use Rattle.tptp_lexer.specs.code.Scan.{unescaped, unescaped_from}
+use Rattle.tptp_lexer.specs.Lexemes.{unescaped, unescaped_from}
 use Rattle.tptp_lexer.proofs.quotes.without_escapes.Given as goal
 
 abbrev pub invariant-loop-byte : goal.invariant-loop-byte

@@ -1,16 +1,43 @@
--- How a list of tokens is kept: of each, where it is spelled. Only the contracts of private functions cite it.
-use Rattle.std.specs.Prelude.{◌≡◌, ◌+◌, ◌≤◌, ℕ, Bool, if◌then◌else◌, List, [], ◌∷◌, length, map, slice_range}
+-- How a list of tokens is kept: of each, where it is spelled, and the tokens that are meant by that.
+use Rattle.std.specs.Prelude.{◌≡◌, ◌==◌, ◌+◌, ◌-◌, ◌≤◌, ℕ, Bool, true, false, if◌then◌else◌, List, [], ◌∷◌, length, map}
+use Rattle.std.specs.Prelude.{take, drop, slice_range}
 use Rattle.tptp_base.specs.declared.place.Place.{Place}
 use Rattle.tptp_base.specs.Place.{place_of}
 use Rattle.tptp_lexer.specs.declared.lexeme.Lexeme.{Lexeme}
+use Rattle.tptp_lexer.specs.declared.scan.Kind.{Kind}
 use Rattle.tptp_lexer.specs.declared.token.Token.{Token}
+use Rattle.tptp_lexer.specs.declared.scan.Kind.TheVariants as k
 use Rattle.tptp_lexer.specs.declared.token.Token.TheVariants as t
 use Rattle.tptp_lexer.specs.Bytes.{Text}
-use Rattle.tptp_lexer.specs.code.Scan.{token_of, unescaped}
+
+-- the characters that are written so, without the `\` before some
+abbrev pub unescaped_from : Bool → Text → Text
+unescaped_from escaped [] = []
+unescaped_from true (byte ∷ text) = byte ∷ unescaped_from false text
+unescaped_from false (byte ∷ text) = if byte == 92 then unescaped_from true text else byte ∷ unescaped_from false text
+
+abbrev pub unescaped : Text → Text
+unescaped text = unescaped_from false text
+
+-- what stands between the first and the last byte
+abbrev pub inside : Text → Text
+inside text = take (length text - 2) (drop 1 text)
 
 -- the characters that are written so between quotes, with the byte 0 in front where `marked` says so
 abbrev pub chars_of : Bool → Text → Text
 chars_of marked written = if marked then 0 ∷ unescaped written else unescaped written
+
+-- the token of a kind that is spelled so
+abbrev pub token_of : Kind → Text → Token
+token_of k.Lower text = t.Lower text
+token_of k.Quoted text = t.Quoted (unescaped (inside text))
+token_of k.Upper text = t.Upper text
+token_of k.Dollar text = t.Dollar text
+token_of k.System text = t.System text
+token_of k.Number text = t.Number text
+token_of k.Distinct text = t.Distinct (unescaped (inside text))
+token_of k.Comment text = t.Comment text
+token_of (k.Mark mark) text = t.Mark mark
 
 -- the bytes of its spelling
 abbrev pub spelling : Text → Lexeme → Text
