@@ -95,10 +95,10 @@ module _ (v : Vocabulary) (c : Clause) (i j : ℕ) where
     pub factor_none : Unified v given.sorts given.rigid lent None → IsBestAt v (scope_of c) (FactorsAt c i j) None
     factor_none u = none_best v (scope_of c) (FactorsAt c i j) factor (args_of_atom k.atom) (args_of_atom l.atom) factor_posed given factor_scope lent (lent_pairs ∙ paired.pairs_are) u
 
-    pub factor_some : (images : List Term) (left lent_left : List Lit) (made : Made) → Unified v given.sorts given.rigid lent (Some images) → left ≡ remove c.lits j → lent_left ≡ left → IsConclusion given.sorts images lent_left made
+    pub factor_some : (images : List Term) (left : List Lit) (made : Made) → Unified v given.sorts given.rigid lent (Some images) → left ≡ remove c.lits j → IsConclusion given.sorts images left made
         → IsBestAt v (scope_of c) (FactorsAt c i j) (Some made)
-    factor_some images left lent_left made u left_is same con =
-        some_best v (scope_of c) (FactorsAt c i j) factor (args_of_atom k.atom) (args_of_atom l.atom) factor_posed given factor_scope lent (lent_pairs ∙ paired.pairs_are) images u lent_left made (same ∙ left_is) con
+    factor_some images left made u left_is con =
+        some_best v (scope_of c) (FactorsAt c i j) factor (args_of_atom k.atom) (args_of_atom l.atom) factor_posed given factor_scope lent (lent_pairs ∙ paired.pairs_are) images u left made left_is con
 
 -- equality resolution
 module _ (v : Vocabulary) (c : Clause) (i : ℕ) where
@@ -144,10 +144,10 @@ module _ (v : Vocabulary) (c : Clause) (i : ℕ) where
     pub equation_none : Unified v given.sorts given.rigid lent None → IsBestAt v (scope_of c) (ResolvesEquationAt c i) None
     equation_none u = none_best v (scope_of c) (ResolvesEquationAt c i) gone (s ∷ []) (t ∷ []) gone_posed given gone_scope lent (lent_pairs ∙ pairs_are) u
 
-    pub equation_some : (images : List Term) (left lent_left : List Lit) (made : Made) → Unified v given.sorts given.rigid lent (Some images) → left ≡ remove c.lits i → lent_left ≡ left → IsConclusion given.sorts images lent_left made
+    pub equation_some : (images : List Term) (left : List Lit) (made : Made) → Unified v given.sorts given.rigid lent (Some images) → left ≡ remove c.lits i → IsConclusion given.sorts images left made
         → IsBestAt v (scope_of c) (ResolvesEquationAt c i) (Some made)
-    equation_some images left lent_left made u left_is same con =
-        some_best v (scope_of c) (ResolvesEquationAt c i) gone (s ∷ []) (t ∷ []) gone_posed given gone_scope lent (lent_pairs ∙ pairs_are) images u lent_left made (same ∙ left_is) con
+    equation_some images left made u left_is con =
+        some_best v (scope_of c) (ResolvesEquationAt c i) gone (s ∷ []) (t ∷ []) gone_posed given gone_scope lent (lent_pairs ∙ pairs_are) images u left made left_is con
 
 -- equality factoring
 module _ (v : Vocabulary) (c : Clause) (i : ℕ) (first_flipped : Bool) (j : ℕ) (second_flipped : Bool) where
@@ -208,7 +208,7 @@ module _ (v : Vocabulary) (c : Clause) (i : ℕ) (first_flipped : Bool) (j : ℕ
     pub merged_none : Unified v given.sorts given.rigid lent None → IsBestAt v (scope_of c) Is None
     merged_none x = none_best v (scope_of c) Is merged (s ∷ []) (u ∷ []) merged_posed given merged_scope lent (lent_pairs ∙ pairs_are) x
 
-    pub merged_some : (images : List Term) (left lent_left : List Lit) (made : Made) → Unified v given.sorts given.rigid lent (Some images) → left ≡ remove c.lits i ++ unequal t w ∷ [] → lent_left ≡ left → IsConclusion given.sorts images lent_left made
+    pub merged_some : (images : List Term) (left : List Lit) (made : Made) → Unified v given.sorts given.rigid lent (Some images) → left ≡ remove c.lits i ++ unequal t w ∷ [] → IsConclusion given.sorts images left made
         → IsBestAt v (scope_of c) Is (Some made)
-    merged_some images left lent_left made x left_is same con =
-        some_best v (scope_of c) Is merged (s ∷ []) (u ∷ []) merged_posed given merged_scope lent (lent_pairs ∙ pairs_are) images x lent_left made (same ∙ left_is) con
+    merged_some images left made x left_is con =
+        some_best v (scope_of c) Is merged (s ∷ []) (u ∷ []) merged_posed given merged_scope lent (lent_pairs ∙ pairs_are) images x left made left_is con

@@ -1,8 +1,8 @@
 -- Variables that are noted, and the substitutions that fix them.
-use Rattle.std.specs.Prelude.{ℕ, ◌+◌, ◌<◌, ◌≤◌, ◌≡◌, Bool, true, false, List, [], ◌∷◌, ◌++◌, map, take, length, get_or, Option, Some, None, MatchOption, slice_get, refl}
+use Rattle.std.specs.Prelude.{ℕ, ◌+◌, ◌<◌, ◌≤◌, ◌≡◌, Bool, true, false, List, [], ◌∷◌, ◌++◌, map, take, drop, remove, length, get_or, Option, Some, None, MatchOption, slice_get, refl}
 use Rattle.std.specs.List.{Contains}
 use Rattle.std.specs.Option.{is_some}
-use Rattle.std.proofs.Common.{ap, sym, subst, ◌∙◌, arith, inl, inr, zero, suc}
+use Rattle.std.proofs.Common.{ap, sym, subst, ◌∙◌, arith, inl, inr, zero, suc, add-one}
 use Rattle.std.proofs.lemmas.List.{take_more, map-append}
 use Rattle.std.proofs.lemmas.Option.{get_or_from_slice_get}
 use Rattle.std.proofs.lemmas.List.Elements.{Contains-push, Contains-push_cases, Contains-append_left}
@@ -86,6 +86,21 @@ lit_more images lits i l s h is e g =
     let one = lit_image (image_at images) in
     stays_with (lit_image s) (map one (take i lits)) (map one (take (i + 1) lits)) (one l) (ap (map one) (next_taken lits i l h is) ∙ map-append one (take i lits) (l ∷ []))
     e (ap (λ (a : AtomOf). record { positive = l.positive; atom = a }) g)
+
+-- the literals but one, and the rest
+both_stay : (images : List Term) (first second : List Lit) (s : ℕ → Term) → LitInstancesStay images first s → LitInstancesStay images second s → LitInstancesStay images (first ++ second) s
+both_stay images first second s e h =
+    let one = lit_image (image_at images) in
+    ap (map (lit_image s)) (map-append one first second) ∙ map-append (lit_image s) (map one first) (map one second) ∙ ap (λ xs. xs ++ map (lit_image s) (map one second)) e ∙ ap (λ xs. map one first ++ xs) h
+    ∙ sym (map-append one first second)
+
+pub noted_left : (n : ℕ) (old front back new : List ℕ) (images : List Term) (lits rest : List Lit) (at : ℕ) → IsNoted n old front (LitInstancesStay images (take at lits)) → IsNoted n front back (LitInstancesStay images (drop (at + 1) lits))
+    → IsNoted n back new (LitInstancesStay images rest) → IsNoted n old new (LitInstancesStay images (remove lits at ++ rest))
+noted_left n old front back new images lits rest at h g f =
+    let kept : IsNoted n old back (LitInstancesStay images (remove lits at)) =
+    noted_then n old front back (LitInstancesStay images (take at lits)) (LitInstancesStay images (drop (at + 1) lits)) (LitInstancesStay images (remove lits at))
+    (λ s x y. both_stay images (take at lits) (drop (suc at) lits) s x (rw add-one at y)) h g in
+    noted_then n old back new (LitInstancesStay images (remove lits at)) (LitInstancesStay images rest) (LitInstancesStay images (remove lits at ++ rest)) (λ s. both_stay images (remove lits at) rest s) kept f
 
 -- instances
 pub given_image : (images : List Term) (t : Term) (k : ℕ) (u : Term) (s : ℕ → Term) → t ≡ Var k → slice_get images k ≡ Some u → StaysWith u s → InstanceStays images t s

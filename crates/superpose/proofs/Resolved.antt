@@ -171,6 +171,6 @@ module _ (v : Vocabulary) (c d : Clause) (i j : ℕ) (hc : IsClause v c) (hd : I
   pub resolution_none : Unified v given.sorts given.rigid lent None → IsBestAt v (scope_of_both c d) (ResolvesAt c d i j) None
   resolution_none u = none_best v (scope_of_both c d) (ResolvesAt c d i j) draft ts us posed given is_scope lent (lent_pairs ∙ pairing.pairs_are) u
 
-  pub resolution_some : (images : List Term) (left lent_left : List Lit) (made : Made) → Unified v given.sorts given.rigid lent (Some images) → left ≡ remove c.lits i ++ remove (apart_from c d.lits) j → lent_left ≡ left
-      → IsConclusion given.sorts images lent_left made → IsBestAt v (scope_of_both c d) (ResolvesAt c d i j) (Some made)
-  resolution_some images left lent_left made u left_is same con = some_best v (scope_of_both c d) (ResolvesAt c d i j) draft ts us posed given is_scope lent (lent_pairs ∙ pairing.pairs_are) images u lent_left made (same ∙ left_is) con
+  pub resolution_some : (images : List Term) (left : List Lit) (made : Made) → Unified v given.sorts given.rigid lent (Some images) → left ≡ remove c.lits i ++ remove (apart_from c d.lits) j
+      → IsConclusion given.sorts images left made → IsBestAt v (scope_of_both c d) (ResolvesAt c d i j) (Some made)
+  resolution_some images left made u left_is con = some_best v (scope_of_both c d) (ResolvesAt c d i j) draft ts us posed given is_scope lent (lent_pairs ∙ pairing.pairs_are) images u left made left_is con

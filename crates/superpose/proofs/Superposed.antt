@@ -166,9 +166,8 @@ module _ (v : Vocabulary) (c d : Clause) (i : ℕ) (flipped : Bool) (j : ℕ) (p
     pub superposition_none : Unified v given.sorts given.rigid lent None → IsBestAt v (scope_of_both c d) Is None
     superposition_none x = none_best v (scope_of_both c d) Is draft (l ∷ []) (u ∷ []) posed given is_scope lent (lent_pairs ∙ pairs_are) x
 
-    pub superposition_some : (images : List Term) (lits rest put : List Lit) (lent_left : List Lit) (made : Made) → Unified v given.sorts given.rigid lent (Some images) → lits ≡ apart_from c d.lits → rest ≡ remove c.lits i → AreReplaced lits j place r put
-        → lent_left ≡ rest ++ put → IsConclusion given.sorts images lent_left made → IsBestAt v (scope_of_both c d) Is (Some made)
-    superposition_some images lits rest put lent_left made x lits_are rest_is replaced same con =
+    pub superposition_some : (images : List Term) (lits put left : List Lit) (made : Made) → Unified v given.sorts given.rigid lent (Some images) → lits ≡ apart_from c d.lits → AreReplaced lits j place r put → left ≡ remove c.lits i ++ put
+        → IsConclusion given.sorts images left made → IsBestAt v (scope_of_both c d) Is (Some made)
+    superposition_some images lits put left made x lits_are replaced left_is con =
         let put_is : put ≡ slice_set (apart_from c d.lits) j (lit_put_at place r target) = replaced target (ap (λ xs. slice_get xs j) lits_are ∙ there) ∙ ap (λ xs. slice_set xs j (lit_put_at place r target)) lits_are in
-        some_best v (scope_of_both c d) Is draft (l ∷ []) (u ∷ []) posed given is_scope lent (lent_pairs ∙ pairs_are) images x lent_left made
-        (same ∙ ap (λ xs. xs ++ put) rest_is ∙ ap (λ ys. remove c.lits i ++ ys) put_is) con
+        some_best v (scope_of_both c d) Is draft (l ∷ []) (u ∷ []) posed given is_scope lent (lent_pairs ∙ pairs_are) images x left made (left_is ∙ ap (λ ys. remove c.lits i ++ ys) put_is) con

@@ -1,11 +1,11 @@
 //! What an inference leaves, under a substitution, as a clause with few sorts.
-ghost use Rattle.std.specs.Prelude.{◌≡◌, ◌≤◌, ◌^◌, length, IfOk};
+ghost use Rattle.std.specs.Prelude.{◌≡◌, ◌≤◌, ◌<◌, ◌^◌, ◌++◌, remove, length, IfOk};
 ghost use Rattle.superpose.specs.code.Conclusions.{IsConclusion};
 
-use crate::imaging::{images_of, images_of_lits};
+use crate::imaging::{images_of, images_of_left};
 use crate::made::Made;
 use crate::naming::{names_of, sorts_of};
-use crate::noting::note_lits;
+use crate::noting::note_left;
 use clause_form::{Clause, Lit};
 use clause_rules::reversed;
 use fof_terms::SortId;
@@ -16,28 +16,38 @@ use unify_terms::Subst;
 /// The greatest number of variables of a clause that is made.
 const MAX_SORTS: usize = 1_000_000_000;
 
-/// The instances of the literals as a clause of their own. It has the variables that occur in them, in the order in
-/// which they first occur, and one more for each sort of the scope that none of these has. More than 1,000,000,000
-/// variables are treated as want of memory.
+/// The instances of the literals but the one, and of the rest, as a clause of their own. It has the variables that occur
+/// in them, in the order in which they first occur, and one more for each sort of the scope that none of these has. More
+/// than 1,000,000,000 variables are treated as want of memory.
 pub fn conclude(
     alloc: Global,
     scope: &[SortId],
     subst: &Subst,
-    left: &[Lit],
+    lits: &[Lit],
+    at: usize,
+    rest: &[Lit],
 ) -> Result<Made, Memory>
     requires few { length scope.now ≤ 2 ^ 32 }
     requires size { length subst.now ≡ length scope.now }
-    ensures { IfOk result (λ made. IsConclusion scope.now subst.now left.now made) }
+    requires at { at < length lits.now }
+    ensures { IfOk result (λ made. IsConclusion scope.now subst.now (remove lits.now at ++ rest.now) made) }
 {
     let mut kept = List::new(alloc);
-    note_lits(left, subst.images.as_slice(), scope.len(), &mut kept)?;
+    note_left(
+        lits,
+        at,
+        rest,
+        subst.images.as_slice(),
+        scope.len(),
+        &mut kept,
+    )?;
     let names = names_of(alloc, scope, &mut kept)?;
     if kept.len() > MAX_SORTS {
         return Err(Memory);
     }
     let images = images_of(subst.images.as_slice(), alloc, &names)?;
     let subst = Subst { images };
-    let lits = images_of_lits(alloc, &subst, left)?;
+    let lits = images_of_left(alloc, &subst, lits, at, rest)?;
     let sorts = sorts_of(alloc, scope, kept.as_slice())?;
     let sorts = reversed(alloc, sorts.as_slice())?;
     Ok(Made {

@@ -1,5 +1,5 @@
 //! Equality factoring of two positive equations.
-ghost use Rattle.std.specs.Prelude.{◌≡◌, ◌<◌, ◌++◌, ◌∷◌, [], length, remove, IfOk};
+ghost use Rattle.std.specs.Prelude.{◌≡◌, ◌<◌, ◌∷◌, [], length, IfOk};
 ghost use Rattle.clause_form.specs.Covers.{scope_of};
 ghost use Rattle.clause_rules.specs.Steps.{unequal};
 ghost use Rattle.clause_order.specs.Eligible.{IsEligible};
@@ -10,7 +10,6 @@ ghost use Rattle.superpose.specs.Made.{IsBestAt};
 use crate::concluding::conclude;
 use crate::made::Made;
 use crate::pairing::pair_of;
-use crate::resolution::all_but;
 use crate::sides::sides_of;
 use clause_form::{AtomOf, Clause, Lit};
 use clause_rules::scope_of_clause;
@@ -56,28 +55,22 @@ pub fn factor_equations_at(
     };
     match unify(alloc, sig, &scope, pairs.as_slice())? {
         Some(subst) => {
-            let left = with_unequal(alloc, lits, i, first.right, second.right)?;
-            Ok(Some(conclude(alloc, scope.sorts.as_slice(), &subst, left.as_slice())?))
+            let last = unequal_of(alloc, first.right, second.right)?;
+            let sorts = scope.sorts.as_slice();
+            Ok(Some(conclude(alloc, sorts, &subst, lits, i, last.as_slice())?))
         }
         None => Ok(None),
     }
 }
 
-// The literals but the one at the place, and then the denied equation.
-fn with_unequal(
-    alloc: Global,
-    lits: &[Lit],
-    at: usize,
-    left: &Term,
-    right: &Term,
-) -> Result<List<Lit>, Memory>
-    requires { at < length lits.now }
-    ensures { IfOk result (λ all. all ≡ remove lits.now at ++ unequal left.now right.now ∷ []) }
+// The denied equation alone.
+fn unequal_of(alloc: Global, left: &Term, right: &Term) -> Result<List<Lit>, Memory>
+    ensures { IfOk result (λ last. last ≡ unequal left.now right.now ∷ []) }
 {
-    let mut all = all_but(alloc, lits, at)?;
-    all.push(Lit {
+    let mut last = List::new(alloc);
+    last.push(Lit {
         positive: false,
         atom: AtomOf::Eq(left.copy(alloc)?, right.copy(alloc)?),
     })?;
-    Ok(all)
+    Ok(last)
 }

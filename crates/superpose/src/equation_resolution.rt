@@ -9,7 +9,6 @@ ghost use Rattle.superpose.specs.Made.{IsBestAt};
 use crate::concluding::conclude;
 use crate::made::Made;
 use crate::pairing::pair_of;
-use crate::resolution::all_but;
 use crate::sides::denied_sides;
 use clause_form::Clause;
 use clause_rules::scope_of_clause;
@@ -43,8 +42,8 @@ pub fn resolve_equation_at(
     };
     match unify(alloc, sig, &scope, pairs.as_slice())? {
         Some(subst) => {
-            let left = all_but(alloc, lits, i)?;
-            Ok(Some(conclude(alloc, scope.sorts.as_slice(), &subst, left.as_slice())?))
+            let sorts = scope.sorts.as_slice();
+            Ok(Some(conclude(alloc, sorts, &subst, lits, i, &[])?))
         }
         None => Ok(None),
     }

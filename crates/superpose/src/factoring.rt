@@ -10,7 +10,6 @@ ghost use Rattle.superpose.specs.code.Pairs.{NotPositive};
 use crate::concluding::conclude;
 use crate::made::Made;
 use crate::pairing::pairs_of_lits;
-use crate::resolution::all_but;
 use clause_form::{Clause, Lit};
 use clause_rules::scope_of_clause;
 use fof_terms::Signature;
@@ -52,8 +51,8 @@ pub fn factor_at(
     };
     match unify(alloc, sig, &scope, pairs.as_slice())? {
         Some(subst) => {
-            let left = all_but(alloc, lits, j)?;
-            Ok(Some(conclude(alloc, scope.sorts.as_slice(), &subst, left.as_slice())?))
+            let sorts = scope.sorts.as_slice();
+            Ok(Some(conclude(alloc, sorts, &subst, lits, j, &[])?))
         }
         None => Ok(None),
     }

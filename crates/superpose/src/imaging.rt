@@ -1,5 +1,5 @@
 //! Images of literals and of substitutions.
-ghost use Rattle.std.specs.Prelude.{◌≡◌, map, IfOk};
+ghost use Rattle.std.specs.Prelude.{◌≡◌, ◌<◌, ◌++◌, length, remove, map, IfOk, OnOk};
 ghost use Rattle.clause_form.specs.Covers.{at_terms};
 ghost use Rattle.clause_form.specs.Images.{image};
 ghost use Rattle.clause_rules.specs.Steps.{instances};
@@ -11,11 +11,29 @@ use std::alloc::Global;
 use tptp_base::{List, Memory};
 use unify_terms::Subst;
 
-/// The images of the literals. Here and below lists have no more room than they need, since a search keeps many.
-pub fn images_of_lits(alloc: Global, subst: &Subst, lits: &[Lit]) -> Result<List<Lit>, Memory>
-    ensures { IfOk result (λ made. made ≡ instances (image_at subst.now) lits.now) }
+/// The images of the literals but the one, and of the rest. Here and below lists have no more room than they need, since
+/// a search keeps many.
+pub fn images_of_left(
+    alloc: Global,
+    subst: &Subst,
+    lits: &[Lit],
+    at: usize,
+    rest: &[Lit],
+) -> Result<List<Lit>, Memory>
+    requires { at < length lits.now }
+    ensures { IfOk result (λ made. made ≡ instances (image_at subst.now) (remove lits.now at ++ rest.now)) }
 {
-    let mut made = Vec::with_capacity(alloc, lits.len())?;
+    let mut made = Vec::with_capacity(alloc, lits.len() - 1 + rest.len())?;
+    add_images(alloc, subst, &lits[..at], &mut made)?;
+    add_images(alloc, subst, &lits[at + 1..], &mut made)?;
+    add_images(alloc, subst, rest, &mut made)?;
+    Ok(List::from_vec(made))
+}
+
+// Adds the images of the literals.
+fn add_images(alloc: Global, subst: &Subst, lits: &[Lit], made: &mut Vec<Lit>) -> Result<(), Memory>
+    ensures { OnOk result (made.new.items ≡ made.old.items ++ instances (image_at subst.now) lits.now) }
+{
     for lit in lits {
         let atom = image_of_atom(alloc, subst, &lit.atom)?;
         made.push(Lit {
@@ -23,7 +41,7 @@ pub fn images_of_lits(alloc: Global, subst: &Subst, lits: &[Lit]) -> Result<List
             atom,
         })?;
     }
-    Ok(List::from_vec(made))
+    Ok(())
 }
 
 // The image of an atom.

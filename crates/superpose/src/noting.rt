@@ -1,5 +1,5 @@
 //! The variables that occur in instances, without making these.
-ghost use Rattle.std.specs.Prelude.{◌≡◌, ◌≤◌, ◌^◌, OnOk, length};
+ghost use Rattle.std.specs.Prelude.{◌≡◌, ◌≤◌, ◌<◌, ◌^◌, ◌++◌, remove, OnOk, length};
 ghost use Rattle.unify_terms.specs.Substitution.{image_at};
 ghost use Rattle.superpose.specs.code.Noted.{IsNoted, StaysWith, AllStayWith, InstanceStays, InstancesStay};
 ghost use Rattle.superpose.specs.code.Noted.{AtomInstanceStays, LitInstancesStay};
@@ -10,8 +10,27 @@ use clause_form::{AtomOf, Lit};
 use fof_terms::Term;
 use tptp_base::{List, Memory};
 
-/// Notes the variables below `count` in the instances of the literals, each once.
-pub fn note_lits(
+/// Notes the variables below `count` in the instances of the literals but the one, and of the rest, each once.
+pub fn note_left(
+    lits: &[Lit],
+    at: usize,
+    rest: &[Lit],
+    images: &[Term],
+    count: usize,
+    noted: &mut List<u32>,
+) -> Result<(), Memory>
+    requires few { count ≤ 2 ^ 32 }
+    requires at { at < length lits.now }
+    ensures { OnOk result (IsNoted count noted.old noted.new
+        (LitInstancesStay images.now (remove lits.now at ++ rest.now))) }
+{
+    note_lits(&lits[..at], images, count, noted)?;
+    note_lits(&lits[at + 1..], images, count, noted)?;
+    note_lits(rest, images, count, noted)
+}
+
+// Notes those in the instances of the literals.
+fn note_lits(
     lits: &[Lit],
     images: &[Term],
     count: usize,

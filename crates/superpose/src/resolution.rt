@@ -1,6 +1,6 @@
 //! Resolution at two literals.
-ghost use Rattle.std.specs.Prelude.{◌≡◌, ◌<◌, ◌++◌, length, remove, false, true, IfOk};
-ghost use Rattle.clause_rules.specs.Steps.{apart_from, scope_of_both};
+ghost use Rattle.std.specs.Prelude.{◌≡◌, ◌<◌, length, false, true, IfOk};
+ghost use Rattle.clause_rules.specs.Steps.{scope_of_both};
 ghost use Rattle.clause_order.specs.Eligible.{IsEligible};
 ghost use Rattle.superpose.specs.Drafts.{IsClause};
 ghost use Rattle.superpose.specs.Inferences.{ResolvesAt};
@@ -11,11 +11,11 @@ use crate::agreeing::may_all_meet;
 use crate::concluding::conclude;
 use crate::made::Made;
 use crate::pairing::pairs_of_lits;
-use clause_form::{AtomOf, Clause, Lit, copy_lits};
+use clause_form::{AtomOf, Clause, Lit};
 use clause_rules::{kept_apart, scope_of_clause};
 use fof_terms::{Signature, SortId};
 use std::alloc::Global;
-use tptp_base::{List, Memory};
+use tptp_base::Memory;
 use unify_terms::{Scope, unify};
 
 /// The most general resolvent at the positive literal i of the first clause and the negative literal j of the second
@@ -41,18 +41,17 @@ pub fn resolve_at(
     if !may_resolve(first, &d.lits.as_slice()[j]) {
         return Ok(None);
     }
-    let apart = kept_apart(alloc, sig, d, c.sorts.len() as u32)?;
-    let apart = apart.as_slice();
-    let second = &apart[j];
-    let pairs = match pairs_of_lits(alloc, first, second)? {
+    let mut apart = kept_apart(alloc, sig, d, c.sorts.len() as u32)?;
+    let pairs = match pairs_of_lits(alloc, first, &apart.as_slice()[j])? {
         Some(pairs) => pairs,
         None => return Ok(None),
     };
     let scope = scope_of_two(alloc, c, d)?;
     match unify(alloc, sig, &scope, pairs.as_slice())? {
         Some(subst) => {
-            let left = all_but_both(alloc, lits, i, apart, j)?;
-            Ok(Some(conclude(alloc, scope.sorts.as_slice(), &subst, left.as_slice())?))
+            let _gone = apart.remove(j);
+            let sorts = scope.sorts.as_slice();
+            Ok(Some(conclude(alloc, sorts, &subst, lits, i, apart.as_slice())?))
         }
         None => Ok(None),
     }
@@ -75,33 +74,6 @@ fn may_resolve(first: &Lit, second: &Lit) -> bool
         },
         AtomOf::Eq(_, _) | AtomOf::True | AtomOf::False => false,
     }
-}
-
-/// The literals but the one at the place.
-pub fn all_but(alloc: Global, lits: &[Lit], at: usize) -> Result<List<Lit>, Memory>
-    requires { at < length lits.now }
-    ensures { IfOk result (λ rest. rest ≡ remove lits.now at) }
-{
-    let mut rest = copy_lits(alloc, lits)?;
-    let _gone = rest.remove(at);
-    Ok(rest)
-}
-
-// The literals of both lists but one of each.
-fn all_but_both(
-    alloc: Global,
-    first: &[Lit],
-    i: usize,
-    second: &[Lit],
-    j: usize,
-) -> Result<List<Lit>, Memory>
-    requires first { i < length first.now }
-    requires second { j < length second.now }
-    ensures { IfOk result (λ rest. rest ≡ remove first.now i ++ remove second.now j) }
-{
-    let mut rest = all_but(alloc, first, i)?;
-    rest.append(all_but(alloc, second, j)?)?;
-    Ok(rest)
 }
 
 /// The scope of two clauses that are kept apart.

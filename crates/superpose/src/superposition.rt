@@ -1,5 +1,5 @@
 //! Superposition at a place of a literal.
-ghost use Rattle.std.specs.Prelude.{◌≡◌, ◌<◌, length, slice_get, option_copied, Some, false, IfOk};
+ghost use Rattle.std.specs.Prelude.{◌≡◌, ◌<◌, length, slice_get, option_copied, Some, false, IfOk, OnOk};
 ghost use Rattle.fof_terms.specs.declared.term.Term.{Term as Inner};
 ghost use Rattle.clause_rules.specs.Steps.{equation, scope_of_both};
 ghost use Rattle.clause_order.specs.Eligible.{IsEligible, IsNotLess};
@@ -12,10 +12,10 @@ use crate::agreeing::may_meet;
 use crate::concluding::conclude;
 use crate::made::Made;
 use crate::pairing::pair_of;
-use crate::resolution::{all_but, scope_of_two};
+use crate::resolution::scope_of_two;
 use crate::sides::sides_of;
 use crate::used::Side;
-use clause_form::{Clause, Lit, copy_lits};
+use clause_form::{Clause, Lit};
 use clause_rules::{kept_apart, put_in, term_in};
 use fof_terms::{Signature, Term};
 use std::alloc::Global;
@@ -52,10 +52,8 @@ pub fn superpose_at(
     if !may_stand_at(sides.left, &d.lits.as_slice()[j], place) {
         return Ok(None);
     }
-    let apart = kept_apart(alloc, sig, d, c.sorts.len() as u32)?;
-    let apart = apart.as_slice();
-    let target = &apart[j];
-    let part = match part_in(target, place) {
+    let mut apart = kept_apart(alloc, sig, d, c.sorts.len() as u32)?;
+    let part = match part_in(&apart.as_slice()[j], place) {
         Some(part) => part,
         None => return Ok(None),
     };
@@ -63,9 +61,9 @@ pub fn superpose_at(
     let scope = scope_of_two(alloc, c, d)?;
     match unify(alloc, sig, &scope, pairs.as_slice())? {
         Some(subst) => {
-            let mut left = all_but(alloc, lits, side.lit)?;
-            left.append(replaced(alloc, apart, j, place, sides.right)?)?;
-            Ok(Some(conclude(alloc, scope.sorts.as_slice(), &subst, left.as_slice())?))
+            replace(alloc, &mut apart, j, place, sides.right)?;
+            let sorts = scope.sorts.as_slice();
+            Ok(Some(conclude(alloc, sorts, &subst, lits, side.lit, apart.as_slice())?))
         }
         None => Ok(None),
     }
@@ -92,19 +90,18 @@ pub fn part_in<'a>(lit: &'a Lit, place: &[usize]) -> Option<&'a Term>
     }
 }
 
-// The literals with another term at a place of one of them.
-fn replaced(
+// Puts another term at a place of one of the literals.
+fn replace(
     alloc: Global,
-    lits: &[Lit],
+    lits: &mut List<Lit>,
     j: usize,
     place: &[usize],
     new: &Term,
-) -> Result<List<Lit>, Memory>
-    requires { j < length lits.now }
-    ensures { IfOk result (λ made. AreReplaced lits.now j place.now new.now made) }
+) -> Result<(), Memory>
+    requires { j < length lits.old }
+    ensures { OnOk result (AreReplaced lits.old j place.now new.now lits.new) }
 {
-    let mut made = copy_lits(alloc, lits)?;
-    let lit = put_in(alloc, &lits[j], place, new)?;
-    made.set(j, lit);
-    Ok(made)
+    let lit = put_in(alloc, &lits.as_slice()[j], place, new)?;
+    lits.set(j, lit);
+    Ok(())
 }

@@ -1,4 +1,5 @@
-use Rattle.std.proofs.Common.{ap, ◌∙◌, map, reverse, length, refl}
+use Rattle.std.proofs.Common.{ap, ◌∙◌, ◌++◌, map, reverse, length, refl}
+use Rattle.std.specs.List.{remove}
 use Rattle.clause_form.specs.Images.{image}
 use Rattle.unify_terms.specs.Substitution.{image_at}
 use Rattle.superpose.specs.code.Named.{sorts_at}
@@ -8,12 +9,12 @@ use Rattle.superpose.proofs.concluding.conclude.Goals as goal
 
 pub names_of-requires-clause-within : goal.names_of-requires-clause-within
 names_of-requires-clause-within c =
-    noted_within c.args.scope.now c.new-kept.result c.note_lits.new.noted (length c.args.scope.now) (LitInstancesStay c.as_slice.result.now c.args.left.now) refl c.new-kept.ensures c.in_ok-note_lits.ensures
+    noted_within c.args.scope.now c.new-kept.result c.note_left.new.noted (length c.args.scope.now) (LitInstancesStay c.as_slice.result.now (remove c.args.lits.now c.args.at ++ c.args.rest.now)) refl c.new-kept.ensures c.in_ok-note_left.ensures
 
 pub returns : goal.returns
 returns c =
-    concluded_by c.args.scope.now c.args.subst.now c.as_slice.result.now c.args.left.now (length c.args.scope.now) c.len.result c.new-kept.result c.note_lits.new.noted c.names_of.new.kept c.in_ok-names.names
+    concluded_by c.args.scope.now c.args.subst.now c.as_slice.result.now (remove c.args.lits.now c.args.at ++ c.args.rest.now) (length c.args.scope.now) c.len.result c.new-kept.result c.note_left.new.noted c.names_of.new.kept c.in_ok-names.names
     (record { clause = record { sorts = c.in_ok-sorts-2.sorts; lits = c.in_ok-lits.lits }; subst = c.in_ok-images.images })
-    c.requires.size refl c.new-kept.ensures (c.as_slice.ensures ∙ c.subst.view_is) c.in_ok-note_lits.ensures c.in_ok-names.ensures (c.in_ok-images.ensures ∙ ap (map (image (image_at c.in_ok-names.names))) (c.as_slice-2.ensures ∙ c.subst.view_is)) c.in_ok-lits.ensures
+    c.requires.size refl c.new-kept.ensures (c.as_slice.ensures ∙ c.subst.view_is) c.in_ok-note_left.ensures c.in_ok-names.ensures (c.in_ok-images.ensures ∙ ap (map (image (image_at c.in_ok-names.names))) (c.as_slice-2.ensures ∙ c.subst.view_is)) c.in_ok-lits.ensures
     (c.in_ok-sorts-2.ensures ∙ ap reverse (c.as_slice-4.ensures ∙ c.in_ok-sorts.ensures ∙ ap (sorts_at c.args.scope.now) c.as_slice-3.ensures))
     c.len.ensures c.if-len-gt-MAX_SORTS.false

@@ -1,7 +1,6 @@
-use Rattle.std.proofs.Common.{subst, ◌∙◌, ap, refl, ◌++◌, ◌∷◌, [], List}
+use Rattle.std.proofs.Common.{subst, ◌∙◌, ap, refl, ◌++◌, List}
 use Rattle.std.specs.List.{remove}
 use Rattle.clause_form.specs.declared.clause.Lit.{Lit}
-use Rattle.clause_rules.specs.Steps.{unequal}
 use Rattle.unify_terms.specs.Unifiers.{Unified}
 use Rattle.superpose.specs.code.Conclusions.{IsConclusion}
 use Rattle.superpose.specs.code.Pairs.{HasSides}
@@ -27,7 +26,7 @@ returns-in-Some-2 c =
     (lent_at c.as_slice-lits.result.now c.args.c.now.lits c.args.j c.index-lits-j.result c.as_slice-lits.ensures c.requires.j c.index-lits-j.is)
     (subst (HasSides c.index-lits-i.result c.args.first_flipped) c.in-Some.is c.sides_of.ensures) (subst (HasSides c.index-lits-j.result c.args.second_flipped) c.in-Some-sides_of.is c.sides_of-2.ensures)
     (record { sorts = c.in_ok-scope_of_clause.field-0; rigid = 0 }) c.in_ok-scope_of_clause.ensures refl c.in_ok-pairs.pairs c.as_slice.result.now c.in_ok-pairs.ensures c.as_slice.ensures
-    c.in-Some-2.subst c.in_ok-left-in-Some-2.left c.as_slice-in-Some-2-2.result.now c.in_ok-conclude-in-Some-2.field-0
+    c.in-Some-2.subst (remove c.as_slice-lits.result.now c.args.i ++ c.as_slice-in-Some-2.result.now) c.in_ok-conclude-in-Some-2.field-0
     (subst (Unified c.args.sig.now c.in_ok-scope_of_clause.field-0 0 c.as_slice.result.now) c.in-Some-2.is c.in_ok-subst.ensures)
-    (c.in_ok-left-in-Some-2.ensures ∙ ap (λ (xs : List Lit). remove xs c.args.i ++ unequal c.in-Some.sides.right.now c.in-Some-sides_of.sides.right.now ∷ []) c.as_slice-lits.ensures) c.as_slice-in-Some-2-2.ensures
-    (subst (λ xs. IsConclusion xs c.in-Some-2.subst c.as_slice-in-Some-2-2.result.now c.in_ok-conclude-in-Some-2.field-0) c.as_slice-in-Some-2.ensures c.in_ok-conclude-in-Some-2.ensures)
+    (ap (λ (xs : List Lit). remove xs c.args.i ++ c.as_slice-in-Some-2.result.now) c.as_slice-lits.ensures ∙ ap (λ (xs : List Lit). remove c.args.c.now.lits c.args.i ++ xs) (c.as_slice-in-Some-2.ensures ∙ c.in_ok-last-in-Some-2.ensures))
+    (subst (λ xs. IsConclusion xs c.in-Some-2.subst (remove c.as_slice-lits.result.now c.args.i ++ c.as_slice-in-Some-2.result.now) c.in_ok-conclude-in-Some-2.field-0) c.as_slice-sorts.ensures c.in_ok-conclude-in-Some-2.ensures)

@@ -1,4 +1,4 @@
-use Rattle.std.proofs.Common.{subst, ◌∙◌, ap, refl, List}
+use Rattle.std.proofs.Common.{subst, ◌∙◌, ap, refl, append-nil, ◌++◌, [], List}
 use Rattle.std.specs.List.{remove}
 use Rattle.clause_form.specs.declared.clause.Lit.{Lit}
 use Rattle.unify_terms.specs.Unifiers.{Unified}
@@ -26,7 +26,7 @@ returns-in-Some-2 c =
     equation_some c.args.sig.now c.args.c.now c.args.i c.requires.c c.requires.first c.index-lits-i.result c.in-Some.sides.left.now c.in-Some.sides.right.now
     (lent_at c.as_slice-lits.result.now c.args.c.now.lits c.args.i c.index-lits-i.result c.as_slice-lits.ensures c.requires.i c.index-lits-i.is)
     (subst (HasDeniedSides c.index-lits-i.result) c.in-Some.is c.denied_sides.ensures) (record { sorts = c.in_ok-scope_of_clause.field-0; rigid = 0 }) c.in_ok-scope_of_clause.ensures refl c.in_ok-pairs.pairs c.as_slice.result.now c.in_ok-pairs.ensures c.as_slice.ensures
-    c.in-Some-2.subst c.in_ok-left-in-Some-2.left c.as_slice-in-Some-2-2.result.now c.in_ok-conclude-in-Some-2.field-0
+    c.in-Some-2.subst (remove c.as_slice-lits.result.now c.args.i ++ []) c.in_ok-conclude-in-Some-2.field-0
     (subst (Unified c.args.sig.now c.in_ok-scope_of_clause.field-0 0 c.as_slice.result.now) c.in-Some-2.is c.in_ok-subst.ensures)
-    (c.in_ok-left-in-Some-2.ensures ∙ ap (λ (xs : List Lit). remove xs c.args.i) c.as_slice-lits.ensures) c.as_slice-in-Some-2-2.ensures
-    (subst (λ xs. IsConclusion xs c.in-Some-2.subst c.as_slice-in-Some-2-2.result.now c.in_ok-conclude-in-Some-2.field-0) c.as_slice-in-Some-2.ensures c.in_ok-conclude-in-Some-2.ensures)
+    (append-nil (remove c.as_slice-lits.result.now c.args.i) ∙ ap (λ (xs : List Lit). remove xs c.args.i) c.as_slice-lits.ensures)
+    (subst (λ xs. IsConclusion xs c.in-Some-2.subst (remove c.as_slice-lits.result.now c.args.i ++ []) c.in_ok-conclude-in-Some-2.field-0) c.as_slice-sorts.ensures c.in_ok-conclude-in-Some-2.ensures)

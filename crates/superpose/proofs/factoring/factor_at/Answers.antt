@@ -1,4 +1,4 @@
-use Rattle.std.proofs.Common.{subst, ◌∙◌, ap, refl, List}
+use Rattle.std.proofs.Common.{subst, ◌∙◌, ap, refl, append-nil, ◌++◌, [], List}
 use Rattle.std.specs.List.{remove}
 use Rattle.clause_form.specs.declared.clause.Lit.{Lit}
 use Rattle.unify_terms.specs.Unifiers.{Unified}
@@ -46,7 +46,7 @@ returns-in-Some-2 c =
     (lent_at c.as_slice-lits.result.now c.args.c.now.lits c.args.j c.index-lits-j.result c.as_slice-lits.ensures c.requires.j c.index-lits-j.is)
     (c.are_positive.ensures.both c.if-not-are_positive.false).0 (c.are_positive.ensures.both c.if-not-are_positive.false).1 c.in-Some.pairs
     (subst (ArePairsOf c.index-lits-i.result.atom c.index-lits-j.result.atom) c.in-Some.is c.in_ok-pairs.ensures) (record { sorts = c.in_ok-scope_of_clause.field-0; rigid = 0 }) c.in_ok-scope_of_clause.ensures refl c.as_slice.result.now c.as_slice.ensures
-    c.in-Some-2.subst c.in_ok-left-in-Some-2.left c.as_slice-in-Some-2-2.result.now c.in_ok-conclude-in-Some-2.field-0
+    c.in-Some-2.subst (remove c.as_slice-lits.result.now c.args.j ++ []) c.in_ok-conclude-in-Some-2.field-0
     (subst (Unified c.args.sig.now c.in_ok-scope_of_clause.field-0 0 c.as_slice.result.now) c.in-Some-2.is c.in_ok-subst.ensures)
-    (c.in_ok-left-in-Some-2.ensures ∙ ap (λ (xs : List Lit). remove xs c.args.j) c.as_slice-lits.ensures) c.as_slice-in-Some-2-2.ensures
-    (subst (λ xs. IsConclusion xs c.in-Some-2.subst c.as_slice-in-Some-2-2.result.now c.in_ok-conclude-in-Some-2.field-0) c.as_slice-in-Some-2.ensures c.in_ok-conclude-in-Some-2.ensures)
+    (append-nil (remove c.as_slice-lits.result.now c.args.j) ∙ ap (λ (xs : List Lit). remove xs c.args.j) c.as_slice-lits.ensures)
+    (subst (λ xs. IsConclusion xs c.in-Some-2.subst (remove c.as_slice-lits.result.now c.args.j ++ []) c.in_ok-conclude-in-Some-2.field-0) c.as_slice-sorts.ensures c.in_ok-conclude-in-Some-2.ensures)
