@@ -2,6 +2,7 @@ pub mod Adding
 pub mod Binds
 pub mod Heads
 pub mod Making
+pub mod Occurring
 pub mod Orders
 pub mod Pairs
 pub mod Partitions

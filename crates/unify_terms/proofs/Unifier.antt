@@ -25,7 +25,7 @@ use Rattle.unify_terms.proofs.Making.{image_made, AllClasses, order_induction}
 use Rattle.unify_terms.proofs.Step.{numbers_below}
 use Rattle.unify_terms.proofs.Valuations.{valuation}
 
-count_App : (f : ℕ) (ts : List Term) → symbol_count (App f ts) ≡ 1 + sum (map symbol_count ts)
+pub count_App : (f : ℕ) (ts : List Term) → symbol_count (App f ts) ≡ 1 + sum (map symbol_count ts)
 count_App f ts = fold-App ℕ count_step f ts
 
 count_cons : (t : Term) (ts : List Term) → sum (map symbol_count (t ∷ ts)) ≡ symbol_count t + sum (map symbol_count ts)

@@ -1,14 +1,18 @@
-ghost use Rattle.std.specs.Prelude.{ℕ, ◌≡◌, ◌≢◌, ◌↔◌, length, get_or, slice_get, None, IsTrue, IfOk, IfSome};
+ghost use Rattle.std.specs.Prelude.{ℕ, ◌≡◌, ◌≢◌, ◌≤◌, ◌↔◌, length, get_or, slice_get, None, IsTrue, IfOk, IfSome};
 ghost use Rattle.std.specs.Option.{option_map};
 ghost use Rattle.fof_terms.specs.Sorts.{sort_of_term};
 ghost use Rattle.fof_terms.specs.declared.term.Term.{Var};
 ghost use Rattle.unify_terms.specs.code.Binding.{IsResolved, AreBound, Same, Equated};
+ghost use Rattle.unify_terms.specs.code.Binding.{StandsIn, StandsInOne, StandsBelow};
 
 use crate::classes::is_one_sort;
 use crate::scope::Scope;
 use fof_terms::{Signature, SortId, SymId, Term};
 use std::alloc::Global;
 use tptp_base::Memory;
+
+/// How many steps are taken to find a variable in the term that it is to be bound to.
+const LOOKS: u32 = 4_000;
 
 /// How it ended to make terms equal by binding variables.
 #[derive(Clone, Copy)]
@@ -102,6 +106,57 @@ fn sort_of_head(term: &Term, signature: &Signature, scope: &Scope) -> Option<Sor
     }
 }
 
+// Whether the variable stands in the term, or in what a variable in it is bound to, as far as so many steps tell.
+#[cycle(stands_in)]
+fn stands_in(term: &Term, variable: u32, bound: &[Option<&Term>], steps: &mut u32) -> bool
+    ensures fewer { steps.new ≤ steps.old }
+    ensures stands { IsTrue result → StandsIn bound.now variable term.now }
+{
+    if *steps == 0 {
+        return false;
+    }
+    *steps -= 1;
+    match term {
+        Term::Var(other) => {
+            if *other == variable {
+                return true;
+            }
+            match bound_to(bound, *other) {
+                Some(next) => stands_in(next, variable, bound, steps),
+                None => false,
+            }
+        }
+        Term::App(_, args) => stands_in_one(args.as_slice(), variable, bound, steps),
+    }
+}
+
+// The same of one of the terms.
+#[cycle(stands_in)]
+fn stands_in_one(terms: &[Term], variable: u32, bound: &[Option<&Term>], steps: &mut u32) -> bool
+    ensures fewer { steps.new ≤ steps.old }
+    ensures stands { IsTrue result → StandsInOne bound.now variable terms.now }
+{
+    for term in terms {
+        if stands_in(term, variable, bound, steps) {
+            return true;
+        }
+    }
+    false
+}
+
+// The same of an argument of the term: then no value of the variable is that of the term.
+fn stands_below(variable: u32, term: &Term, bound: &[Option<&Term>]) -> bool
+    ensures { IsTrue result → StandsBelow bound.now variable term.now }
+{
+    match term {
+        Term::Var(_) => false,
+        Term::App(_, args) => {
+            let mut steps = LOOKS;
+            stands_in_one(args.as_slice(), variable, bound, &mut steps)
+        }
+    }
+}
+
 /// Binds the variable to the term, where it may be replaced and both have one sort.
 pub fn bind<'a>(
     variable: u32,
@@ -118,6 +173,9 @@ pub fn bind<'a>(
     let at = variable as usize;
     if variable < scope.rigid || at >= bound.len() || !is_free(bound.as_slice(), variable) {
         return Equating::Unknown;
+    }
+    if stands_below(variable, term, bound.as_slice()) {
+        return Equating::Clash;
     }
     let sort = sort_of_head(term, signature, scope);
     if !is_one_sort(sort, sort_of_variable(variable, scope)) {

@@ -1,6 +1,7 @@
 -- What variables are bound to while terms are made equal.
-use Rattle.std.specs.Prelude.{ℕ, ◌≡◌, ◌≢◌, ◌<◌, ◌≤◌, List, length, get_or, slice_get, Option, Some, None}
+use Rattle.std.specs.Prelude.{ℕ, ◌≡◌, ◌≢◌, ◌<◌, ◌≤◌, List, length, map, sum, get_or, slice_get, Option, Some, None}
 use Rattle.std.specs.Borrow.{Bor}
+use Rattle.fof_terms.specs.Count.{symbol_count}
 use Rattle.fof_terms.specs.Vocabulary.{Vocabulary}
 use Rattle.fof_terms.specs.Sorts.{sort_of_term}
 use Rattle.fof_terms.specs.declared.term.Term.{Term, Var}
@@ -26,6 +27,20 @@ pub record AreBound (v : Vocabulary) (sorts : List ℕ) (rigid : ℕ) (bound : L
   pub size : length bound ≡ length sorts
   pub sorted : (k : ℕ) → k < length sorts → sort_of_term v sorts (bound_at bound k) ≡ slice_get sorts k
   pub rigids : (k : ℕ) → k < rigid → bound_at bound k ≡ Var k
+
+-- no value of the variable has more symbols than that of the term, or than those of the terms together
+abbrev pub StandsIn : List (Option (Bor Term)) → ℕ → Term → Type 0
+StandsIn bound k term = (images : List Term) → Obeys images bound
+    → symbol_count (image_at images k) ≤ symbol_count (instance images term)
+
+abbrev pub StandsInOne : List (Option (Bor Term)) → ℕ → List Term → Type 0
+StandsInOne bound k terms = (images : List Term) → Obeys images bound
+    → symbol_count (image_at images k) ≤ sum (map symbol_count (map (instance images) terms))
+
+-- each has fewer
+abbrev pub StandsBelow : List (Option (Bor Term)) → ℕ → Term → Type 0
+StandsBelow bound k term = (images : List Term) → Obeys images bound
+    → symbol_count (image_at images k) < symbol_count (instance images term)
 
 -- a term and what it is bound to
 pub record IsResolved (bound : List (Option (Bor Term))) (term last : Term) : Type 0 where
