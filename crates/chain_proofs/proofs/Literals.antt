@@ -6,7 +6,7 @@ use Rattle.std.specs.Cmp.Lexicographic.{pointwise, bytes_decides}
 use Rattle.clause_form.specs.declared.clause.AtomOf.{AtomOf}
 use Rattle.clause_form.specs.declared.clause.Lit.{Lit}
 use Rattle.sat_step.specs.Decisions.{opposite}
-use Rattle.sat_step.specs.code.Atoms.{code_of}
+use Rattle.sat_step.specs.Codes.{code_of}
 use Rattle.sat_step.proofs.Codes.{atom_same}
 use Rattle.chain_proofs.specs.code.Keys.{lit_code}
 

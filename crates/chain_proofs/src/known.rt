@@ -4,9 +4,9 @@ ghost use Rattle.clause_learning.specs.Refutations.{HasSame};
 ghost use Rattle.chain_proofs.specs.Known.{AreKept, IsPlace};
 ghost use Rattle.chain_proofs.specs.code.Keys.{Adds, IsPlaceOrNext, lit_code};
 
-use crate::keys::key_of;
 use clause_form::Lit;
 use indexmap::IndexSet;
+use sat_step::key_of;
 use std::alloc::Global;
 use tptp_base::{List, Memory};
 

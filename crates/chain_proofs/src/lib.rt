@@ -5,7 +5,6 @@
 mod context;
 mod fact;
 mod finishing;
-mod keys;
 mod known;
 mod refuting;
 mod stretching;

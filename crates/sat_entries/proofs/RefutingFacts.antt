@@ -25,7 +25,7 @@ use Rattle.sat_step.specs.Decisions.{IsRefuted, entry_of, opposite}
 use Rattle.sat_step.specs.declared.decision.Learned.{Learned}
 use Rattle.search_proofs.specs.code.Facts.{AreShown, IsOf, Setting, StandsAt, first_fact}
 use Rattle.search_proofs.specs.code.Members.{ShowFalsehoodLast, ShowMore}
-use Rattle.search_proofs.specs.code.Placed.{numbers_from, there}
+use Rattle.search_proofs.specs.Placed.{numbers_from, there}
 use Rattle.search_proofs.proofs.InTurn.{one_of, shown_as, shown_twice, stands_in}
 use Rattle.sat_entries.specs.code.Inputs.{AreStatedInputs, WantedHave, WantedStand}
 use Rattle.sat_entries.specs.code.Learning.{AreLearned, AreSorted, FactsHave, FactsStand, IsStated}

@@ -46,7 +46,7 @@ use Rattle.sat_step.proofs.Renaming.{in_map, map_in}
 use Rattle.sat_step.proofs.Truth.{norm_open}
 use Rattle.search_proofs.specs.code.Facts.{AreShown, IsOf, Setting, StandsAt, first_fact}
 use Rattle.search_proofs.specs.code.Members.{ShowFalsehoodLast}
-use Rattle.search_proofs.specs.code.Placed.{numbers_from, there}
+use Rattle.search_proofs.specs.Placed.{numbers_from, there}
 use Rattle.search_proofs.proofs.InTurn.{last_place, told_count}
 use Rattle.search_proofs.proofs.Inputs.{input_facts, input_stands, inputs_count, inputs_shown, numbers_count, setting_of, wanted_forms, wanted_speak}
 use Rattle.search_proofs.proofs.Symbols.{clause_without}

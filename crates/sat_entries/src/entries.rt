@@ -10,7 +10,6 @@ ghost use Rattle.step_clauses.specs.Room.{HasRoom};
 ghost use Rattle.step_clauses.specs.Wide.{is_wide};
 
 use crate::naming::named_inputs;
-use crate::placing::further;
 use crate::refuting::proofs_of_refutation;
 use clause_form::{Clause, FormFault, Parent};
 use fof_terms::Form;
@@ -19,6 +18,7 @@ use kernel::Entry;
 use negated_lemmas::lemmas_of_refutation;
 use proof_check::Theory;
 use sat_step::Learned;
+use search_proofs::further;
 use std::alloc::Global;
 use step_clauses::search_input;
 use tptp_base::{List, Memory};

@@ -5,13 +5,13 @@ ghost use Rattle.clause_form.specs.Paths.{is_plain as plain_atom};
 ghost use Rattle.sat_entries.specs.code.Inputs.{AreStatedInputs, IsStatedIf, IsTurned, arms_of, clash_tree};
 ghost use Rattle.sat_entries.specs.code.Inputs.{contradiction_tree};
 
-use crate::placing::further;
 use chain_proofs::{Fact, all_false};
 use clause_form::{AtomOf, Clause, Lit, copy_lits};
 use clause_proofs::{line, number};
 use derive_kit::{Part, and_e, hyp, not_e, not_i, or_e};
 use fof_terms::Form;
 use kernel::Proof;
+use search_proofs::further;
 use std::alloc::Global;
 use tptp_base::{List, Memory};
 

@@ -5,11 +5,11 @@ ghost use Rattle.clause_learning.specs.Refutations.{IsLog};
 ghost use Rattle.sat_entries.specs.code.Learning.{IsShown, AreLearned};
 ghost use Rattle.sat_step.specs.Decisions.{entry_of, opposite};
 
-use crate::placing::further;
 use chain_proofs::{Fact, fact_at, stretch_proof, walk_back};
 use clause_form::{Lit, copy_lits};
 use kernel::Proof;
 use sat_step::Learned;
+use search_proofs::further;
 use std::alloc::Global;
 use tptp_base::{List, Memory};
 

@@ -6,7 +6,6 @@ mod entries;
 mod inputs;
 mod learning;
 mod naming;
-mod placing;
 mod propositional;
 mod refuting;
 

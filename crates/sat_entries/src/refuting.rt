@@ -5,12 +5,12 @@ ghost use Rattle.sat_step.specs.Decisions.{IsRefuted};
 
 use crate::inputs::input_facts;
 use crate::learning::learn;
-use crate::placing::place_all;
 use clause_form::Clause;
 use clause_proofs::{line, truth};
 use derive_kit::{Part, not_e};
 use kernel::Proof;
 use sat_step::Learned;
+use search_proofs::place_all;
 use std::alloc::Global;
 use tptp_base::{List, Memory};
 

@@ -7,7 +7,7 @@ use Rattle.fof_terms.proofs.Trees.{fold-Var, fold-App}
 use Rattle.fof_terms.proofs.Induction.{term_induction}
 use Rattle.clause_form.specs.declared.clause.AtomOf.{AtomOf}
 use Rattle.clause_form.specs.declared.clause.AtomOf.TheVariants.{Pred, Eq, True, False}
-use Rattle.sat_step.specs.code.Atoms.{joined, term_code_step, term_code, code_of}
+use Rattle.sat_step.specs.Codes.{joined, term_code_step, term_code, code_of}
 
 -- lists that are the same begin with the same
 head_same : (m n : ℕ) (xs ys : List ℕ) → m ∷ xs ≡ n ∷ ys → m ≡ n

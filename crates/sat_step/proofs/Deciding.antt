@@ -18,7 +18,7 @@ use Rattle.sat_step.specs.declared.decision.Decision.{Decision}
 use Rattle.sat_step.specs.declared.decision.Decision.TheVariants.{Refuted, Valuation as Satisfied}
 use Rattle.sat_step.specs.Decisions.{opposite, HasSign, Satisfies, entry_of, IsRefuted, IsDecision, positive_atoms}
 use Rattle.sat_step.specs.Propositional.{Valuation, is_true, lit_is_true, clause_is_true, step_norms, IsPropositionalStep, Entails, propositional_clauses, DecidesStep}
-use Rattle.sat_step.specs.code.Atoms.{code_of}
+use Rattle.sat_step.specs.Codes.{code_of}
 use Rattle.sat_step.proofs.Codes.{atom_same}
 use Rattle.sat_step.proofs.Renaming.{in_map, map_in}
 use Rattle.sat_step.proofs.Sound.{refuted_not_true}

@@ -11,7 +11,8 @@ use Rattle.clause_form.specs.declared.clause.Lit.{Lit}
 use Rattle.clause_form.specs.declared.clause.Clause.{Clause}
 use Rattle.clause_learning.specs.declared.literal.Literal.{Literal}
 use Rattle.clause_learning.proofs.Members.{nothing_in, in_cons, got_left, got_in}
-use Rattle.sat_step.specs.code.Atoms.{AreDistinct, IsPrefix, code_of}
+use Rattle.sat_step.specs.Codes.{code_of}
+use Rattle.sat_step.specs.code.Atoms.{AreDistinct, IsPrefix}
 use Rattle.sat_step.specs.code.Numbers.{IsRead, IsReadClause}
 use Rattle.sat_step.proofs.Codes.{atom_same}
 use Rattle.sat_step.proofs.Renaming.{in_map}

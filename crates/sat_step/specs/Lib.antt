@@ -1,3 +1,1 @@
-pub mod Decisions
-pub mod Propositional
-pub mod code
+pub mod Codes

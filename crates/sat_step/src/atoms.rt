@@ -1,6 +1,7 @@
 //! Atoms and their numbers.
 ghost use Rattle.std.specs.Prelude.{◌≡◌, ◌++◌, Some, slice_get, flat_map, IfOk, OnOk};
-ghost use Rattle.sat_step.specs.code.Atoms.{AreNumbered, IsPrefix, code_of, term_code};
+ghost use Rattle.sat_step.specs.Codes.{code_of, term_code};
+ghost use Rattle.sat_step.specs.code.Atoms.{AreNumbered, IsPrefix};
 
 use clause_form::AtomOf;
 use fof_terms::Term;
@@ -42,8 +43,8 @@ impl Atoms {
     }
 }
 
-// What the atom is found by.
-fn key_of(alloc: Global, atom: &AtomOf) -> Result<Vec<usize>, Memory>
+/// What the atom is found by.
+pub fn key_of(alloc: Global, atom: &AtomOf) -> Result<Vec<usize>, Memory>
     ensures { IfOk result (λ key. key.items ≡ code_of atom.now) }
 {
     let mut key = Vec::new(alloc);

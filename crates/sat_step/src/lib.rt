@@ -7,6 +7,7 @@ mod laws;
 mod numbering;
 mod reading;
 
+pub use atoms::key_of;
 pub use decision::{Decision, Learned, decide};
 pub use laws::{
     norms_are_true_by_their_clauses, propositional_steps_are_decided,

@@ -17,7 +17,7 @@ use Rattle.input_proofs.specs.declared.opening.OpenedInputs.{OpenedInputs}
 use Rattle.negated_lemmas.specs.Negated.{with_denied}
 use Rattle.search_proofs.specs.Needed.{IsMarked}
 use Rattle.search_proofs.specs.code.Facts.{Setting, IsOf, AreShown, StandsAt, first_fact}
-use Rattle.search_proofs.specs.code.Placed.{there, numbers_from}
+use Rattle.search_proofs.specs.Placed.{there, numbers_from}
 use Rattle.search_proofs.proofs.InTurn.{seam, none_shown, all_shown, each_count, added_still}
 
 -- the formulas of the wanted clauses

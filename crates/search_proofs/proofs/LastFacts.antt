@@ -22,7 +22,7 @@ use Rattle.superpose.specs.Drafts.{IsClause}
 use Rattle.search_proofs.specs.Falsehood.{IsFalsehoodBy}
 use Rattle.search_proofs.specs.Needed.{Names, AreNeeded}
 use Rattle.search_proofs.specs.code.Facts.{Setting, IsOf, StandsAt}
-use Rattle.search_proofs.specs.code.Placed.{there, numbers_from}
+use Rattle.search_proofs.specs.Placed.{there, numbers_from}
 use Rattle.search_proofs.specs.code.Members.{IsPassed, InputStands, IsMembers, IsLater, ShowMore, PassMembers, LeadOn}
 use Rattle.search_proofs.proofs.Forms.{formula_ready}
 use Rattle.search_proofs.proofs.InTurn.{one_of, shown_twice, shown_as, stands_in, stands_on}

@@ -3,7 +3,7 @@ use Rattle.std.specs.Prelude.{ℕ, ◌≡◌, ◌+◌, List, [], ◌∷◌, ◌+
 use Rattle.std.proofs.Common.{sym, ap, ◌∙◌, arith, append_assoc, append-nil}
 use Rattle.std.proofs.lemmas.List.{reverse-append, reverse-reverse, length-append}
 use Rattle.kernel.specs.declared.proof.Proof.{Proof}
-use Rattle.search_proofs.specs.code.Placed.{there, numbers_from}
+use Rattle.search_proofs.specs.Placed.{there, numbers_from}
 
 -- what is done so far, and what is left, the last one first
 pub record IsPlacing (start : ℕ) (made : List (Option Proof)) (old now : List Proof) (numbers : List ℕ) (left : List (Option Proof)) : Type 0 where

@@ -39,7 +39,7 @@ use Rattle.skolem_fresh.specs.Told.{AddedFrom}
 use Rattle.superpose.specs.Absent.{AreWithout}
 use Rattle.search_proofs.specs.Searched.{AddsSearched, IsSearchedFrom, declare_all, searched_theory}
 use Rattle.search_proofs.specs.Needed.{IsMarked}
-use Rattle.search_proofs.specs.code.Placed.{there, numbers_from}
+use Rattle.search_proofs.specs.Placed.{there, numbers_from}
 use Rattle.search_proofs.specs.code.Wanting.{AreInputsMarked, IsInputMarked}
 use Rattle.search_proofs.specs.code.Facts.{Setting, IsOf, first_fact}
 use Rattle.search_proofs.specs.code.Members.{InputStands, IsLater, LeadOn, ShowFalsehoodLast}

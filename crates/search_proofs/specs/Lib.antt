@@ -1,4 +1,5 @@
 pub mod Falsehood
 pub mod Needed
+pub mod Placed
 pub mod Searched
 pub mod code

@@ -3,6 +3,5 @@ pub mod Facts
 pub mod Marks
 pub mod Members
 pub mod Naming
-pub mod Placed
 pub mod Variables
 pub mod Wanting

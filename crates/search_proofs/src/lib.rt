@@ -14,3 +14,4 @@ mod wanting;
 pub use entries::refutation_entries;
 pub use falsehood::falsehood_by;
 pub use needing::needed_members;
+pub use placing::{further, place_all};

@@ -1,6 +1,6 @@
 //! Facts that are proved one by one, and the numbers of their formulas.
 ghost use Rattle.std.specs.Prelude.{◌≡◌, ◌+◌, ◌++◌, ◌∷◌, ◌<◌, ◌^◌, [], length, reverse, IfOk};
-ghost use Rattle.search_proofs.specs.code.Placed.{numbers_from, there};
+ghost use Rattle.search_proofs.specs.Placed.{numbers_from, there};
 
 use kernel::Proof;
 use std::alloc::Global;

@@ -6,7 +6,7 @@ ghost use Rattle.saturation.specs.Members.{clauses_of};
 ghost use Rattle.saturation.specs.Origins.{AreMade, IsMade};
 ghost use Rattle.search_proofs.specs.Needed.{AreNeeded};
 ghost use Rattle.search_proofs.specs.code.Members.{LeadOn};
-ghost use Rattle.search_proofs.specs.code.Placed.{numbers_from, there};
+ghost use Rattle.search_proofs.specs.Placed.{numbers_from, there};
 ghost use Rattle.superpose.specs.Drafts.{IsClause};
 
 use crate::falsehood::falsehood_by;

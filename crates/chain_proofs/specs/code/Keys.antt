@@ -2,7 +2,7 @@
 use Rattle.std.specs.Prelude.{ℕ, ◌≡◌, ◌++◌, ◌∷◌, [], ◌⊎◌, Bool, true, false, List, Some, length, slice_get, if◌then◌else◌}
 use Rattle.std.specs.List.{Contains}
 use Rattle.clause_form.specs.declared.clause.Lit.{Lit}
-use Rattle.sat_step.specs.code.Atoms.{code_of}
+use Rattle.sat_step.specs.Codes.{code_of}
 
 -- what its atom is found by, and the sign
 abbrev pub lit_code : Lit → List ℕ

@@ -11,7 +11,7 @@ use Rattle.kernel.specs.declared.proof.Proof.{Proof}
 use Rattle.sat_step.specs.declared.decision.Learned.{Learned}
 use Rattle.search_proofs.specs.code.Facts.{AreShown, Setting, first_fact}
 use Rattle.search_proofs.specs.code.Members.{ShowFalsehoodLast}
-use Rattle.search_proofs.specs.code.Placed.{numbers_from, there}
+use Rattle.search_proofs.specs.Placed.{numbers_from, there}
 use Rattle.sat_entries.specs.code.Inputs.{WantedHave, WantedStand}
 use Rattle.sat_entries.specs.code.Learning.{AreSorted, IsStated}
 use Rattle.sat_entries.specs.code.Naming.{IsMarked, IsNamed}

@@ -1,5 +1,5 @@
 use Rattle.std.proofs.Common.{◌≡◌, ◌++◌, flat_map, take}
-use Rattle.sat_step.specs.code.Atoms.{term_code}
+use Rattle.sat_step.specs.Codes.{term_code}
 use Rattle.sat_step.proofs.atoms.+put.Given as goal
 
 abbrev pub invariant-put_terms-loop-term : goal.invariant-put_terms-loop-term
