@@ -11,8 +11,8 @@ use Rattle.clause_form.specs.declared.clause.Lit.{Lit}
 use Rattle.clause_learning.specs.Refutations.{HasSame}
 use Rattle.clause_learning.proofs.Members.{got_in, in_cons, nothing_in}
 use Rattle.sat_step.proofs.Renaming.{map_in, in_map}
-use Rattle.chain_proofs.specs.Known.{IsPlace}
-use Rattle.chain_proofs.specs.code.Keys.{lit_code, Adds, IsPlaceOrNext}
+use Rattle.chain_proofs.specs.Known.{lit_code}
+use Rattle.chain_proofs.specs.code.Keys.{Adds, IsPlace, IsPlaceOrNext}
 use Rattle.chain_proofs.proofs.Literals.{code_tells}
 
 any_true : {K : Type 0} (p : K → Bool) (ks : List K) (k : K) → Contains ks k → p k ≡ true → list_any p ks ≡ true

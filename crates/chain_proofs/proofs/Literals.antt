@@ -8,7 +8,7 @@ use Rattle.clause_form.specs.declared.clause.Lit.{Lit}
 use Rattle.sat_step.specs.Decisions.{opposite}
 use Rattle.sat_step.specs.Codes.{code_of}
 use Rattle.sat_step.proofs.Codes.{atom_same}
-use Rattle.chain_proofs.specs.code.Keys.{lit_code}
+use Rattle.chain_proofs.specs.Known.{lit_code}
 
 pub decided : (b : Bool) → (b ≡ true) ⊎ (b ≡ false)
 decided true = inl refl

@@ -17,11 +17,15 @@ use Rattle.kernel.specs.Proves.{Proves}
 use Rattle.kernel.specs.code.Rules.{ProveAll}
 use Rattle.kernel.specs.declared.proof.Proof.{Proof, Line, Hyp, AndI, AndE, NotE}
 use Rattle.kernel.proofs.Building.{by_line, by_hyp, by_and_i, by_and_e, by_not_e}
-use Rattle.chain_proofs.specs.Contexts.{IsContext, false_tree}
+use Rattle.chain_proofs.specs.Contexts.{IsContext}
 use Rattle.chain_proofs.specs.Facts.{Holds, all_false, denied_form, not_all_false}
 use Rattle.chain_proofs.specs.code.Keys.{IsPlaceOrNext}
-use Rattle.chain_proofs.specs.code.Parts.{GoesOn, IsPart, IsRefutedBy}
+use Rattle.chain_proofs.specs.code.Parts.{GoesOn, IsRefutedBy, false_tree}
 use Rattle.chain_proofs.specs.declared.fact.Fact.{Fact}
+
+-- that the literal is false, by its place or the next one
+abbrev pub IsPart : List Lit → ℕ → ℕ → Proof → Lit → Type 0
+IsPart known base count p l = (place : ℕ) × IsPlaceOrNext known l place × (p ≡ false_tree base count place)
 
 below : (a b : ℕ) → nat_lt a b ≡ true → a < b
 below a b e = grind (arith, nat_tests)

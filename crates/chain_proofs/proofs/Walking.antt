@@ -15,7 +15,7 @@ use Rattle.chain_proofs.specs.Chains.{AreOver, Derives, FactsAreOver, HoldEach}
 use Rattle.chain_proofs.specs.Facts.{all_false}
 use Rattle.chain_proofs.specs.Known.{AreKept}
 use Rattle.chain_proofs.specs.Stretches.{EndsIn, IsStretch, LeadTo}
-use Rattle.chain_proofs.specs.code.Walks.{IsAdvanced, IsMissing, IsWalk, IsWalked, LacksOnly}
+use Rattle.chain_proofs.specs.code.Walks.{IsAdvanced, IsMissing, IsWalk, LacksOnly}
 use Rattle.chain_proofs.specs.declared.fact.Fact.{Fact}
 use Rattle.chain_proofs.specs.declared.known.Known.{Known}
 use Rattle.chain_proofs.specs.declared.stretching.Step.{Step}
@@ -23,6 +23,14 @@ use Rattle.chain_proofs.specs.declared.stretching.Walk.{Walk}
 use Rattle.chain_proofs.proofs.Chaining.{goes_on, only, within_facts}
 use Rattle.chain_proofs.proofs.Literals.{opposite_twice}
 use Rattle.chain_proofs.proofs.Stepping.{no_step}
+
+-- the first steps of a walk, and what is left to walk over
+pub record IsWalked (facts : List Fact) (from : List ℕ) (first known : List Lit) (left : List ℕ) (steps : List Step) : Type 0 where
+  pub derives : Derives facts left known
+  pub named : (k : ℕ) → Contains left k → Contains from k
+  pub fewer : length left ≤ length from
+  pub leads : (t : Statements) → HoldEach t facts from → Sorted t.vocabulary [] (all_false first) → LeadTo t first steps known
+  pub over : (atoms : List AtomOf) → AreOver atoms first → FactsAreOver atoms facts from → AreOver atoms known
 
 -- no literal that is not known so far
 pub none_missing : (known lits : List Lit) (i : ℕ) (l : Lit) → i < length lits → l ≡ get_or lits i l → Contains known l → ((x : Lit) → Contains (take i lits) x → Contains known x) → (x : Lit) → Contains (take (i + 1) lits) x → Contains known x

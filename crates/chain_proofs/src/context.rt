@@ -1,6 +1,6 @@
 //! What is known to be false, in a proof.
 ghost use Rattle.std.specs.Prelude.{◌≡◌, IfOk};
-ghost use Rattle.chain_proofs.specs.Contexts.{false_tree};
+ghost use Rattle.chain_proofs.specs.code.Parts.{false_tree};
 
 use clause_proofs::number;
 use derive_kit::{Part, and_e, hyp};

@@ -1,8 +1,8 @@
 //! Literals that are known to be false.
 ghost use Rattle.std.specs.Prelude.{◌≡◌, [], IfOk, OnOk};
 ghost use Rattle.clause_learning.specs.Refutations.{HasSame};
-ghost use Rattle.chain_proofs.specs.Known.{AreKept, IsPlace};
-ghost use Rattle.chain_proofs.specs.code.Keys.{Adds, IsPlaceOrNext, lit_code};
+ghost use Rattle.chain_proofs.specs.Known.{AreKept, lit_code};
+ghost use Rattle.chain_proofs.specs.code.Keys.{Adds, IsPlace, IsPlaceOrNext};
 
 use clause_form::Lit;
 use indexmap::IndexSet;

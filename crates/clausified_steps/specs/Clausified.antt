@@ -29,10 +29,6 @@ pub record Clausifies (t : Statements) (parents : List Parent) (line : Form) (p 
   pub occur : Each (λ (u : Use). occurs_in u.function line ≡ true) uses
   pub parts : ByParts t.vocabulary (stated t uses form ∷ parents) line
 
--- some parent gives the line so, with some functions
-abbrev pub IsClausified : Statements → List Parent → Form → Type 0
-IsClausified t parents line = (i : ℕ) × (p : Parent) × (form : Form) × (uses : List Use) × (slice_get parents i ≡ Some p) × Clausifies t parents line p form uses
-
 -- The entries derive such a line: for each of the functions, that of the outermost existential quantifier first, one by
 -- which it chooses, then a lemma of the formula with the functions, and then one of the line.
 pub record IsClausifiedBy (t : Statements) (parents : List Parent) (line : Form) (entries : List Entry) : Type 0 where

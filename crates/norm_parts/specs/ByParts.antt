@@ -4,9 +4,7 @@ use Rattle.std.specs.Prelude.{◌≡◌, ◌≤◌, ◌⊎◌, true, List, [], �
 use Rattle.std.specs.List.{All as Each}
 use Rattle.fof_terms.specs.declared.form.Form.{Form}
 use Rattle.fof_terms.specs.Vocabulary.{Vocabulary}
-use Rattle.clause_form.specs.declared.clause.Clause.{Clause}
 use Rattle.clause_form.specs.declared.path.Parent.{Parent}
-use Rattle.clause_form.specs.ClauseView.{clause_of}
 use Rattle.clause_form.specs.Norm.{norm_of}
 use Rattle.clause_form.specs.Sizes.{norm_size_of}
 use Rattle.clause_rules.specs.declared.just.Just.{Just}
@@ -15,10 +13,6 @@ use Rattle.clause_rules.specs.CoverRule.{IsCoverStep}
 use Rattle.clause_rules.specs.Justified.{Shows}
 use Rattle.clause_rules.specs.TautologyRule.{IsTautologyStep}
 use Rattle.norm_parts.specs.Parts.{parts_of}
-
--- the part is a clause
-abbrev pub IsClausePart : Form → Type 0
-IsClausePart part = (e : Clause) × (clause_of part ≡ Some e)
 
 -- the part is a clause that is true by its form, or one that the rule `cover` gives from a parent
 abbrev pub IsGivenPart : Vocabulary → List Parent → Form → Type 0

@@ -1,20 +1,19 @@
 -- Falsehood, by a fact whose literals are known to be false.
-use Rattle.std.specs.Prelude.{ℕ, ◌≡◌, List, [], length, Some, slice_get}
+use Rattle.std.specs.Prelude.{ℕ, ◌≡◌, ◌-◌, nat_lt, List, [], length, Some, slice_get, if◌then◌else◌}
 use Rattle.std.specs.List.{Contains}
 use Rattle.fof_terms.specs.Sorts.{Sorted}
 use Rattle.fof_terms.specs.declared.form.Form.{Form, Or}
 use Rattle.clause_form.specs.declared.clause.Lit.{Lit}
 use Rattle.kernel.specs.Statements.{Statements}
 use Rattle.kernel.specs.Proves.{Proves}
-use Rattle.kernel.specs.declared.proof.Proof.{Proof}
-use Rattle.chain_proofs.specs.Contexts.{IsContext, false_tree}
+use Rattle.kernel.specs.declared.proof.Proof.{Proof, AndE, Hyp}
+use Rattle.chain_proofs.specs.Contexts.{IsContext}
 use Rattle.chain_proofs.specs.Facts.{Holds, all_false}
-use Rattle.chain_proofs.specs.code.Keys.{IsPlaceOrNext}
 use Rattle.chain_proofs.specs.declared.fact.Fact.{Fact}
 
--- that the literal is false, by its place or the next one
-abbrev pub IsPart : List Lit → ℕ → ℕ → Proof → Lit → Type 0
-IsPart known base count p l = (place : ℕ) × IsPlaceOrNext known l place × (p ≡ false_tree base count place)
+-- that the literal at the place is false, where so many are known, the first `base` together
+abbrev pub false_tree : ℕ → ℕ → ℕ → Proof
+false_tree base count place = if nat_lt place base then AndE place (Hyp (count - base)) else Hyp (count - 1 - place)
 
 -- the further literals have those that are known at their places, and the others of the fact at the next one
 pub record GoesOn (known lits : List Lit) (f : Fact) : Type 0 where

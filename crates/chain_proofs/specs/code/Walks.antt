@@ -1,5 +1,5 @@
 -- The steps of a walk.
-use Rattle.std.specs.Prelude.{ℕ, ◌≡◌, ◌≤◌, ◌++◌, ◌∷◌, [], ◌⊎◌, List, length, Option, Some, None}
+use Rattle.std.specs.Prelude.{ℕ, ◌≡◌, ◌++◌, ◌∷◌, [], ◌⊎◌, List, length, Option, Some, None}
 use Rattle.std.specs.List.{Contains}
 use Rattle.fof_terms.specs.Sorts.{Sorted}
 use Rattle.fof_terms.specs.declared.form.Form.{Form}
@@ -7,7 +7,7 @@ use Rattle.clause_form.specs.declared.clause.AtomOf.{AtomOf}
 use Rattle.clause_form.specs.declared.clause.Lit.{Lit}
 use Rattle.kernel.specs.Statements.{Statements}
 use Rattle.sat_step.specs.Decisions.{opposite}
-use Rattle.chain_proofs.specs.Chains.{AreOver, Derives, FactsAreOver, HoldEach}
+use Rattle.chain_proofs.specs.Chains.{AreOver, FactsAreOver, HoldEach}
 use Rattle.chain_proofs.specs.Facts.{Holds, all_false}
 use Rattle.chain_proofs.specs.Stretches.{EndsIn, LeadTo}
 use Rattle.chain_proofs.specs.declared.fact.Fact.{Fact}
@@ -27,14 +27,6 @@ LacksOnly known lits l = (x : Lit) → Contains lits x → (Contains known x →
 pub record IsAdvanced (base : ℕ) (f : Fact) (l : Lit) (old : List Lit) (steps : List Step) (new : List Lit) (more : List Step) : Type 0 where
   pub lits : (new ≡ old ++ l ∷ []) ⊎ ((new ≡ old) × Contains old l)
   pub leads : (t : Statements) (first : List Lit) → length first ≡ base → Sorted t.vocabulary [] (all_false first) → Holds t f → Contains f.lits (opposite l) → LacksOnly old f.lits l → LeadTo t first steps old → LeadTo t first more new
-
--- the first steps of a walk, and what is left to walk over
-pub record IsWalked (facts : List Fact) (from : List ℕ) (first known : List Lit) (left : List ℕ) (steps : List Step) : Type 0 where
-  pub derives : Derives facts left known
-  pub named : (k : ℕ) → Contains left k → Contains from k
-  pub fewer : length left ≤ length from
-  pub leads : (t : Statements) → HoldEach t facts from → Sorted t.vocabulary [] (all_false first) → LeadTo t first steps known
-  pub over : (atoms : List AtomOf) → AreOver atoms first → FactsAreOver atoms facts from → AreOver atoms known
 
 -- a walk that has come to an end, or is to go on
 pub record IsWalk (facts : List Fact) (from : List ℕ) (first known : List Lit) (left : List ℕ) (w : Walk) : Type 0 where

@@ -1,6 +1,6 @@
 use Rattle.std.proofs.Common.{take}
 use Rattle.std.specs.List.{AllZip}
-use Rattle.chain_proofs.specs.code.Parts.{IsPart}
+use Rattle.chain_proofs.proofs.Parting.{IsPart}
 use Rattle.chain_proofs.proofs.refuting.refuted_by.Given as goal
 
 abbrev pub invariant-loop-lit : goal.invariant-loop-lit

@@ -1,6 +1,6 @@
 use Rattle.std.proofs.Common.{length}
 use Rattle.chain_proofs.specs.Known.{AreKept}
-use Rattle.chain_proofs.specs.code.Walks.{IsWalked}
+use Rattle.chain_proofs.proofs.Walking.{IsWalked}
 use Rattle.chain_proofs.proofs.stretching.take_steps.Given as goal
 
 abbrev pub invariant-loop-number : goal.invariant-loop-number
