@@ -1,3 +1,4 @@
+pub mod Bodies
 pub mod Closed
 pub mod Depths
 pub mod FlatLaws

@@ -13,7 +13,8 @@ use Rattle.clause_form.proofs.SizeLaws.{sum_cons, some_size}
 use Rattle.fof_terms.proofs.Induction.{form_induction}
 use Rattle.flat_form.specs.Flat.{Pulled, kept, sorts_of, pulled}
 use Rattle.flat_form.specs.Renumbered.{renumbered}
-use Rattle.flat_form.specs.code.Numbers.{placed, placed_bodies}
+use Rattle.flat_form.specs.code.Numbers.{placed}
+use Rattle.flat_form.proofs.Bodies.{placed_bodies}
 use Rattle.flat_form.proofs.PulledFacts.{pulled-Atom, pulled-Eq, kept-Not, kept-Imp, kept-Iff, kept-Ex, node_sorts, all_sorts}
 
 pub take_next : {X : Type 0} (xs : List X) (i : ℕ) (d : X) → i < length xs → take (i + 1) xs ≡ take i xs ++ get_or xs i d ∷ []

@@ -9,7 +9,8 @@ use Rattle.clause_form.specs.Norm.{node, join}
 use Rattle.flat_form.specs.Flat.{Pulled, kept, sorts_of, bodies_of, pulled}
 use Rattle.flat_form.specs.Renumbered.{renumbered}
 use Rattle.flat_form.specs.Numbers.{listed}
-use Rattle.flat_form.specs.code.Numbers.{placed, placed_bodies}
+use Rattle.flat_form.specs.code.Numbers.{placed}
+use Rattle.flat_form.proofs.Bodies.{placed_bodies}
 use Rattle.flat_form.proofs.PulledFacts.{node_sorts, node_body}
 use Rattle.flat_form.proofs.Renumbering.{renumbering, same_numbers, itself, twice, lift_number, lift_below, lift_above, lift_is, join_walk}
 

@@ -12,7 +12,8 @@ use Rattle.clause_form.proofs.SizeLaws.{depth_within_size}
 use Rattle.flat_form.specs.Flat.{Pulled, kept, sorts_of, pulled, pull_reach}
 use Rattle.flat_form.specs.Renumbered.{renumbered}
 use Rattle.flat_form.specs.Numbers.{listed, HasRoomAt}
-use Rattle.flat_form.specs.code.Numbers.{placed, placed_bodies, placed_body, HasPlaces}
+use Rattle.flat_form.specs.code.Numbers.{placed, placed_body, HasPlaces}
+use Rattle.flat_form.proofs.Bodies.{placed_bodies}
 use Rattle.flat_form.proofs.Lists.{sorts_more, flat_more, count_within}
 use Rattle.flat_form.proofs.Placing.{node_placed, kept_placed, under_placed, start_placed}
 use Rattle.flat_form.proofs.PulledFacts.{node_sorts, all_sorts, all_body, count-All}

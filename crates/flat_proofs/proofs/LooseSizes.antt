@@ -19,9 +19,12 @@ use Rattle.flat_form.specs.Renumbered.{renumbered}
 use Rattle.flat_form.proofs.Order.{order_few}
 use Rattle.flat_form.proofs.Renumbering.{renumbering}
 use Rattle.flat_proofs.specs.code.Loose.{loose, closed_of}
-use Rattle.flat_proofs.specs.code.Moving.{Bounded}
 use Rattle.flat_proofs.specs.code.Permuting.{turned_by, loose_flat}
 use Rattle.flat_proofs.proofs.LooseFacts.{loose-Atom, loose-Eq, kept-Not, kept-Imp, kept-Iff, kept-Ex, node_sorts, node_body, all_sorts, all_body, loose_sorts, list_sorts}
+
+-- the formulas' quantifiers and bodies have at most d binders inside each other
+abbrev pub Bounded : ℕ → List Form → Type 0
+Bounded d = AllByRecursion (λ a. binder_depth (closed_of (loose a)) ≤ d)
 
 -- new variables
 module _ (f : ℕ → Term → Term) (g : ℕ → Form → Form) (w : FormWalk f g) where

@@ -15,17 +15,26 @@ use Rattle.kernel.specs.Proves.{Proves, over, all_over}
 use Rattle.kernel.specs.code.Rules.{ProveAll}
 use Rattle.kernel.specs.Rules.{ProveEach}
 use Rattle.kernel.proofs.Building.{over_sorted, by_hyp, by_and_i, by_and_e, by_or_i, by_or_e, by_imp_i, by_imp_e, by_all_i, by_all_e_here}
-use Rattle.kernel.specs.declared.proof.Proof.{Proof, Hyp, AndE, ImpE, AllE}
+use Rattle.kernel.specs.declared.proof.Proof.{Proof, Hyp, AndE, ImpI, ImpE, AllI, AllE}
 use Rattle.derive_kit.proofs.Members.{first}
 use Rattle.norm_proofs.specs.code.Steps.{Between, aimed, chain_tree}
 use Rattle.norm_proofs.proofs.StepsFacts.{other_sorted}
 use Rattle.flat_form.specs.Flat.{Pulled, kept, sorts_of, bodies_of}
 use Rattle.flat_proofs.specs.code.Gathering.{AreClosed, gather_tree}
 use Rattle.flat_proofs.specs.code.Loose.{loose, closed_of}
-use Rattle.flat_proofs.specs.code.Moving.{and_links, or_links, linked, link_tree, under_all, under_tree, IsMoved, AreMoved, Bounded}
+use Rattle.flat_proofs.specs.code.Moving.{and_links, or_links, linked, link_tree, IsMoved, AreMoved}
 use Rattle.flat_proofs.proofs.Gathered.{gather_shows}
 use Rattle.flat_proofs.proofs.GatherFacts.{ListedFrom, listed_first, listed_rest, listed_all}
+use Rattle.flat_proofs.proofs.LooseSizes.{Bounded}
 use Rattle.flat_proofs.proofs.LooseFacts.{node_sorts, node_body, all_sorts, all_body}
+
+-- under a universal quantifier
+abbrev pub under_all : ℕ → Form → Proof → Proof
+under_all s from p = ImpI (All s from) (AllI s (ImpE p (AllE (Var 0) (Hyp 0))))
+
+abbrev pub under_tree : Bool → ℕ → Form → Form → Proof → Proof
+under_tree true s a c p = under_all s a p
+under_tree false s a c p = under_all s c p
 
 -- each part shows, under all hypotheses, that the first formula implies the second
 abbrev Imply : Statements → List ℕ → List Form → List Form → List Proof → Type 0

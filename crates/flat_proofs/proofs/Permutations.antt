@@ -1,5 +1,5 @@
 -- Between the quantifiers that are pulled out, in their own order, and the same in the order of their variables.
-use Rattle.std.specs.Prelude.{ℕ, suc, ◌≡◌, ◌+◌, ◌-◌, ◌<◌, ◌≤◌, ◌==◌, nat_lt, if◌then◌else◌, List, [], ◌∷◌, length, get_or, refl}
+use Rattle.std.specs.Prelude.{ℕ, suc, ◌≡◌, ◌+◌, ◌-◌, ◌<◌, ◌≤◌, ◌==◌, nat_lt, if◌then◌else◌, List, [], ◌∷◌, length, Some, slice_get, get_or, refl}
 use Rattle.std.proofs.Common.{ap, sym, subst, ◌∙◌, arith, inl, inr}
 use Rattle.std.proofs.lemmas.Bool.{lt-ltb, le-ltb, eq-eqb, ne_eqb}
 use Rattle.fof_terms.specs.declared.term.Term.{Var}
@@ -18,8 +18,15 @@ use Rattle.flat_form.specs.Renumbered.{renumbered_term, renumbered}
 use Rattle.flat_form.specs.Numbers.{listed}
 use Rattle.flat_form.proofs.Placing.{listed_near, listed_far}
 use Rattle.flat_form.proofs.Renumbering.{renumbering_term, bound, free, same_numbers, itself, twice}
-use Rattle.flat_proofs.specs.code.Permuting.{at_numbers, StandIn}
+use Rattle.flat_proofs.specs.code.Permuting.{at_numbers}
 use Rattle.flat_proofs.proofs.NormWalk.{further}
+
+-- the variables have these sorts
+abbrev pub StandIn : List ℕ → List ℕ → List ℕ → Type 0
+StandIn scope [] [] = Unit {0}
+StandIn scope [] (s ∷ sorts) = ⊥
+StandIn scope (k ∷ ks) [] = ⊥
+StandIn scope (k ∷ ks) (s ∷ sorts) = (slice_get scope k ≡ Some s) × StandIn scope ks sorts
 
 -- The instance at a variable renumbers.
 abbrev placed_number : ℕ → ℕ → ℕ → ℕ

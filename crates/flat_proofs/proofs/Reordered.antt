@@ -24,9 +24,9 @@ use Rattle.flat_form.specs.Renumbered.{renumbered}
 use Rattle.flat_form.proofs.Order.{has}
 use Rattle.flat_form.proofs.Places.{down as falling, sorts_down, place, place_below, number_near}
 use Rattle.flat_form.proofs.Renumbering.{renumbering}
-use Rattle.flat_proofs.specs.code.Permuting.{at_numbers, StandIn, down, turned_tree}
+use Rattle.flat_proofs.specs.code.Permuting.{at_numbers, down, turned_tree}
 use Rattle.flat_proofs.proofs.Opened.{closed_lifted, opened_sorts}
-use Rattle.flat_proofs.proofs.Permutations.{at_numbers_shows}
+use Rattle.flat_proofs.proofs.Permutations.{StandIn, at_numbers_shows}
 use Rattle.flat_proofs.proofs.Reordering.{at_place, get_map, scope_sort, first_has, rest_has, forth_body, back_body, back_stand}
 
 same_down : (n : ℕ) → down n ≡ falling n

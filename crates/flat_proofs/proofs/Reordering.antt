@@ -15,7 +15,8 @@ use Rattle.flat_form.proofs.Order.{has, has_cons}
 use Rattle.flat_form.proofs.Places.{place, place_here, place_later, place_below, number_near, number_far}
 use Rattle.flat_form.proofs.Placing.{listed_near, listed_far}
 use Rattle.flat_form.proofs.Renumbering.{twice, same_numbers, itself, lift_number, lift_below, lift_above, lift_is}
-use Rattle.flat_proofs.specs.code.Permuting.{down, StandIn}
+use Rattle.flat_proofs.specs.code.Permuting.{down}
+use Rattle.flat_proofs.proofs.Permutations.{StandIn}
 
 length_down : (n : ℕ) → length (down n) ≡ n
 length_down zero = refl

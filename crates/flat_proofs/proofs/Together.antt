@@ -27,13 +27,13 @@ use Rattle.flat_proofs.specs.code.Gathering.{AreClosed, gather_tree}
 use Rattle.flat_proofs.specs.code.Leading.{Leads}
 use Rattle.flat_proofs.specs.code.Loose.{loose, closed_of}
 use Rattle.flat_proofs.specs.code.Members.{seen, bare, room_of, HaveRoom, IsSpacious}
-use Rattle.flat_proofs.specs.code.Moving.{link_tree, under_tree, IsMoved, AreMoved, Bounded, IsLed}
+use Rattle.flat_proofs.specs.code.Moving.{link_tree, IsMoved, AreMoved, IsLed}
 use Rattle.flat_proofs.proofs.Gathered.{gather_shows}
 use Rattle.flat_proofs.proofs.LeadFacts.{leads_some, leads_none, leads_roomier}
 use Rattle.flat_proofs.proofs.LooseFacts.{node_sorts, node_body, all_sorts, all_body, kept_node}
-use Rattle.flat_proofs.proofs.LooseSizes.{loose_depth, node_bounded, node_count}
+use Rattle.flat_proofs.proofs.LooseSizes.{Bounded, loose_depth, node_bounded, node_count}
 use Rattle.flat_proofs.proofs.MemberFacts.{sorts_bare, bodies_bare, closed_bare}
-use Rattle.flat_proofs.proofs.MoveFacts.{closed_sorted, members_sorted, closed_within, link_shows, all_moved}
+use Rattle.flat_proofs.proofs.MoveFacts.{under_tree, closed_sorted, members_sorted, closed_within, link_shows, all_moved}
 use Rattle.flat_proofs.proofs.Opened.{nothing}
 
 all_end : {X : Type 0} (P : X → Type 0) (xs : List X) (x : X) → AllByRecursion P xs → P x → AllByRecursion P (xs ++ x ∷ [])

@@ -1,21 +1,16 @@
 -- Places of variables where quantifiers are pulled out, as code has them.
-use Rattle.std.specs.Prelude.{ℕ, ◌+◌, ◌-◌, ◌<◌, ◌≤◌, ◌^◌, nat_lt, if◌then◌else◌, List, [], ◌∷◌, length}
+use Rattle.std.specs.Prelude.{ℕ, ◌+◌, ◌-◌, ◌<◌, ◌≤◌, ◌^◌, nat_lt, if◌then◌else◌, List, length}
 use Rattle.std.specs.List.{All as Each}
 use Rattle.fof_terms.specs.declared.form.Form.{Form}
 use Rattle.fof_terms.specs.Lift.{lift_reach}
 use Rattle.fof_terms.specs.Sorts.{binder_depth}
-use Rattle.flat_form.specs.Flat.{Pulled, pulled}
+use Rattle.flat_form.specs.Flat.{pulled}
 use Rattle.flat_form.specs.Numbers.{listed}
 use Rattle.flat_form.specs.Renumbered.{renumbered}
 
 -- the n nearest variables are, of `total` ones, those from `start` on; the others are listed
 abbrev pub placed : List ℕ → ℕ → ℕ → ℕ → ℕ → ℕ
 placed places total start n k = if nat_lt k n then total - 1 - (start + (n - 1 - k)) else listed places total (k - n)
-
--- each body over `total` variables, the first one's own being those from `start` on
-abbrev pub placed_bodies : List ℕ → ℕ → ℕ → List Pulled → List Form
-placed_bodies places total start [] = []
-placed_bodies places total start (p ∷ ps) = renumbered (placed places total start (length p.sorts)) 0 p.body ∷ placed_bodies places total (start + length p.sorts) ps
 
 -- the body that is pulled out of a formula, over `total` variables, its own being those from `start` on
 abbrev pub placed_body : List ℕ → ℕ → ℕ → Form → Form

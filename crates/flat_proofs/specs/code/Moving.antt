@@ -1,10 +1,7 @@
 -- Proofs between a formula and the quantifiers that are pulled out of it over the rest.
-use Rattle.std.specs.Prelude.{ℕ, Bool, true, false, ◌+◌, ◌≤◌, List, [], ◌∷◌, Option}
-use Rattle.std.specs.List.{AllByRecursion}
-use Rattle.fof_terms.specs.Sorts.{binder_depth}
-use Rattle.fof_terms.specs.declared.term.Term.{Var}
-use Rattle.fof_terms.specs.declared.form.Form.{Form, And, Or, All}
-use Rattle.kernel.specs.declared.proof.Proof.{Proof, Hyp, AndI, AndE, OrI, OrE, ImpI, ImpE, AllI, AllE}
+use Rattle.std.specs.Prelude.{ℕ, Bool, true, false, ◌+◌, List, [], ◌∷◌, Option}
+use Rattle.fof_terms.specs.declared.form.Form.{Form, And, Or}
+use Rattle.kernel.specs.declared.proof.Proof.{Proof, Hyp, AndI, AndE, OrI, OrE, ImpI, ImpE}
 use Rattle.norm_proofs.specs.code.Steps.{Between}
 use Rattle.flat_proofs.specs.code.Leading.{Leads}
 use Rattle.flat_proofs.specs.code.Loose.{loose, closed_of}
@@ -40,14 +37,6 @@ abbrev pub link_tree : Bool → Bool → List Form → List Form → List Proof 
 link_tree kind true as_ cs ps = linked kind as_ cs ps
 link_tree kind false as_ cs ps = linked kind cs as_ ps
 
--- the same for a universal quantifier over the formula
-abbrev pub under_all : ℕ → Form → Proof → Proof
-under_all s from p = ImpI (All s from) (AllI s (ImpE p (AllE (Var 0) (Hyp 0))))
-
-abbrev pub under_tree : Bool → ℕ → Form → Form → Proof → Proof
-under_tree true s a c p = under_all s a p
-under_tree false s a c p = under_all s c p
-
 -- between the formula and the quantifiers that are pulled out of it
 abbrev pub IsMoved : Bool → ℕ → Form → Proof → Type 0
 IsMoved forth n a p = Between forth n p a (closed_of (loose a))
@@ -58,10 +47,6 @@ AreMoved forth n [] [] = Unit {0}
 AreMoved forth n [] (p ∷ ps) = ⊥
 AreMoved forth n (a ∷ as_) [] = ⊥
 AreMoved forth n (a ∷ as_) (p ∷ ps) = IsMoved forth n a p × AreMoved forth n as_ ps
-
--- the formulas' quantifiers and bodies have at most d binders inside each other
-abbrev pub Bounded : ℕ → List Form → Type 0
-Bounded d = AllByRecursion (λ a. binder_depth (closed_of (loose a)) ≤ d)
 
 -- the proof is between the formula and these quantifiers, or they are one
 abbrev pub IsLed : Bool → Form → Option Proof → Type 0

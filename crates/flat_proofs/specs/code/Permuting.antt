@@ -1,5 +1,5 @@
 -- Instances of nested quantifiers at variables.
-use Rattle.std.specs.Prelude.{ℕ, zero, suc, Bool, true, false, ◌≡◌, List, [], ◌∷◌, Some, slice_get, length, map}
+use Rattle.std.specs.Prelude.{ℕ, zero, suc, Bool, true, false, List, [], ◌∷◌, length, map}
 use Rattle.fof_terms.specs.declared.form.Form.{Form}
 use Rattle.clause_form.specs.ClauseView.{closed_by}
 use Rattle.flat_form.specs.Flat.{pulled, order_of, new_number, sort_of}
@@ -13,13 +13,6 @@ use Rattle.norm_proofs.specs.Numbering.{general}
 abbrev pub at_numbers : List ℕ → Proof → Proof
 at_numbers [] p = p
 at_numbers (k ∷ ks) p = at_numbers ks (AllE (Var k) p)
-
--- the variables have these sorts
-abbrev pub StandIn : List ℕ → List ℕ → List ℕ → Type 0
-StandIn scope [] [] = Unit {0}
-StandIn scope [] (s ∷ sorts) = ⊥
-StandIn scope (k ∷ ks) [] = ⊥
-StandIn scope (k ∷ ks) (s ∷ sorts) = (slice_get scope k ≡ Some s) × StandIn scope ks sorts
 
 -- quantifiers of these sorts over the body, in that order
 abbrev pub turned_by : List ℕ → List ℕ → Form → Form

@@ -2,7 +2,7 @@ use Rattle.std.proofs.Common.{rules, arith, ap, ◌∙◌, ◌-◌, ◌++◌, �
 use Rattle.clause_form.specs.Norm.{members_of}
 use Rattle.fof_terms.specs.declared.form.Form.TheViews.{the_lemmas}
 use Rattle.flat_form.specs.Flat.{pulled, sorts_of}
-use Rattle.flat_form.specs.code.Numbers.{placed_bodies}
+use Rattle.flat_form.proofs.Bodies.{placed_bodies}
 use Rattle.flat_form.proofs.Lists.{take_end}
 use Rattle.flat_form.proofs.PullSteps.{room_for_one, under_sorts, under_body, next_sorts, next_flat, node_done, node_sorts_done}
 use Rattle.flat_form.proofs.Rooms.{places_member, places_body}

@@ -1,7 +1,7 @@
 use Rattle.std.proofs.Common.{◌≡◌, ◌++◌, take, map, flat_map, length}
 use Rattle.clause_form.specs.Norm.{members_of}
 use Rattle.flat_form.specs.Flat.{pulled, sorts_of}
-use Rattle.flat_form.specs.code.Numbers.{placed_bodies}
+use Rattle.flat_form.proofs.Bodies.{placed_bodies}
 use Rattle.flat_form.proofs.pulling.+pull_in.Given as goal
 
 abbrev pub invariant-pull_node-loop-form : goal.invariant-pull_node-loop-form
