@@ -70,7 +70,11 @@ fn number_of(order: &IndexSet<u32>, variable: usize) -> u32
 }
 
 /// The sorts of the variables, in their order.
-pub fn sorts_in(alloc: Global, order: &IndexSet<u32>, sorts: &[SortId]) -> Result<List<SortId>, Memory>
+pub fn sorts_in(
+    alloc: Global,
+    order: &IndexSet<u32>,
+    sorts: &[SortId],
+) -> Result<List<SortId>, Memory>
     requires { Each (λ k. k < length sorts.now) order.now.keys }
     ensures { IfOk result (λ made. made ≡ map (sort_of sorts.now) order.now.keys) }
 {
