@@ -1,1 +1,4 @@
 pub mod Codes
+pub mod Decisions
+pub mod Propositional
+pub mod code

@@ -1,6 +1,6 @@
 use Rattle.std.proofs.Common.{List, Option, None, Some, refl, ap, sym, subst, ◌∙◌}
 use Rattle.clause_form.specs.declared.clause.Lit.{Lit}
-use Rattle.chain_proofs.specs.code.Walks.{IsMissing, IsWalked}
+use Rattle.chain_proofs.specs.code.Walks.{IsMissing}
 use Rattle.chain_proofs.proofs.Walking.{ended, goes_further, number_within, unwalked, walked_on}
 use Rattle.chain_proofs.proofs.stretching.take_steps.Goals as goal
 
