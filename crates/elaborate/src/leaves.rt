@@ -43,10 +43,11 @@ pub fn leaf(
     requires room { HasRoom (length theory.now.vocabulary.symbols) (forms_of candidates.now) line.now }
     ensures { IfOk result (IsLeafAnswer theory.now candidates.now cited line.now limit) }
 {
-    match first_norm(alloc, theory.signature(), candidates, line)? {
+    let signature = theory.signature();
+    match first_norm(alloc, signature, candidates, line)? {
         Some(at) => {
             let candidate = &candidates[at as usize];
-            let proof = normed(alloc, theory.signature(), candidate, line)?;
+            let proof = normed(alloc, signature, candidate, line)?;
             accepted(alloc, Rule::Norm, candidate.number, proof)
         }
         None => covered_leaf(alloc, theory, candidates, cited, line, limit),

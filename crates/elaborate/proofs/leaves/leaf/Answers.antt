@@ -5,7 +5,7 @@ use Rattle.elaborate.proofs.leaves.leaf.Goals as goal
 pub returns-in_ok-proof-in-Some : goal.returns-in_ok-proof-in-Some
 returns-in_ok-proof-in-Some c =
     ok_map c.accepted.result
-    (λ answer e. rw e (leaf_found c.args.theory.now c.signature-2.result.now c.args.candidates.now c.args.cited c.args.line.now c.args.limit c.in_ok-at.field-0 c.in-Some.at c.index-candidates-at.result c.in_ok-proof-in-Some.proof c.requires.candidates c.signature-2.ensures c.index-candidates-at.is c.in-Some.is c.in_ok-at.ensures c.in_ok-proof-in-Some.ensures))
+    (λ answer e. rw e (leaf_found c.args.theory.now c.signature-signature.result.now c.args.candidates.now c.args.cited c.args.line.now c.args.limit c.in_ok-at.field-0 c.in-Some.at c.index-candidates-at.result c.in_ok-proof-in-Some.proof c.requires.candidates c.signature-signature.ensures c.index-candidates-at.is c.in-Some.is c.in_ok-at.ensures c.in_ok-proof-in-Some.ensures))
     c.accepted.ensures
 
 pub covered_leaf-requires-clause-no_norm : goal.covered_leaf-requires-clause-no_norm
