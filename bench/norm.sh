@@ -1,28 +1,51 @@
 #!/bin/sh
-# Measures normal forms, and the proofs to them and back: of conjunctions of 1,000 and of 10,000 literals and of literals denied
-# twice, of 200 quantifiers around such a conjunction, whose variables are not used or the outermost of which is used in each
-# literal, and of 200 implications inside each other. Times are the processor's. At most 12 times the time is wanted for ten
-# times the literals, and well under a second for a conjunction of 10,000 literals and for 200 levels. A proof through quantifiers
-# names the formula inside at each of them, so 200 quantifiers around 10,000 literals are 200 times as much work.
+# Measures lines by the rule `norm`: each is its parent denied twice, so that the normal forms of both are made, and the proofs from
+# the parent to its normal form and from there to the line. The parents are conjunctions of 1,000 and of 10,000 literals and of
+# literals denied twice, 200 quantifiers around such a conjunction, whose variables are not used or the outermost of which is
+# used in each literal, and 200 implications inside each other. Times are the processor's, beside `tptp parse` on both files. At
+# most 12 times the time is wanted for ten times the literals, and well under a second for a conjunction of 10,000 literals and
+# for 200 levels. A proof through quantifiers names the formula inside at each of them, so 200 quantifiers around 10,000 literals
+# are 200 times as much work.
 set -eu
 . "$(dirname "$0")/common.sh"
-program=$(program_of tptp_bench norm norm literals 10 1)
+program=$(program_of tptp_tool verify data/pq.p data/pq.s)
+cd "$folder"
 
-# The milliseconds that one takes.
-one() {
-    none=$(processor norm "$1" "$2" "$3" 0)
-    all=$(processor norm "$1" "$2" "$3" "$4")
-    awk "BEGIN { printf \"%.2f\", 1000 * ($all - $none) / $4 }"
+# The formula of this kind and size.
+formula() {
+    awk -v kind="$1" -v size="$2" '
+    function repeated(text, times, between, all, i) {
+        for (i = 0; i < times; i++) all = all (i ? between : "") text
+        return all
+    }
+    BEGIN {
+        for (i = 0; i < 200; i++) variables = variables (i ? "," : "") "X" i
+        if (kind == "literals") print repeated("~ p", size, " & ")
+        if (kind == "denials") print repeated("~ ~ p", size, " & ")
+        if (kind == "unused") print "! [" variables "] : ( " repeated("~ p", size, " & ") " )"
+        if (kind == "outermost") print "! [" variables "] : ( " repeated("q(X0)", size, " & ") " )"
+        if (kind == "implications") print repeated("( p => ", size, "") "p" repeated(" )", size, "")
+    }'
+}
+
+# The milliseconds that a line of this kind and size takes, of so many.
+line() {
+    formula "$1" "$2" > formula
+    { echo "fof(a,axiom,"; cat formula; echo ")."; } > p.p
+    for i in $(seq "$3"); do
+        echo "fof(l$i,plain,~ ~ ("
+        cat formula
+        echo "),inference(step,[],[a]))."
+    done > s.s
+    parsed=$(calculate_to 2 "$(processor parse p.p) + $(processor parse s.s)")
+    whole=$(processor verify p.p s.s s.log || true)
+    test "$(grep -c ' ok norm$' answer)" = "$3"
+    calculate_to 2 "1000 * ($whole - $parsed) / $3"
 }
 
 for kind in literals denials unused outermost; do
-    for work in norm forth back; do
-        small=$(one $work $kind 1000 100)
-        large=$(one $work $kind 10000 10)
-        echo "$work of 10,000 $kind, $(cat "$folder/answer"): $large ms, $(calculate "$large / $small") times the time for 1,000"
-    done
+    small=$(line $kind 1000 100)
+    large=$(line $kind 10000 10)
+    echo "10,000 $kind: $large ms, $(calculate "$large / ($small + 0.001)") times the time for 1,000"
 done
-for work in norm forth back; do
-    time=$(one $work implications 200 10)
-    echo "$work of 200 implications, $(cat "$folder/answer"): $time ms"
-done
+echo "200 implications: $(line implications 200 10) ms"

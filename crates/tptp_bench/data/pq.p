@@ -1,2 +1,0 @@
-cnf(a,axiom,p).
-cnf(b,axiom,~ p).
