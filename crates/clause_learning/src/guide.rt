@@ -22,15 +22,17 @@ impl Guide {
         })
     }
 
-    /// Takes account of a clause that is learned, from a conflict in which these atoms took part.
+    /// Takes account of a clause that is learned, from a conflict in which these atoms and the clauses of these numbers
+    /// took part.
     pub fn learn(
         &mut self,
         lits: &[Literal],
         atoms: &[usize],
+        from: &[u64],
         trail: &Trail,
     ) -> Result<(), AllocError> {
         self.order.count(atoms);
         self.watches.shorten(trail.steps.len());
-        self.watches.add(lits, trail)
+        self.watches.learn(lits, from, trail)
     }
 }

@@ -13,6 +13,7 @@ mod propagation;
 mod restarts;
 mod retreating;
 mod solver;
+mod standings;
 mod trail;
 mod trimming;
 mod watches;

@@ -48,7 +48,7 @@ fn prepare(
 // Watches each clause.
 fn watch_all(clauses: &Clauses, trail: &Trail, watches: &mut Watches) -> Result<(), AllocError> {
     for clause in clauses.inputs.as_slice() {
-        watches.add(clause.as_slice(), trail)?;
+        watches.give(clause.as_slice(), trail)?;
     }
     Ok(())
 }

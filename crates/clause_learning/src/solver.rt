@@ -204,7 +204,12 @@ impl Solver {
         retreat(&mut self.trail, stop.keep, &mut guide.order)?;
         let asserted = stop.literal.opposite();
         let lits = collect(alloc, asserted, &self.trail, &self.marks)?;
-        guide.learn(lits.as_slice(), self.marks.touched.as_slice(), &self.trail)?;
+        guide.learn(
+            lits.as_slice(),
+            self.marks.touched.as_slice(),
+            from.as_slice(),
+            &self.trail,
+        )?;
         let number = self.clauses.len();
         self.marks.clear();
         self.restarts.count();

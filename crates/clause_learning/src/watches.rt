@@ -2,6 +2,7 @@
 //! rests on none of this, as every clause that is found here is examined.
 use crate::clauses::Clauses;
 use crate::literal::Literal;
+use crate::standings::Standings;
 use crate::trail::Trail;
 use sqlite_items::Items as List;
 use std::alloc::{AllocError, Global};
@@ -34,11 +35,12 @@ pub struct Heads {
     pub negative: Option<Link>,
 }
 
-/// The watches by literal and by clause, and how many literals of the trail were looked at.
+/// The watches by literal and by clause, how the clauses stand, and how many literals of the trail were looked at.
 #[derive(Drop)]
 pub struct Watches {
     pub heads: List<Heads>,
     pub pairs: List<Pair>,
+    pub standings: Standings,
     pub seen: usize,
 }
 
@@ -55,6 +57,7 @@ impl Watches {
         Ok(Watches {
             heads,
             pairs: List::new(alloc),
+            standings: Standings::new(alloc),
             seen: 0,
         })
     }
@@ -78,8 +81,25 @@ impl Watches {
         }
     }
 
-    /// Watches the next clause, by its first literal and by that of the others that became false last.
-    pub fn add(&mut self, lits: &[Literal], trail: &Trail) -> Result<(), AllocError> {
+    /// Watches the next of the clauses that are given.
+    pub fn give(&mut self, lits: &[Literal], trail: &Trail) -> Result<(), AllocError> {
+        self.standings.give()?;
+        self.add(lits, trail)
+    }
+
+    /// Watches the next clause, which is learned from a conflict in which the clauses of these numbers took part.
+    pub fn learn(
+        &mut self,
+        lits: &[Literal],
+        from: &[u64],
+        trail: &Trail,
+    ) -> Result<(), AllocError> {
+        self.standings.learn(lits.len(), from)?;
+        self.add(lits, trail)
+    }
+
+    // Watches the next clause, by its first literal and by that of the others that became false last.
+    fn add(&mut self, lits: &[Literal], trail: &Trail) -> Result<(), AllocError> {
         let clause = self.pairs.len();
         let nothing = Literal {
             atom: usize::MAX,
@@ -136,8 +156,12 @@ impl Watches {
     }
 
     /// Moves the watch to a literal of its clause that is not false and not the other watched one, which is not true.
-    /// Where there is none, it goes back to its own, and the answer is that the clause is to be examined.
+    /// Where there is none, it goes back to its own, and the answer is that the clause is to be examined. That of a
+    /// clause that is dropped is gone.
     pub fn must_examine(&mut self, clauses: &Clauses, trail: &Trail, link: Link) -> bool {
+        if self.standings.is_dropped(link.clause) {
+            return false;
+        }
         let Some(pair) = self.pairs.get(link.clause) else {
             return false;
         };
