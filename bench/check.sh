@@ -2,9 +2,13 @@
 # Measures `tptp check` on logs of 10,000 and 100,000 lemmas, each of which cites the one before: its speed, its peak memory, how
 # its time grows, and its time as a ratio to that of `sha256sum` on the same log, all in one run. The logs refute nothing, and
 # end with status 1. bench/verify.sh has logs that `verify` writes.
+#
+#     bench/check.sh [PROGRAM]
+#
+# The program is the one that LLVM makes, if none is named.
 set -eu
 . "$(dirname "$0")/common.sh"
-tptp=$(program_of tptp_tool verify data/pq.p data/pq.s)
+tptp=$(realpath "${1:-$(program_of tptp_tool verify data/pq.p data/pq.s)}")
 : > "$folder/empty.p"
 
 # The log of so many lemmas behind the first, which says that the predicate p implies itself.

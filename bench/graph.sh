@@ -3,9 +3,13 @@
 # that `tptp verify` orders all lines and then says that they are in a cycle: the processor's time beside that of `tptp parse` on
 # the derivation, at 100,000 and at 1,000,000 lines that stand in order and in reverse, and how many times longer the second
 # takes. At most 13 is wanted.
+#
+#     bench/graph.sh [PROGRAM]
+#
+# The program is the one that LLVM makes, if none is named.
 set -eu
 . "$(dirname "$0")/common.sh"
-program=$(program_of tptp_tool verify data/pq.p data/pq.s)
+program=$(realpath "${1:-$(program_of tptp_tool verify data/pq.p data/pq.s)}")
 cd "$folder"
 echo 'cnf(a,axiom,$false).' > p.p
 

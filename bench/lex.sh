@@ -2,9 +2,13 @@
 # Measures how fast a problem of about 20 MB is cut into tokens: its speed, its peak memory, and its time as a ratio to that of
 # `wc -l` and of `sha256sum` on the same text, all in one run. A text is read and cut as a whole before `tptp parse` says what
 # is wrong with its first token, so the text begins with one that is impossible.
+#
+#     bench/lex.sh [PROGRAM]
+#
+# The program is the one that LLVM makes, if none is named.
 set -eu
 . "$(dirname "$0")/common.sh"
-tptp=$(program_of tptp_tool verify data/pq.p data/pq.s)
+tptp=$(realpath "${1:-$(program_of tptp_tool verify data/pq.p data/pq.s)}")
 cd "$folder"
 problem 20000000 whole.p
 { echo ')'; cat whole.p; } > text.p

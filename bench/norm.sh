@@ -6,9 +6,13 @@
 # most 12 times the time is wanted for ten times the literals, and well under a second for a conjunction of 10,000 literals and
 # for 200 levels. A proof through quantifiers names the formula inside at each of them, so 200 quantifiers around 10,000 literals
 # are 200 times as much work.
+#
+#     bench/norm.sh [PROGRAM]
+#
+# The program is the one that LLVM makes, if none is named.
 set -eu
 . "$(dirname "$0")/common.sh"
-program=$(program_of tptp_tool verify data/pq.p data/pq.s)
+program=$(realpath "${1:-$(program_of tptp_tool verify data/pq.p data/pq.s)}")
 cd "$folder"
 
 # The formula of this kind and size.

@@ -4,9 +4,13 @@
 # 20 predicates, or all of one. A `decoy` has a literal too many in each parent. In a `tangle` each literal of the parents has
 # an instance in the line, but not all under one substitution. Steps of thirty parents come last. Times are the processor's.
 # Less than 10 ms a step of two parents is wanted.
+#
+#     bench/rules.sh [PROGRAM]
+#
+# The program is the one that LLVM makes, if none is named.
 set -eu
 . "$(dirname "$0")/common.sh"
-program=$(program_of tptp_tool verify data/pq.p data/pq.s)
+program=$(realpath "${1:-$(program_of tptp_tool verify data/pq.p data/pq.s)}")
 cd "$folder"
 
 # Steps of a kind, of so many predicates and so many pairs of parents; so many of them.
