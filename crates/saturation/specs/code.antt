@@ -5,6 +5,7 @@ pub mod Known
 pub mod Marked
 pub mod Named
 pub mod Offers
+pub mod Packed
 pub mod Search
 pub mod Steps
 pub mod Turns

@@ -14,6 +14,7 @@ ghost use Rattle.saturation.specs.code.Steps.{AreCoveredIn, IsNext};
 use crate::known::Known;
 use crate::member::Member;
 use crate::queue::Queue;
+use crate::waiting::Waiting;
 use clause_form::Clause;
 use fof_terms::Signature;
 use std::alloc::Global;
@@ -86,8 +87,9 @@ pub fn next_open(
         → IsNext signature.now whole inputs (clauses_of list.now) queue.new heavy r) }
 {
     while let Some(next) = queue.pop() {
-        if !is_covered(alloc, signature, list, known, &next.clause)? {
-            return Ok(Some(next));
+        let member = next.member(alloc)?;
+        if !is_covered(alloc, signature, list, known, &member.clause)? {
+            return Ok(Some(member));
         }
     }
     Ok(None)
@@ -99,7 +101,7 @@ pub fn all_covered(
     signature: &Signature,
     list: &[Member],
     known: &[Known],
-    others: &[Member],
+    others: &[Waiting],
 ) -> Result<bool, Memory>
     requires members { Each (IsClause signature.now) (clauses_of list.now) }
     requires known { AreKnown (clauses_of list.now) known.now }
@@ -107,7 +109,8 @@ pub fn all_covered(
     ensures { IfOk result (AreCoveredIn signature.now (clauses_of list.now) others.now) }
 {
     for member in others {
-        if !is_covered(alloc, signature, list, known, &member.clause)? {
+        let clause = member.clause(alloc)?;
+        if !is_covered(alloc, signature, list, known, &clause)? {
             return Ok(false);
         }
     }

@@ -5,7 +5,6 @@ mod admission;
 mod asking;
 mod covering;
 mod entering;
-mod equality;
 mod given;
 mod inferences;
 mod inferring;
@@ -18,9 +17,9 @@ mod pairing;
 mod queue;
 mod saturation;
 mod sifting;
-mod summing;
 mod superposition;
 mod turning;
+mod waiting;
 mod weighing;
 
 pub use admission::are_searchable;

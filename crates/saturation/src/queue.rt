@@ -2,13 +2,10 @@
 ghost use Rattle.std.specs.Prelude.{◌≡◌, [], MatchOption, OnOk, IsTrue, map};
 ghost use Rattle.std.specs.List.{Contains};
 ghost use Rattle.saturation.specs.declared.member.Member.{Member as Waits};
+ghost use Rattle.clause_order.specs.Weights.{clause_weight};
 ghost use Rattle.saturation.specs.code.Search.{IsTaken, HasJoined};
 
-use crate::equality::are_equal;
-use crate::member::Member;
-use crate::summing::sum_of;
-use clause_form::Clause;
-use clause_order::clause_weight_of;
+use crate::waiting::Waiting;
 use std::alloc::Global;
 use std::collections::BTreeMap;
 use std::marker::Model;
@@ -18,7 +15,7 @@ use tptp_base::Memory;
 /// has come and may wait.
 #[derive(Drop)]
 pub struct Queue {
-    waiting: BTreeMap<(u64, u64), Member>,
+    waiting: BTreeMap<(u64, u64), Waiting>,
     numbers: BTreeMap<u64, u64>,
     next: u64,
 }
@@ -51,42 +48,43 @@ impl Queue {
         }
     }
 
-    /// Whether a member waits that has this clause. One may be overlooked.
-    pub fn has(&self, clause: &Clause) -> bool
-        ensures { IsTrue result → (m : Waits) × Contains self.now m × (m.clause ≡ clause.now) }
+    /// Whether a member waits that has the clause of this one, which has this weight. One may be overlooked.
+    pub fn has(&self, weight: u64, member: &Waiting) -> bool
+        ensures { IsTrue result → (m : Waits) × Contains self.now m × (m.clause ≡ member.now.clause) }
     {
-        match self.numbers.get(&sum_of(clause)) {
-            Some(number) => self.has_at(clause_weight_of(clause), *number, clause),
+        match self.numbers.get(&member.sum()) {
+            Some(number) => self.has_at(weight, *number, member),
             None => false,
         }
     }
 
-    // Whether the member of this weight and number waits, and has this clause.
-    fn has_at(&self, weight: u64, number: u64, clause: &Clause) -> bool
-        ensures { IsTrue result → (m : Waits) × Contains self.now m × (m.clause ≡ clause.now) }
+    // Whether the member of this weight and number waits, and has this one's clause.
+    fn has_at(&self, weight: u64, number: u64, member: &Waiting) -> bool
+        ensures { IsTrue result → (m : Waits) × Contains self.now m × (m.clause ≡ member.now.clause) }
     {
         match self.waiting.get(&(weight, number)) {
-            Some(member) => are_equal(&member.clause, clause),
+            Some(waiting) => waiting.has_clause_of(member),
             None => false,
         }
     }
 
-    /// Lets one more wait.
-    pub fn push(&mut self, member: Member) -> Result<(), Memory>
+    /// Lets one more wait, of this weight.
+    pub fn push(&mut self, weight: u64, member: Waiting) -> Result<(), Memory>
+        requires { weight ≡ clause_weight member.clause }
         ensures { OnOk result (HasJoined self.old self.new member) }
     {
         if self.next == u64::MAX {
             return Err(Memory);
         }
-        let key = (clause_weight_of(&member.clause), self.next);
-        self.numbers.insert(sum_of(&member.clause), self.next)?;
+        let key = (weight, self.next);
+        self.numbers.insert(member.sum(), self.next)?;
         self.waiting.insert(key, member)?;
         self.next += 1;
         Ok(())
     }
 
     /// Takes the lightest.
-    pub fn pop(&mut self) -> Option<Member>
+    pub fn pop(&mut self) -> Option<Waiting>
         ensures { MatchOption result ((self.old ≡ []) × (self.new ≡ [])) (IsTaken self.old self.new) }
     {
         let (_, member) = self.waiting.pop_first()?;

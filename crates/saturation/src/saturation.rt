@@ -70,7 +70,7 @@ pub fn search_by<R: Inferences, I: Partners>(
     let mut queue = Queue::new(alloc);
     let mut heavy = List::new(alloc);
     let todo = given(alloc, inputs)?;
-    if let Some(empty) = sift(todo, bound, &mut queue, &mut heavy)? {
+    if let Some(empty) = sift(alloc, todo, bound, &mut queue, &mut heavy)? {
         return Ok(Outcome::Refuted(List::new(alloc), empty));
     }
     take_turns(

@@ -3,16 +3,19 @@ ghost use Rattle.saturation.specs.code.Steps.{Places, Sifts};
 
 use crate::member::Member;
 use crate::queue::Queue;
+use crate::waiting::Waiting;
 use clause_form::is_trivial;
 use clause_order::clause_weight_of;
+use std::alloc::Global;
 use tptp_base::{List, Memory};
 
 /// Sends each member where it belongs, up to one that is empty.
 pub fn sift(
+    alloc: Global,
     mut todo: List<Member>,
     bound: u64,
     queue: &mut Queue,
-    heavy: &mut List<Member>,
+    heavy: &mut List<Waiting>,
 ) -> Result<Option<Member>, Memory>
     ensures { IfOk result (Sifts bound todo queue.old heavy.old queue.new heavy.new) }
 {
@@ -20,29 +23,32 @@ pub fn sift(
         if next.clause.lits.is_empty() {
             return Ok(Some(next));
         }
-        place(next, bound, queue, heavy)?;
+        place(alloc, &next, bound, queue, heavy)?;
     }
     Ok(None)
 }
 
-// Sends a member to the queue or to what is too heavy. Drops it where an equal clause waits, or where it is trivial.
+// Sends a member to the queue or to what is too heavy. Drops it where it is trivial, or where an equal clause waits.
 fn place(
-    member: Member,
+    alloc: Global,
+    member: &Member,
     bound: u64,
     queue: &mut Queue,
-    heavy: &mut List<Member>,
+    heavy: &mut List<Waiting>,
 ) -> Result<(), Memory>
-    ensures { OnOk result (Places bound member queue.old heavy.old queue.new heavy.new) }
+    ensures { OnOk result (Places bound member.now queue.old heavy.old queue.new heavy.new) }
 {
-    if queue.has(&member.clause) {
-        return Ok(());
-    }
     if is_trivial(&member.clause) {
         return Ok(());
     }
-    if clause_weight_of(&member.clause) > bound {
-        Ok(heavy.push(member)?)
+    let weight = clause_weight_of(&member.clause);
+    let waiting = Waiting::new(alloc, member)?;
+    if queue.has(weight, &waiting) {
+        return Ok(());
+    }
+    if weight > bound {
+        Ok(heavy.push(waiting)?)
     } else {
-        queue.push(member)
+        queue.push(weight, waiting)
     }
 }

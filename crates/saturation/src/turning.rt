@@ -21,6 +21,7 @@ use crate::member::Member;
 use crate::outcome::Outcome;
 use crate::queue::Queue;
 use crate::sifting::sift;
+use crate::waiting::Waiting;
 use crate::weighing::heaviest_allowed;
 use clause_form::Clause;
 use clause_index::Partners;
@@ -36,7 +37,7 @@ pub fn take_turns<R: Inferences, I: Partners>(
     inputs: &[Clause],
     limit: u32,
     mut queue: Queue,
-    mut heavy: List<Member>,
+    mut heavy: List<Waiting>,
     literals: &mut I,
     terms: &mut I,
 ) -> Result<Outcome, Memory>
@@ -86,7 +87,7 @@ fn take_turn<R: Inferences, I: Partners>(
     list: &mut List<Member>,
     known: &mut List<Known>,
     queue: &mut Queue,
-    heavy: &mut List<Member>,
+    heavy: &mut List<Waiting>,
     literals: &mut I,
     terms: &mut I,
 ) -> Result<Option<Member>, Memory>
@@ -104,7 +105,7 @@ fn take_turn<R: Inferences, I: Partners>(
         → AreEntered (clauses_of list.new) (I.entries literals.new) (I.entries terms.new)) }
 {
     let made = join(alloc, rules, signature, next, list, known, literals, terms)?;
-    sift(made, bound, queue, heavy)
+    sift(alloc, made, bound, queue, heavy)
 }
 
 // How the search ends where nothing waits: by whether what is too heavy is covered.
@@ -113,7 +114,7 @@ fn at_end(
     signature: &Signature,
     list: List<Member>,
     known: &[Known],
-    heavy: &[Member],
+    heavy: &[Waiting],
     limit: u32,
 ) -> Result<Outcome, Memory>
     requires members { Each (IsClause signature.now) (clauses_of list) }

@@ -1,0 +1,10 @@
+//! Clauses, and lists of terms, in few bytes.
+#![tactic(auto)]
+
+mod building;
+mod packing;
+mod piece;
+mod reading;
+mod writing;
+
+pub use packing::{PackedClause, PackedTerms};
