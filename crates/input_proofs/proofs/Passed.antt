@@ -19,7 +19,7 @@ use Rattle.input_proofs.specs.declared.pending.Pending.{Pending}
 
 -- the pending clause is one of these formulas', at its number, which implies it
 abbrev pub IsPendingOn : List Form → Clause → Pending → Type 0
-IsPendingOn forms c p = (a : Form) × (slice_get forms p.fact ≡ Some a) × Implies a c p.implication
+IsPendingOn forms c p = (a : Form) × (slice_get forms p.fact ≡ Some a) × Implies a c p
 
 -- the first number behind those of the formulas' functions
 abbrev pub number_after : ℕ → List Form → ℕ

@@ -3,18 +3,24 @@ use Rattle.std.specs.Prelude.{ℕ, suc, ◌≡◌, ◌+◌, ◌<◌, ◌≤◌, 
 use Rattle.std.specs.List.{AllByRecursion as Each}
 use Rattle.std.proofs.Common.{ap, sym, subst, ◌∙◌, inl, inr, arith, append_assoc, zero}
 use Rattle.std.proofs.lemmas.List.{length-map, map-append, take_more}
-use Rattle.fof_terms.specs.declared.form.Form.{Form, Imp}
+use Rattle.fof_terms.specs.declared.form.Form.{Form, Imp, And}
 use Rattle.fof_terms.specs.Sorts.{Sorted}
+use Rattle.fof_terms.proofs.Scoped.{member_of, sorted_of_and}
 use Rattle.clause_form.specs.declared.clause.Clause.{Clause}
-use Rattle.clause_form.specs.declared.path.Path.{Path}
+use Rattle.clause_form.specs.declared.path.Path.{Path, Pick}
 use Rattle.clause_form.specs.Clauses.{clauses_in}
 use Rattle.clause_form.specs.ClauseView.{closed}
 use Rattle.clause_form.specs.ClauseWays.{IsIn}
-use Rattle.clause_form.specs.Paths.{reached}
+use Rattle.clause_form.specs.Paths.{at_member, reached}
 use Rattle.clause_form.proofs.ClauseWaysFacts.{reached_is_listed}
+use Rattle.clause_form.proofs.PathCases.{reached-Pick}
 use Rattle.kernel.specs.Proves.{Proves}
 use Rattle.kernel.specs.Statements.{Statements}
-use Rattle.kernel.specs.declared.proof.Proof.{Proof}
+use Rattle.kernel.specs.declared.proof.Proof.{Proof, AndE}
+use Rattle.kernel.proofs.Building.{by_and_e, by_imp_e, shown_sorted}
+use Rattle.norm_proofs.specs.Placed.{SortedSomewhere}
+use Rattle.norm_proofs.proofs.Places.{at_index}
+use Rattle.input_proofs.specs.Formulas.{formula_of}
 use Rattle.input_proofs.specs.Wanted.{IsWanted, AreWanted}
 use Rattle.input_proofs.specs.code.Pending.{IsPending}
 use Rattle.input_proofs.specs.declared.pending.Pending.{Pending}
@@ -32,12 +38,38 @@ abbrev Follows : Form → Path → Proof → Type 0
 Follows a p part =
     (t : Statements) (v : List ℕ) (h : List Form) (c : Clause) → length v ≤ 1000000000 → Sorted t.vocabulary v a → reached p a ≡ Some c → Proves t v h part (Imp a (closed c))
 
-pub pending_made : (a : Form) (p : Path) (fact : ℕ) (wanted : Bool) (part : Proof) → wanted ≡ true → Follows a p part → (c : Clause) → reached p a ≡ Some c → IsWanted (IsPending fact a) wanted c (Some (record { fact = fact; implication = part }))
-pending_made a p fact wanted part ew shows c e =
+-- where the formula implies the clause, or a member of it does, it is pending
+whole_shows : (a : Form) (p : Path) (part : Proof) (c : Clause) → Follows a p part → reached p a ≡ Some c → (s : Statements) → Sorted s.vocabulary [] a → Proves s [] [] part (Imp a (formula_of c))
+whole_shows a p part c shows e s sorted =
     let plain = one_of (λ (d : Clause). Each IsPlain d.lits) c (clauses_in a) (all_plain a) (reached_is_listed a p c e) in
-    let is = formula_is c plain in
-    subst (λ (w : Bool). IsWanted (IsPending fact a) w c (Some (record { fact = fact; implication = part }))) (sym ew)
-    (refl, λ s sorted. subst (λ f. Proves s [] [] part (Imp a f)) (sym is) (shows s [] [] c (omega arith) sorted e))
+    subst (λ f. Proves s [] [] part (Imp a f)) (sym (formula_is c plain)) (shows s [] [] c (omega arith) sorted e)
+
+pub by_whole : (a : Form) (p : Path) (fact : ℕ) (part : Proof) → Follows a p part → (c : Clause) → reached p a ≡ Some c → IsPending fact a c (record { fact = fact; member = None; implication = part })
+by_whole a p fact part shows c e = (refl, λ s whole sorted shown. by_imp_e s [] [] part whole a (formula_of c) (whole_shows a p part c shows e s sorted) shown)
+
+pub by_member : (a b : Form) (as_ lents : List Form) (p rest lent : Path) (k fact : ℕ) (part : Proof) → a ≡ And as_ → lents ≡ as_ → p ≡ Pick k rest → lent ≡ rest → k < length lents → b ≡ get_or lents k b → Follows b lent part
+    → (c : Clause) → reached p a ≡ Some c → IsPending fact a c (record { fact = fact; member = Some k; implication = part })
+by_member a b as_ lents p rest lent k fact part ea el ep er lt is shows c e =
+    let at : slice_get as_ k ≡ Some b = rw el at (at_index lents k b lt is) in
+    let there : at_member (reached rest) (slice_get as_ k) ≡ Some c = sym (reached-Pick k rest as_) ∙ (rw (ep, ea) at e) in
+    let own : reached rest b ≡ Some c = sym (ap (at_member (reached rest)) at) ∙ there in
+    let lent_own : reached lent b ≡ Some c = ap (λ (w : Path). reached w b) er ∙ own in (
+      refl,
+      λ s whole sorted shown.
+          let shown' : Proves s [] [] whole (And as_) = subst (Proves s [] [] whole) ea shown in
+          let one = by_and_e s [] [] k whole as_ b at shown' in
+          by_imp_e s [] [] part (AndE k whole) b (formula_of c) (whole_shows b lent part c shows lent_own s (shown_sorted s [] [] (AndE k whole) b one)) one,
+    )
+
+pub pending_made : (a : Form) (p : Path) (fact : ℕ) (wanted : Bool) (made : Pending) → wanted ≡ true → ((c : Clause) → reached p a ≡ Some c → IsPending fact a c made) → (c : Clause) → reached p a ≡ Some c → IsWanted (IsPending fact a) wanted c (Some made)
+pending_made a p fact wanted made ew is c e = subst (λ (w : Bool). IsWanted (IsPending fact a) w c (Some made)) (sym ew) (is c e)
+
+-- the member that a path picks
+pub member_sorted : (a b : Form) (as_ lents : List Form) (k : ℕ) → a ≡ And as_ → lents ≡ as_ → k < length lents → b ≡ get_or lents k b → SortedSomewhere a → SortedSomewhere b
+member_sorted a b as_ lents k ea el lt is h =
+    let at : slice_get as_ k ≡ Some b = rw el at (at_index lents k b lt is) in
+    let whole : Sorted h.0 h.1 (And as_) = subst (Sorted h.0 h.1) ea h.3 in
+    (h.0, h.1, h.2, member_of (Sorted h.0 h.1) as_ k b (sorted_of_and h.0 h.1 2147483647 as_ whole) at)
 
 -- the clause at a place, by the path there
 pub way_at : (f : Path → Option Clause) (ps : List Path) (cs : List Clause) (i : ℕ) (p : Path) → map f ps ≡ map Some cs → i < length ps → p ≡ get_or ps i p → (c : Clause) × (slice_get cs i ≡ Some c) × (f p ≡ Some c)

@@ -9,8 +9,7 @@ use Rattle.fof_terms.proofs.Scoped.{member_of}
 use Rattle.clause_form.specs.declared.clause.Clause.{Clause}
 use Rattle.kernel.specs.Statements.{Statements}
 use Rattle.kernel.specs.declared.proof.Proof.{Line}
-use Rattle.kernel.proofs.Building.{by_line, by_imp_e}
-use Rattle.input_proofs.specs.Formulas.{formula_of}
+use Rattle.kernel.proofs.Building.{by_line}
 use Rattle.input_proofs.specs.Opened.{ShowsClause, StandFrom}
 use Rattle.input_proofs.specs.Wanted.{IsWanted, AreWanted}
 use Rattle.input_proofs.specs.code.Pending.{IsPending, cited}
@@ -87,7 +86,7 @@ module _ (s : Statements) (n : ℕ) (forms : List Form) (sorted : Each (Sorted s
   cited_shows : (c : Clause) (p : Pending) → IsPendingOn forms c p → ShowsClause s c (cited n p)
   cited_shows c p h =
       let own = member_of (Sorted s.vocabulary []) forms p.fact h.0 sorted h.1 in
-      by_imp_e s [] [] p.implication (Line (n + p.fact)) h.0 (formula_of c) (h.2 s own) (by_line s [] [] (n + p.fact) h.0 own (stands_at s n forms p.fact h.0 stand h.1))
+      h.2 s (Line (n + p.fact)) own (by_line s [] [] (n + p.fact) h.0 own (stands_at s n forms p.fact h.0 stand h.1))
 
   pub all_cited : (ws : List Bool) (cs : List Clause) (xs : List (Option Pending)) → AreWanted (IsPendingOn forms) ws cs xs → AreWanted (ShowsClause s) ws cs (map (option_map (cited n)) xs)
   all_cited ws cs xs h = wanted_made (IsPendingOn forms) (ShowsClause s) (cited n) cited_shows ws cs xs h

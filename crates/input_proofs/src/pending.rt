@@ -1,4 +1,4 @@
-// Proofs that an opened formula implies clauses of it, as long as the formula has no number.
+// Proofs that an opened formula, or a member of it, implies clauses of it, as long as the formula has no number.
 ghost use Rattle.std.specs.Prelude.{◌≡◌, ◌≤◌, ◌+◌, ◌++◌, List as Listed, Option as Maybe, IfOk, OnOk, length, map};
 ghost use Rattle.std.specs.Prelude.{Some, None, reverse};
 ghost use Rattle.std.specs.List.{list_any};
@@ -8,12 +8,12 @@ ghost use Rattle.clause_form.specs.Paths.{reached};
 ghost use Rattle.clause_form.specs.Sizes.{norm_size_of};
 ghost use Rattle.clause_form.specs.declared.clause.Clause.{Clause as Disjunction};
 ghost use Rattle.input_proofs.specs.Wanted.{IsWanted, AreWanted};
-ghost use Rattle.input_proofs.specs.code.Pending.{IsPending, cited};
+ghost use Rattle.input_proofs.specs.code.Pending.{IsPending, cited, part_of};
 ghost use Rattle.input_proofs.specs.declared.pending.Pending.{Pending as Implication};
 ghost use Rattle.norm_proofs.specs.Placed.{SortedSomewhere};
 
 use clause_form::Path;
-use derive_kit::{Part, imp_e};
+use derive_kit::{Part, and_e, imp_e};
 use fof_terms::Form;
 use kernel::Proof;
 use norm_proofs::path_proof;
@@ -21,11 +21,14 @@ use std::alloc::Global;
 use step_clauses::paths_of;
 use tptp_base::{Boxed, List, Memory};
 
-/// A proof that an opened formula implies a clause.
+/// A proof that an opened formula implies a clause, or that a member of the formula does. So of a long conjunction no more
+/// is written for each clause than its own member.
 #[derive(Drop)]
 pub(crate) struct Pending {
     /// The number of the formula among those that are opened, counted from 0.
     pub(crate) fact: usize,
+    /// The number of the member, if it is that which implies the clause.
+    pub(crate) member: Option<u32>,
     pub(crate) implication: Part,
 }
 
@@ -69,8 +72,33 @@ fn pending_of(
     if !wanted {
         return Ok(None);
     }
-    let implication = path_proof(alloc, form, path)?;
-    Ok(Some(Pending { fact, implication }))
+    Ok(Some(implied(alloc, form, fact, path)?))
+}
+
+// That the formula, or the member of it that the path picks, implies the clause that the path reaches.
+fn implied(alloc: Global, form: &Form, fact: usize, path: &Path) -> Result<Pending, Memory>
+    requires small { norm_size_of form.now ≤ 100000 }
+    requires sorted { SortedSomewhere form.now }
+    requires fits { (c : Disjunction) × (reached path.now form.now ≡ Some c) }
+    ensures { IfOk result (λ made. (c : Disjunction) → reached path.now form.now ≡ Some c
+        → IsPending fact form.now c made) }
+{
+    if let Form::And(members) = form {
+        if let Path::Pick(number, rest) = path {
+            let members = members.as_slice();
+            let place = *number as usize;
+            return Ok(Pending {
+                fact,
+                member: Some(*number),
+                implication: path_proof(alloc, &members[place], rest.get())?,
+            });
+        }
+    }
+    Ok(Pending {
+        fact,
+        member: None,
+        implication: path_proof(alloc, form, path)?,
+    })
 }
 
 /// Adds that no clause is wanted.
@@ -123,17 +151,35 @@ fn reversed(alloc: Global, pending: List<Option<Pending>>) -> Result<List<Option
     Ok(list)
 }
 
-// The clause, if it is wanted, by its formula.
+// The clause, if it is wanted, by its formula or a member of that.
 fn cite(alloc: Global, first: u64, pending: Option<Pending>) -> Result<Option<Proof>, Memory>
     ensures { IfOk result (λ proof. proof ≡ option_map (cited first) pending) }
 {
-    let Some(Pending { fact, implication }) = pending else {
+    let Some(
+        Pending {
+            fact,
+            member,
+            implication,
+        },
+    ) = pending
+    else {
         return Ok(None);
     };
     let number = further(first, fact)?;
     let form = Boxed::new(alloc, Proof::Line(number))?;
-    let whole = imp_e(alloc, implication, form)?;
-    Ok(Some(whole.into_inner()))
+    let own = part_by(alloc, member, form)?;
+    let clause = imp_e(alloc, implication, own)?;
+    Ok(Some(clause.into_inner()))
+}
+
+// The member of that number of what the part shows, or the whole.
+fn part_by(alloc: Global, member: Option<u32>, whole: Part) -> Result<Part, Memory>
+    ensures { IfOk result (λ part. part ≡ part_of member whole) }
+{
+    match member {
+        Some(number) => and_e(alloc, number, whole),
+        None => Ok(whole),
+    }
 }
 
 /// The number that is so much greater.
