@@ -1,4 +1,5 @@
 pub mod Admitted
+pub mod ExistentialFacts
 pub mod Implied
 pub mod Lacking
 pub mod Lines

@@ -48,16 +48,20 @@ Forth a p = (t : Statements) (v : List ℕ) (h : List Form) → length v ≤ 100
 abbrev Back : Form → Proof → Type 0
 Back a p = (t : Statements) (v : List ℕ) (h : List Form) → length v ≤ 1000000000 → Sorted t.vocabulary v a → Proves t v h p (Imp (norm_of true a) a)
 
+-- what is made shows what the implication says of what the part shows
+abbrev Applies : Proof → Proof → Proof → Type 0
+Applies implication part made = (t : Statements) (v : List ℕ) (h : List Form) (a b : Form) → Proves t v h implication (Imp a b) → Proves t v h part a → Proves t v h made b
+
 -- the proof of the line, as code makes it
-pub line_shown : (parent : Parent) (form line : Form) (part cited first norm made second normed third whole : Proof) → cited ≡ Line parent.number → Forth parent.form first → norm ≡ ImpE first cited → made ≡ ImpE part norm → Forth form second → normed ≡ ImpE second made → Back line third
-    → whole ≡ ImpE third normed → LeadsToLine parent form line part whole
+pub line_shown : (parent : Parent) (form line : Form) (part cited first norm made second normed third whole : Proof) → cited ≡ Line parent.number → Forth parent.form first → Applies first cited norm → made ≡ ImpE part norm → Forth form second → Applies second made normed → Back line third
+    → Applies third normed whole → LeadsToLine parent form line part whole
 line_shown parent form line part cited first norm made second normed third whole ec f en em s ed b ew t sp sf sl at same shown =
     let one : Proves t [] [] cited parent.form = subst (λ p. Proves t [] [] p parent.form) (sym ec) (by_line t [] [] parent.number parent.form sp at) in
-    let two : Proves t [] [] norm (norm_of true parent.form) = subst (λ p. Proves t [] [] p (norm_of true parent.form)) (sym en) (by_imp_e t [] [] first cited parent.form (norm_of true parent.form) (f t [] [] (omega arith) sp) one) in
+    let two : Proves t [] [] norm (norm_of true parent.form) = en t [] [] parent.form (norm_of true parent.form) (f t [] [] (omega arith) sp) one in
     let three : Proves t [] [] made form = subst (λ p. Proves t [] [] p form) (sym em) (by_imp_e t [] [] part norm (norm_of true parent.form) form shown two) in
-    let four : Proves t [] [] normed (norm_of true form) = subst (λ p. Proves t [] [] p (norm_of true form)) (sym ed) (by_imp_e t [] [] second made form (norm_of true form) (s t [] [] (omega arith) sf) three) in
+    let four : Proves t [] [] normed (norm_of true form) = ed t [] [] form (norm_of true form) (s t [] [] (omega arith) sf) three in
     let five : Proves t [] [] normed (norm_of true line) = subst (λ a. Proves t [] [] normed a) (sym same) four in
-    subst (λ p. Proves t [] [] p line) (sym ew) (by_imp_e t [] [] third normed (norm_of true line) line (b t [] [] (omega arith) sl) five)
+    ew t [] [] (norm_of true line) line (b t [] [] (omega arith) sl) five
 
 -- what a list has at a place, it has there with more behind it
 still_there : {X : Type 0} (xs ys : List X) (k : ℕ) (x : X) → slice_get xs k ≡ Some x → slice_get (xs ++ ys) k ≡ Some x

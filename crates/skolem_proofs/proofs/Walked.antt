@@ -3,8 +3,8 @@ use Rattle.std.specs.Prelude.{ℕ, ◌≡◌, ◌+◌, ◌<◌, ◌^◌, Bool, t
 use Rattle.std.proofs.Common.{ap, sym, subst, ◌∙◌, arith, append_assoc, zero, suc}
 use Rattle.std.proofs.lemmas.List.{append-nil, length-append}
 use Rattle.fof_terms.specs.declared.term.Term.{Term}
-use Rattle.fof_terms.specs.declared.form.Form.{Form, Atom, Eq, Not, And, Or, Imp, Iff, All, Ex}
-use Rattle.fof_terms.specs.declared.form.Form.TheViews.{outs-Atom, outs-Eq, outs-Not, outs-Imp, outs-Iff}
+use Rattle.fof_terms.specs.declared.form.Form.{Form, And, Or, Imp, Iff, All, Ex}
+use Rattle.fof_terms.specs.declared.form.Form.TheViews.{outs-Imp, outs-Iff}
 use Rattle.fof_terms.specs.Instance.{instance_of, instance_reach}
 use Rattle.fof_terms.specs.Sorts.{binder_depth}
 use Rattle.fof_terms.specs.Vocabulary.{Vocabulary}
@@ -26,8 +26,10 @@ use Rattle.skolem_fresh.proofs.Skolemized.{SkolemizedIn, skolemized_in}
 use Rattle.skolem_fresh.proofs.WalkCode.{node_size, members_within, instance_size}
 use Rattle.skolem_fresh.proofs.Walking.{none_of, node_in, all_in, some_in}
 use Rattle.skolem_fresh.proofs.WholeLines.{few_variables}
+use Rattle.skolem_proofs.specs.code.Existentials.{has_existential}
 use Rattle.skolem_proofs.specs.code.Witnessed.{arms, cases, StepShows, IsWitnessed, AreWitnessed, itself, a_conjunction, a_disjunction, for_each, for_some, none, more}
 use Rattle.skolem_proofs.specs.code.Witnessing.{Goes, MayGo, Went, AllGo, MayAllGo, WentSoFar}
+use Rattle.skolem_proofs.proofs.ExistentialFacts.{stays}
 
 -- the first of what is left of a list
 pub first_left : {X : Type 0} (xs : List X) (k : ℕ) (x : X) (tail : List X) → drop k xs ≡ x ∷ tail → (k < length xs) × (slice_get xs k ≡ Some x) × (drop (suc k) xs ≡ tail)
@@ -50,11 +52,10 @@ as_made v scope us n a b form result told part tree e f g w =
     subst (λ c. IsWitnessed v scope n us c form told part) (sym e) (subst (λ c. IsWitnessed v scope n us b c told part) (sym f) (subst (λ p. IsWitnessed v scope n us b result told p) (sym g) w))
 
 -- What has no existential variables.
-module _ (a : Form) (v : Vocabulary) (scope : List ℕ) (us : List Use) (g : Goes v scope a us) (n : ℕ) (old : List Entry) (form : Form) (part : Proof) (ef : form ≡ a) (ep : part ≡ ImpI a (Hyp 0))
-    (alone : (ws : List Use) (c : Form) → IsSkolemized v scope ws a c → (ws ≡ []) × (c ≡ a)) where
-  plain : Went v scope a us us g n old old form part
-  plain =
-      let only = alone g.taken g.result g.is in
+module _ (a : Form) (v : Vocabulary) (scope : List ℕ) (us : List Use) (g : Goes v scope a us) (n : ℕ) (old : List Entry) (form : Form) (part : Proof) (ef : form ≡ a) (ep : part ≡ ImpI a (Hyp 0)) where
+  pub plain_went : has_existential a ≡ false → Went v scope a us us g n old old form part
+  plain_went off =
+      let only = stays v scope g.taken a g.result g.is off in
       let own : IsSkolemized v scope [] a a = subst (λ c. IsSkolemized v scope [] a c) only.1 (subst (λ ws. IsSkolemized v scope ws a g.result) only.0 g.is) in
       record {
         told = [];
@@ -63,25 +64,6 @@ module _ (a : Form) (v : Vocabulary) (scope : List ℕ) (us : List Use) (g : Goe
         same = ef ∙ sym only.1;
         rest = g.parts ∙ ap (λ (ws : List Use). ws ++ g.after) only.0;
       }
-
-module _ (a : Form) (v : Vocabulary) (scope : List ℕ) (us : List Use) (g : Goes v scope a us) (n : ℕ) (old : List Entry) (form : Form) (part : Proof) (ef : form ≡ a) (ep : part ≡ ImpI a (Hyp 0)) where
-  pub atom_went : (q : ℕ) (ts : List Term) → a ≡ Atom q ts → Went v scope a us us g n old old form part
-  atom_went q ts e = plain a v scope us g n old form part ef ep (λ ws c h.
-      let h' : IsSkolemized v scope ws (Atom q ts) c = subst (λ b. IsSkolemized v scope ws b c) e h in
-      let d : (ws ≡ []) × (c ≡ Atom q ts) = subst (λ y. SkolemizedIn v scope ws y (Atom q ts) c) (outs-Atom q ts) (skolemized_in v scope ws (Atom q ts) c h') in
-      (d.0, d.1 ∙ sym e))
-
-  pub equation_went : (l r : Term) → a ≡ Eq l r → Went v scope a us us g n old old form part
-  equation_went l r e = plain a v scope us g n old form part ef ep (λ ws c h.
-      let h' : IsSkolemized v scope ws (Eq l r) c = subst (λ b. IsSkolemized v scope ws b c) e h in
-      let d : (ws ≡ []) × (c ≡ Eq l r) = subst (λ y. SkolemizedIn v scope ws y (Eq l r) c) (outs-Eq l r) (skolemized_in v scope ws (Eq l r) c h') in
-      (d.0, d.1 ∙ sym e))
-
-  pub negation_went : (b : Form) → a ≡ Not b → Went v scope a us us g n old old form part
-  negation_went b e = plain a v scope us g n old form part ef ep (λ ws c h.
-      let h' : IsSkolemized v scope ws (Not b) c = subst (λ x. IsSkolemized v scope ws x c) e h in
-      let d : (ws ≡ []) × (c ≡ Not b) = subst (λ y. SkolemizedIn v scope ws y (Not b) c) (outs-Not b) (skolemized_in v scope ws (Not b) c h') in
-      (d.0, d.1 ∙ sym e))
 
 -- It is neither an implication nor an equivalence.
 module _ (a : Form) (v : Vocabulary) (scope : List ℕ) (us : List Use) (g : Goes v scope a us) (l r : Form) where

@@ -16,7 +16,7 @@ use clause_form::{Parent, norm_signed};
 use derive_kit::{Part, imp_e};
 use fof_terms::Form;
 use kernel::{Entry, Proof};
-use norm_proofs::{norm_back, norm_forth};
+use norm_proofs::{apply, norm_back, norm_forth};
 use proof_check::Theory;
 use skolem_fresh::SkolemJust;
 use std::alloc::Global;
@@ -73,8 +73,8 @@ fn line_proof(
     ensures { IfOk result (λ made. LeadsToLine parent.now form.now line.now proof made) }
 {
     let cited = Boxed::new(alloc, Proof::Line(parent.number))?;
-    let norm = imp_e(alloc, norm_forth(alloc, &parent.form)?, cited)?;
+    let norm = apply(alloc, norm_forth(alloc, &parent.form)?, cited)?;
     let made = imp_e(alloc, proof, norm)?;
-    let normed = imp_e(alloc, norm_forth(alloc, form)?, made)?;
-    imp_e(alloc, norm_back(alloc, line)?, normed)
+    let normed = apply(alloc, norm_forth(alloc, form)?, made)?;
+    apply(alloc, norm_back(alloc, line)?, normed)
 }

@@ -4,6 +4,7 @@
 
 mod arms;
 mod entries;
+mod existentials;
 mod whole;
 mod witnessing;
 

@@ -8,6 +8,7 @@ ghost use Rattle.skolem_fresh.specs.Uses.{value_of as value_in};
 ghost use Rattle.skolem_proofs.specs.code.Witnessing.{MayGo, MayAllGo, IsGone, AreGone};
 
 use crate::arms::{arm, conjunction, disjunction, for_each};
+use crate::existentials::has_existential;
 use derive_kit::{Part, hyp, imp_e, imp_i};
 use fof_terms::{Form, SortId, instantiate};
 use kernel::{Entry, Proof};
@@ -29,9 +30,9 @@ struct Members {
     arms: List<Proof>,
 }
 
-// The formula with the functions in place of its existential variables, and a proof that it implies that. As many
-// functions are behind as there are entries, and those of the formula's functions are added. The formulas that all the
-// entries add are numbered from `first` on.
+// The formula with the functions in place of its existential variables, and a proof that it implies that: one without
+// such variables is itself. As many functions are behind as there are entries, and those of the formula's functions are
+// added. The formulas that all the entries add are numbered from `first` on.
 #[cycle(witness)]
 pub(crate) fn witness(
     alloc: Global,
@@ -43,10 +44,10 @@ pub(crate) fn witness(
     requires { (v : Vocabulary) × (scope : Listed ℕ) × MayGo v scope form.now (drop (length entries.now) uses.now) }
     ensures { IfOk result (λ made. IsGone form.now uses.now first entries.old entries.new made) }
 {
+    if !has_existential(form) {
+        return itself(alloc, form);
+    }
     match form {
-        Form::Atom(_, _) => itself(alloc, form),
-        Form::Eq(_, _) => itself(alloc, form),
-        Form::Not(_) => itself(alloc, form),
         Form::And(members) => {
             let members = members.as_slice();
             let made = witness_all(alloc, true, members, uses, first, entries)?;
@@ -71,6 +72,9 @@ pub(crate) fn witness(
             Ok(Witnessed { form, part })
         }
         Form::Ex(sort, body) => witness_some(alloc, *sort, body.get(), uses, first, entries),
+        Form::Atom(_, _) => unreachable!(),
+        Form::Eq(_, _) => unreachable!(),
+        Form::Not(_) => unreachable!(),
         Form::Imp(_, _) => unreachable!(),
         Form::Iff(_, _) => unreachable!(),
     }

@@ -4,6 +4,6 @@ use Rattle.skolem_proofs.proofs.entries.line_proof.Goals as goal
 
 pub returns : goal.returns
 returns c =
-    on_ok c.imp_e-4.result
+    on_ok c.apply-3.result
     (λ made e. line_shown c.args.parent.now c.args.form.now c.args.line.now c.args.proof c.in_ok-cited.cited c.in_ok-norm_forth.field-0 c.in_ok-norm.norm c.in_ok-made.made c.in_ok-norm_forth-2.field-0 c.in_ok-normed.normed c.in_ok-norm_back.field-0 made c.in_ok-cited.ensures c.in_ok-norm_forth.ensures c.in_ok-norm.ensures c.in_ok-made.ensures c.in_ok-norm_forth-2.ensures c.in_ok-normed.ensures c.in_ok-norm_back.ensures e)
-    c.imp_e-4.ensures
+    c.apply-3.ensures

@@ -1,5 +1,5 @@
-use Rattle.std.proofs.Common.{arith, ap, subst, refl, ◌≡◌, ◌∙◌, ◌+◌, ◌∷◌, true, false, length, drop, get_or}
-use Rattle.fof_terms.specs.declared.form.Form.{And, Or, All}
+use Rattle.std.proofs.Common.{arith, ap, sym, subst, refl, ◌≡◌, ◌∙◌, ◌+◌, ◌∷◌, true, false, length, drop, get_or}
+use Rattle.fof_terms.specs.declared.form.Form.{Atom, Eq, Not, And, Or, All}
 use Rattle.fof_terms.specs.Instance.{instance_of}
 use Rattle.clause_form.specs.Sizes.{norm_size_of}
 use Rattle.kernel.specs.declared.proof.Proof.{Hyp, OrE, ImpI}
@@ -7,7 +7,8 @@ use Rattle.skolem_fresh.specs.Renamed.{renamed}
 use Rattle.skolem_fresh.specs.Uses.{value_of}
 use Rattle.skolem_fresh.proofs.WalkCode.{node_size, all_size, one_size, instance_size}
 use Rattle.skolem_proofs.specs.code.Witnessed.{cases, StepShows}
-use Rattle.skolem_proofs.proofs.Walked.{ok_both, no_implication, no_equivalence, atom_went, equation_went, negation_went, members_may, conjunction_went, disjunction_went, under_may, all_went, some_size, some_may, there_is, its_reach, its_room, next_may, some_went}
+use Rattle.skolem_proofs.proofs.ExistentialFacts.{not_here, has_existential-Atom, has_existential-Eq, has_existential-Not}
+use Rattle.skolem_proofs.proofs.Walked.{ok_both, no_implication, no_equivalence, plain_went, members_may, conjunction_went, disjunction_went, under_may, all_went, some_size, some_may, there_is, its_reach, its_room, next_may, some_went}
 use Rattle.skolem_proofs.proofs.Looped.{few_there, few_results, starts, one_goes, one_may, goes_on, numbered_on, ends}
 use Rattle.skolem_proofs.proofs.witnessing.+witness.Goals as goal
 
@@ -41,23 +42,22 @@ witness-witness_some-requires t c =
     let size = some_size c.args.form.now c.get.result.now c.in-Ex.body c.in-Ex.sort c.in-Ex.is c.get.ensures in
     (omega (arith, size, c.decreases), (c.requires.0, c.requires.1, some_may c.args.form.now c.get.result.now c.in-Ex.body c.in-Ex.sort c.in-Ex.is c.get.ensures c.requires.0 c.requires.1 (drop (length c.args.entries.now) c.args.uses.now) c.requires.2))
 
-pub witness-returns-in-Atom : goal.witness-returns-in-Atom
-witness-returns-in-Atom t c =
+pub witness-returns-then-not-has_existential : goal.witness-returns-then-not-has_existential
+witness-returns-then-not-has_existential t c =
     ok_both c.itself.result
-    (λ made ef ep v scope g. atom_went c.args.form.now v scope (drop (length c.args.entries.now) c.args.uses.now) g (c.args.first + length c.args.entries.now) c.args.entries.now made.form made.part ef ep c.in-Atom.field-0 c.in-Atom.field-1 c.in-Atom.is) c.itself.ensures.form c.itself.ensures.part
-
-pub witness-returns-in-Eq : goal.witness-returns-in-Eq
-witness-returns-in-Eq t c =
-    ok_both c.itself-in-Eq.result
-    (λ made ef ep v scope g. equation_went c.args.form.now v scope (drop (length c.args.entries.now) c.args.uses.now) g (c.args.first + length c.args.entries.now) c.args.entries.now made.form made.part ef ep c.in-Eq.field-0 c.in-Eq.field-1 c.in-Eq.is) c.itself-in-Eq.ensures.form c.itself-in-Eq.ensures.part
-
-pub witness-returns-in-Not : goal.witness-returns-in-Not
-witness-returns-in-Not t c =
-    ok_both c.itself-in-Not.result
-    (λ made ef ep v scope g. negation_went c.args.form.now v scope (drop (length c.args.entries.now) c.args.uses.now) g (c.args.first + length c.args.entries.now) c.args.entries.now made.form made.part ef ep c.in-Not.field-0 c.in-Not.is) c.itself-in-Not.ensures.form c.itself-in-Not.ensures.part
+    (λ made ef ep v scope g. plain_went c.args.form.now v scope (drop (length c.args.entries.now) c.args.uses.now) g (c.args.first + length c.args.entries.now) c.args.entries.now made.form made.part ef ep (sym c.has_existential.ensures ∙ c.if-not-has_existential.true)) c.itself.ensures.form c.itself.ensures.part
 
 pub witness-unreachable-requires : goal.witness-unreachable-requires
-witness-unreachable-requires t c = no_implication c.args.form.now c.requires.0 c.requires.1 (drop (length c.args.entries.now) c.args.uses.now) c.requires.2.goes c.in-Imp.field-0 c.in-Imp.field-1 c.in-Imp.is
+witness-unreachable-requires t c = not_here c.args.form.now (Atom c.in-Atom.field-0 c.in-Atom.field-1) c.has_existential.result c.has_existential.ensures c.if-not-has_existential.false c.in-Atom.is (has_existential-Atom c.in-Atom.field-0 c.in-Atom.field-1)
+
+pub witness-unreachable-requires-in-Eq : goal.witness-unreachable-requires-in-Eq
+witness-unreachable-requires-in-Eq t c = not_here c.args.form.now (Eq c.in-Eq.field-0 c.in-Eq.field-1) c.has_existential.result c.has_existential.ensures c.if-not-has_existential.false c.in-Eq.is (has_existential-Eq c.in-Eq.field-0 c.in-Eq.field-1)
+
+pub witness-unreachable-requires-in-Not : goal.witness-unreachable-requires-in-Not
+witness-unreachable-requires-in-Not t c = not_here c.args.form.now (Not c.in-Not.field-0) c.has_existential.result c.has_existential.ensures c.if-not-has_existential.false c.in-Not.is (has_existential-Not c.in-Not.field-0)
+
+pub witness-unreachable-requires-in-Imp : goal.witness-unreachable-requires-in-Imp
+witness-unreachable-requires-in-Imp t c = no_implication c.args.form.now c.requires.0 c.requires.1 (drop (length c.args.entries.now) c.args.uses.now) c.requires.2.goes c.in-Imp.field-0 c.in-Imp.field-1 c.in-Imp.is
 
 pub witness-unreachable-requires-in-Iff : goal.witness-unreachable-requires-in-Iff
 witness-unreachable-requires-in-Iff t c = no_equivalence c.args.form.now c.requires.0 c.requires.1 (drop (length c.args.entries.now) c.args.uses.now) c.requires.2.goes c.in-Iff.field-0 c.in-Iff.field-1 c.in-Iff.is
