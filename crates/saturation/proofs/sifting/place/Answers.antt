@@ -9,8 +9,8 @@ use Rattle.saturation.proofs.sifting.place.Goals as goal
 pub returns-then-is_trivial : goal.returns-then-is_trivial
 returns-then-is_trivial c = placed_nowhere c.args.bound c.args.member.now c.args.queue.now c.args.heavy.now c.is_trivial.result c.is_trivial.ensures c.if-is_trivial.true
 
-pub push-else-weight-bound-requires : goal.push-else-weight-bound-requires
-push-else-weight-bound-requires c = subst (λ (m : Member). c.clause_weight_of-weight.result ≡ clause_weight m.clause) (sym c.in_ok-waiting.ensures) c.clause_weight_of-weight.ensures
+pub push-requires-else-weight-bound : goal.push-requires-else-weight-bound
+push-requires-else-weight-bound c = subst (λ (m : Member). c.clause_weight_of-weight.result ≡ clause_weight m.clause) (sym c.in_ok-waiting.ensures) c.clause_weight_of-weight.ensures
 
 pub returns-then-has : goal.returns-then-has
 returns-then-has c =

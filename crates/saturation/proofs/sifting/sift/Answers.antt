@@ -16,6 +16,12 @@ loop-next-preserved c = λ v whole inputs list b h.
     c.in_ok-place.ensures v whole inputs list c.pop.new.self b full
     (subst (λ (q : List Member). IsUnderWay v whole inputs list q c.loop-next.queue c.loop-next.heavy) c.in-Some.ensures (c.loop-next.invariant v whole inputs list b h))
 
+pub loop-next-preserved-in_ok-place : goal.loop-next-preserved-in_ok-place
+loop-next-preserved-in_ok-place c = λ v whole inputs list b h.
+    let full = untrue c.is_empty.result (c.in-Some.next.clause.lits ≡ []) c.if-is_empty.false c.is_empty.ensures in
+    c.in_ok-place.ensures v whole inputs list c.pop.new.self b full
+    (subst (λ (q : List Member). IsUnderWay v whole inputs list q c.loop-next.queue c.loop-next.heavy) c.in-Some.ensures (c.loop-next.invariant v whole inputs list b h))
+
 pub returns : goal.returns
 returns c = λ v whole inputs list b h.
     let none : c.loop-next.todo ≡ [] = c.in_default.ensures.0 in
