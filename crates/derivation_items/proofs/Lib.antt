@@ -1,0 +1,2 @@
+pub mod SourceFacts
+pub mod TypingFacts

@@ -1,0 +1,4 @@
+pub mod Words
+pub mod Sources
+pub mod Typings
+pub mod Items

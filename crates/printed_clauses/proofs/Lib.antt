@@ -1,0 +1,4 @@
+pub mod MarkingFacts
+pub mod PrefixFacts
+pub mod RenumberedFacts
+pub mod TrimmedFacts
