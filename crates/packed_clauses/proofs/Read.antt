@@ -17,8 +17,9 @@ use Rattle.packed_clauses.specs.declared.building.Builder.{Builder}
 use Rattle.packed_clauses.specs.declared.piece.Kind.{Kind}
 use Rattle.packed_clauses.specs.declared.piece.Kind.TheVariants.{Sort, Variable, Open, Close, Predicate, Equation, Truth, Falsehood}
 use Rattle.packed_clauses.specs.declared.reading.Reader.{Reader}
-use Rattle.packed_clauses.specs.code.Spelling.{code, kind_at, digits, spelled_piece, spelled_term, spelled_terms, spelled_atom, spelled_sorts, spelled_lits, spelled_clause}
-use Rattle.packed_clauses.specs.code.Reading.{nothing, with_term, with_lit, ended, equation_of, built, between, digit_read, byte_read, taken, read_from, clause_read, terms_read}
+use Rattle.packed_clauses.specs.Reading.{kind_at}
+use Rattle.packed_clauses.specs.code.Spelling.{code, digits, spelled_piece, spelled_term, spelled_terms, spelled_atom, spelled_sorts, spelled_lits, spelled_clause}
+use Rattle.packed_clauses.specs.Reading.{nothing, with_term, with_lit, ended, equation_of, built, between, digit_read, byte_read, taken, read_from, clause_read, terms_read}
 use Rattle.packed_clauses.proofs.Spelled.{spelled-Var, spelled-App, one_digit, are_two_digits, are_five_digits}
 
 -- a piece in the midst of its number

@@ -1,3 +1,2 @@
--- How clauses are written, and read again. Nothing public rests on this.
-pub mod Reading
+-- How clauses are written. Nothing public rests on this.
 pub mod Spelling

@@ -1,6 +1,6 @@
 //! Clauses from pieces.
 ghost use Rattle.std.specs.Prelude.{◌≡◌, IfOk};
-ghost use Rattle.packed_clauses.specs.code.Reading.{built, nothing, equation_of, with_lit, with_term};
+ghost use Rattle.packed_clauses.specs.Reading.{built, nothing, equation_of, with_lit, with_term};
 ghost use Rattle.packed_clauses.specs.declared.piece.Kind.TheVariants.{Sort, Open, Close, Predicate, Equation};
 
 use crate::piece::Kind;

@@ -19,7 +19,7 @@ impl Model for PackedClause {
     ghost use Rattle.std.specs.Coded.{codes};
     ghost use Rattle.clause_form.specs.declared.clause.Clause.{Clause as Disjunction};
     ghost use Rattle.clause_form.specs.contracts.clause.Clause as clause;
-    ghost use Rattle.packed_clauses.specs.code.Reading.{clause_read};
+    ghost use Rattle.packed_clauses.specs.Reading.{clause_read};
 
     ghost Value = { Disjunction };
 
@@ -80,7 +80,7 @@ impl Model for PackedTerms {
     ghost use Rattle.std.specs.Coded.{codes};
     ghost use Rattle.fof_terms.specs.declared.term.Term.{Term as Inner};
     ghost use Rattle.fof_terms.specs.contracts.term.Term as term;
-    ghost use Rattle.packed_clauses.specs.code.Reading.{terms_read};
+    ghost use Rattle.packed_clauses.specs.Reading.{terms_read};
 
     ghost Value = { List Inner };
 

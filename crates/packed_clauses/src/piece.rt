@@ -1,6 +1,7 @@
 //! The pieces that a clause is written in.
 ghost use Rattle.std.specs.Prelude.{◌≡◌, Some, MatchOption};
-ghost use Rattle.packed_clauses.specs.code.Spelling.{code, kind_at};
+ghost use Rattle.packed_clauses.specs.Reading.{kind_at};
+ghost use Rattle.packed_clauses.specs.code.Spelling.{code};
 
 /// What a piece is. Each comes with a number.
 #[derive(Clone, Copy)]

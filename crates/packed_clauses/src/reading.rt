@@ -1,6 +1,6 @@
 //! What bytes build, one by one.
 ghost use Rattle.std.specs.Prelude.{◌≡◌, ◌+◌, ◌*◌, IfOk};
-ghost use Rattle.packed_clauses.specs.code.Reading.{read_from, taken, between};
+ghost use Rattle.packed_clauses.specs.Reading.{read_from, taken, between};
 
 use crate::building::Builder;
 use crate::piece::{Kind, kind_of};

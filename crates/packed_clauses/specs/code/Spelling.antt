@@ -1,7 +1,6 @@
 -- The bytes of numbers, terms and clauses.
-use Rattle.std.specs.Prelude.{ℕ, ◌+◌, ◌-◌, ◌/◌, ◌%◌, ◌==◌, if◌then◌else◌, Bool, true, false, List, [], ◌∷◌, ◌++◌, Option, Some, None}
+use Rattle.std.specs.Prelude.{ℕ, zero, suc, ◌+◌, ◌-◌, ◌/◌, ◌%◌, ◌==◌, if◌then◌else◌, Bool, true, false, List, [], ◌∷◌, ◌++◌}
 use Rattle.std.specs.List.{concat, flat_map}
-use Rattle.std.proofs.Common.{zero, suc}
 use Rattle.fof_terms.specs.declared.term.Term.{Term}
 use Rattle.fof_terms.specs.declared.term.Term.TheFolds.{fold-Term}
 use Rattle.clause_form.specs.declared.clause.AtomOf.{AtomOf}
@@ -21,16 +20,6 @@ code (Predicate positive) = if positive then 4 else 5
 code (Equation positive) = if positive then 6 else 7
 code (Truth positive) = if positive then 8 else 9
 code (Falsehood positive) = if positive then 10 else 11
-
-abbrev pub kind_among : List Kind → ℕ → Option Kind
-kind_among [] n = None
-kind_among (k ∷ ks) zero = Some k
-kind_among (k ∷ ks) (suc n) = kind_among ks n
-
--- the kind with this code
-abbrev pub kind_at : ℕ → Option Kind
-kind_at n = kind_among (Sort ∷ Variable ∷ Open ∷ Close ∷ Predicate true ∷ Predicate false ∷ Equation true
-    ∷ Equation false ∷ Truth true ∷ Truth false ∷ Falsehood true ∷ Falsehood false ∷ []) n
 
 abbrev pub two_digits : ℕ → List ℕ
 two_digits n = (128 + n / 128) ∷ n % 128 ∷ []

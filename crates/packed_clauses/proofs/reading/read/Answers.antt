@@ -1,6 +1,6 @@
 use Rattle.std.proofs.Common.{ap, sym, ◌∙◌, get_or}
 use Rattle.packed_clauses.specs.declared.reading.Reader.{Reader}
-use Rattle.packed_clauses.specs.code.Reading.{between, taken}
+use Rattle.packed_clauses.specs.Reading.{between, taken}
 use Rattle.packed_clauses.proofs.Read.{read_more, read_none}
 use Rattle.packed_clauses.proofs.reading.read.Goals as goal
 

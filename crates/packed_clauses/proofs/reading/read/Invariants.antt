@@ -1,5 +1,5 @@
 use Rattle.std.proofs.Common.{◌≡◌, take}
-use Rattle.packed_clauses.specs.code.Reading.{read_from}
+use Rattle.packed_clauses.specs.Reading.{read_from}
 use Rattle.packed_clauses.proofs.reading.read.Given as goal
 
 abbrev pub invariant-loop-byte : goal.invariant-loop-byte

@@ -1,5 +1,5 @@
 use Rattle.std.proofs.Common.{ap, ◌∙◌, List, ℕ, ◌++◌}
-use Rattle.packed_clauses.specs.code.Reading.{clause_read}
+use Rattle.packed_clauses.specs.Reading.{clause_read}
 use Rattle.packed_clauses.specs.code.Spelling.{spelled_clause}
 use Rattle.packed_clauses.proofs.Read.{clause_again}
 use Rattle.packed_clauses.proofs.packing.PackedClause.new.Goals as goal

@@ -1,5 +1,5 @@
 use Rattle.std.proofs.Common.{ap, ◌∙◌, List, ℕ, ◌++◌}
-use Rattle.packed_clauses.specs.code.Reading.{terms_read}
+use Rattle.packed_clauses.specs.Reading.{terms_read}
 use Rattle.packed_clauses.specs.code.Spelling.{spelled_terms}
 use Rattle.packed_clauses.proofs.Read.{terms_are_again}
 use Rattle.packed_clauses.proofs.packing.PackedTerms.new.Goals as goal

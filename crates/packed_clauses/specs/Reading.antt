@@ -1,7 +1,6 @@
 -- What is read from bytes.
-use Rattle.std.specs.Prelude.{ℕ, ◌+◌, ◌*◌, ◌-◌, Bool, List, [], ◌∷◌, ◌++◌, Option, Some, None}
+use Rattle.std.specs.Prelude.{ℕ, zero, suc, ◌+◌, ◌*◌, ◌-◌, true, false, List, [], ◌∷◌, ◌++◌, Option, Some, None}
 use Rattle.std.specs.List.{fold}
-use Rattle.std.proofs.Common.{zero, suc}
 use Rattle.fof_terms.specs.declared.term.Term.{Term, Var, App}
 use Rattle.clause_form.specs.declared.clause.AtomOf.{AtomOf}
 use Rattle.clause_form.specs.declared.clause.AtomOf.TheVariants.{Pred, Eq, True, False}
@@ -12,7 +11,16 @@ use Rattle.packed_clauses.specs.declared.building.Builder.{Builder}
 use Rattle.packed_clauses.specs.declared.piece.Kind.{Kind}
 use Rattle.packed_clauses.specs.declared.piece.Kind.TheVariants.{Sort, Variable, Open, Close, Predicate, Equation, Truth, Falsehood}
 use Rattle.packed_clauses.specs.declared.reading.Reader.{Reader}
-use Rattle.packed_clauses.specs.code.Spelling.{kind_at}
+
+abbrev pub kind_among : List Kind → ℕ → Option Kind
+kind_among [] n = None
+kind_among (k ∷ ks) zero = Some k
+kind_among (k ∷ ks) (suc n) = kind_among ks n
+
+-- the kind with this code
+abbrev pub kind_at : ℕ → Option Kind
+kind_at n = kind_among (Sort ∷ Variable ∷ Open ∷ Close ∷ Predicate true ∷ Predicate false ∷ Equation true
+    ∷ Equation false ∷ Truth true ∷ Truth false ∷ Falsehood true ∷ Falsehood false ∷ []) n
 
 abbrev pub nothing : Builder
 nothing = record { sorts = []; lits = []; begun = []; terms = [] }
