@@ -25,6 +25,7 @@ pub mod Nests
 pub mod Whole
 pub mod Turns
 pub mod Refusals
+pub mod Taking
 pub mod Stuck
 pub mod OneAnswer
 pub mod OneList

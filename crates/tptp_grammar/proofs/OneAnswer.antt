@@ -1,5 +1,7 @@
 -- Tokens have an answer, and only one.
-use Rattle.std.proofs.Common.{◌≡◌, Bool, true, false, if◌then◌else◌, List, [], ◌∷◌, ◌++◌, length, Option, Some, None, Result, Ok, Err, ◌⊎◌, inl, inr, refl, sym, ◌∙◌, ap, subst, append_assoc}
+use Rattle.std.proofs.Common.{◌≡◌, Bool, true, false, if◌then◌else◌, List, [], ◌∷◌, ◌++◌, length, flat_map, Option, Some, None, Result, Ok, Err, ◌⊎◌, inl, inr, refl, sym, ◌∙◌, ap, subst, append_assoc}
+use Rattle.std.specs.Result.{IsErrAnd}
+use Rattle.first_fault.specs.Nesting.{plain, FirstOver}
 use Rattle.first_fault.specs.code.Reading.{Cause, Unexpected, TooDeep}
 use Rattle.tptp_lexer.specs.declared.style.Style.{Style}
 use Rattle.tptp_lexer.specs.declared.token.Token.{Token}
@@ -8,15 +10,29 @@ use Rattle.tptp_base.specs.declared.item.Item.{Item}
 use Rattle.tptp_grammar.specs.declared.stop.Stop.TheVariants as stop
 use Rattle.tptp_grammar.specs.declared.fault.GrammarFault.{GrammarFault}
 use Rattle.tptp_grammar.specs.declared.fault.GrammarFault.TheVariants as fault
+use Rattle.tptp_grammar.specs.Tokens.{Tokens}
 use Rattle.tptp_grammar.specs.Solid.{Placed}
-use Rattle.tptp_grammar.specs.Files.{IsFile, IsPossible, IsPossibleWithin}
+use Rattle.tptp_grammar.specs.Files.{IsFile, SpellsWithin, IsPossible, IsPossibleWithin}
 use Rattle.tptp_grammar.specs.Faults.{max_nesting, is_outside, IsUnfinished}
 use Rattle.tptp_grammar.specs.code.ReadFile.{FileOutcome, file}
 use Rattle.tptp_grammar.specs.Answers as a
 use Rattle.tptp_grammar.specs.code.Answers as a_code
 use Rattle.tptp_grammar.specs.Laws.{IsOne, HasAnswer}
-use Rattle.tptp_grammar.proofs.Whole.{ok_says, fault_says, one_list}
+use Rattle.tptp_grammar.proofs.Whole.{ok_says, fault_says, deep_refused, one_list}
 use Rattle.tptp_grammar.proofs.Stuck.{Stuck, same_stuck, possible_within, possible_so, not_possible, deep_stuck}
+
+abbrev items_in : Result (List Item) GrammarFault → List Item
+items_in (Ok items) = items
+items_in (Err f) = []
+
+abbrev fault_in : Result (List Item) GrammarFault → GrammarFault
+fault_in (Ok items) = fault.Memory
+fault_in (Err f) = f
+
+-- items that are kept as they are
+each_alone : (items : List Item) → flat_map (λ (item : Item). item ∷ []) items ≡ items
+each_alone [] = refl
+each_alone (item ∷ items) = ap (λ l. item ∷ l) (each_alone items)
 
 module _ (style : Style) (tokens : List Placed) (end : Place) where
   -- the fault of an impossible token
@@ -139,3 +155,42 @@ module _ (style : Style) (tokens : List Placed) (end : Place) where
 
   pub some : HasAnswer style tokens end
   some = by_outcome (file style max_nesting tokens) refl
+
+  -- ---- what is spelled is answered
+
+  is_read : (items : List Item) (answer : Result (List Item) GrammarFault) → IsOne answer (Ok items) → a.IsRead items answer
+  is_read items (Ok found) (inl e) = ap items_in e
+  is_read items (Ok found) (inr (inl e)) = cc
+  is_read items (Ok found) (inr (inr e)) = cc
+  is_read items (Err f) (inl e) = cc
+  is_read items (Err f) (inr (inl e)) = ap fault_in e
+  is_read items (Err f) (inr (inr e)) = cc
+
+  pub only : (answer : Result (List Item) GrammarFault) → a.Answers style tokens end answer → (items : List Item) → SpellsWithin style max_nesting items tokens → a.IsRead items answer
+  only answer h items s = is_read items answer (one answer (Ok items) h s)
+
+  depth_is : (o : Option Placed) → a.FaultIsDeep (a_code.depth_at o end)
+  depth_is None = tt
+  depth_is (Some x) = tt
+
+  is_deep : (o : Option Placed) (answer : Result (List Item) GrammarFault) → IsOne answer (Err (a_code.depth_at o end)) → a.IsRefusedAsDeep answer
+  is_deep o answer (inl e) = subst a.IsRefusedAsDeep (sym e) (depth_is o)
+  is_deep o answer (inr (inl e)) = subst a.IsRefusedAsDeep (sym e) tt
+  is_deep o answer (inr (inr e)) = absurd (depth_not o (ap fault_in e))
+
+  pub deep : (answer : Result (List Item) GrammarFault) → a.Answers style tokens end answer → (items : List Item) (us over : Tokens) → IsFile style items tokens us → FirstOver max_nesting us over → a.IsRefusedAsDeep answer
+  deep answer h items us over d k =
+      let (rest, e) = deep_refused style max_nesting items tokens us d over k in
+      let left = plain rest in
+      let o = a_code.entry_at (length left) tokens in
+      is_deep o answer (one answer (Err (a_code.depth_at o end)) h (fault_says style tokens end stop.TooDeep (length left) (left, refl, e)))
+
+  -- ---- answers that are handed on
+
+  pub all_taken : (old new : List Item) → old ≡ [] → (items : List Item) × a.Answers style tokens end (Ok items) × (new ≡ old ++ flat_map (λ (item : Item). item ∷ []) items) → a.Answers style tokens end (Ok new)
+  all_taken old new none (items, answers, is) =
+      let same : new ≡ items = is ∙ ap (λ l. l ++ flat_map (λ (item : Item). item ∷ []) items) none ∙ each_alone items in subst (λ (l : List Item). a.Answers style tokens end (Ok l)) (sym same) answers
+
+  pub refused : (result : Result (List Item) GrammarFault) (f : GrammarFault) → IsErrAnd result (λ g. g ≡ f) → a.FaultIs style tokens end f → a.Answers style tokens end result
+  refused (Ok items) f h says = absurd h
+  refused (Err g) f h says = subst (a.FaultIs style tokens end) (sym h) says

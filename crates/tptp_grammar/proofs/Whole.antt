@@ -221,7 +221,7 @@ module _ (style : Style) (room : ℕ) (items : List Item) (raw : List Placed) (u
   pub within_read : Within room us → file style room raw ≡ Ok items
   within_read w = elim (found_file style room d) [ inl h ↦ h.1 | inr h ↦ absurd (not_over h.1 w) ]
 
-  deep_refused : (over : Tokens) → FirstOver room us over → (rest : Tokens) × (file style room raw ≡ Err (TooDeep, plain rest))
+  pub deep_refused : (over : Tokens) → FirstOver room us over → (rest : Tokens) × (file style room raw ≡ Err (TooDeep, plain rest))
   deep_refused over k = elim (found_file style room d) [ inl h ↦ absurd (not_over k h.0) | inr h ↦ (h.0, h.2) ]
 
 pub ok_says : (style : Style) (raw : List Placed) (found : List Item) → file style max_nesting raw ≡ Ok found → SpellsWithin style max_nesting found raw
@@ -285,31 +285,6 @@ module _ (style : Style) (raw : List Placed) (end : Place) where
   fault_says stop.TooDeep n (left, k, e) =
       let f : FileFault style max_nesting raw TooDeep left = subst (FileSays style max_nesting raw) e (file_says style max_nesting raw) in
       subst (λ o. a.FaultIs style raw end (a_code.depth_at o end)) (sym (entry_is TooDeep left n k f)) (deep_by left f)
-
-  -- ---- what is spelled
-
-  pub only_found : (found items : List Item) → file style max_nesting raw ≡ Ok found → SpellsWithin style max_nesting items raw → found ≡ items
-  only_found found items e s = (let same : ◌≡◌ {A = FileOutcome} (Ok found) (Ok items) = sym e ∙ within_read style max_nesting items raw s.0 s.1 s.2 in ap items_of same)
-
-  not_refused : (items : List Item) (f : Cause × List Token) → SpellsWithin style max_nesting items raw → file style max_nesting raw ≡ Err f → ⊥
-  not_refused items f s e = let same : ◌≡◌ {A = FileOutcome} (Ok items) (Err f) = sym (within_read style max_nesting items raw s.0 s.1 s.2) ∙ e in cc
-
-  pub only_memory : (items : List Item) → SpellsWithin style max_nesting items raw → (s : Stop) (n : ℕ) → a_code.Stopped (file style max_nesting raw) s n → a_code.fault_of s (a_code.entry_at n raw) end ≡ fault.Memory
-  only_memory items k stop.Memory n h = refl
-  only_memory items k stop.Unexpected n (left, i, e) = absurd (not_refused items (Unexpected, left) k e)
-  only_memory items k stop.TooDeep n (left, i, e) = absurd (not_refused items (TooDeep, left) k e)
-
-  pub deep_not_found : (items found : List Item) (us over : Tokens) → IsFile style items raw us → FirstOver max_nesting us over → file style max_nesting raw ≡ Ok found → ⊥
-  deep_not_found items found us over d k e = let r = deep_refused style max_nesting items raw us d over k in let same : ◌≡◌ {A = FileOutcome} (Ok found) (Err (TooDeep, plain r.0)) = sym e ∙ r.1 in cc
-
-  depth_is : (o : Option Placed) → a.FaultIsDeep (a_code.depth_at o end)
-  depth_is None = tt
-  depth_is (Some x) = tt
-
-  pub deep_fault : (items : List Item) (us over : Tokens) → IsFile style items raw us → FirstOver max_nesting us over → (s : Stop) (n : ℕ) → a_code.Stopped (file style max_nesting raw) s n → a.FaultIsDeep (a_code.fault_of s (a_code.entry_at n raw) end)
-  deep_fault items us over d k stop.Memory n h = tt
-  deep_fault items us over d k stop.Unexpected n (left, i, e) = absurd (spelled_not_unexpected style max_nesting items raw us d left e)
-  deep_fault items us over d k stop.TooDeep n (left, i, e) = depth_is (a_code.entry_at n raw)
 
 -- ---- the tokens spell at most one list
 

@@ -13,10 +13,12 @@ mod lists;
 mod reading;
 mod sorts;
 mod stop;
+mod taker;
 mod terms;
 mod typed_clauses;
 mod words;
 
 pub use fault::GrammarFault;
 pub use law::{items_are_within_their_text, names_are_quotable, one_answer, one_list_of_items};
-pub use reading::parse;
+pub use reading::{parse, parse_into};
+pub use taker::Taker;

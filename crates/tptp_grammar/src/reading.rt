@@ -1,5 +1,6 @@
 // All tokens of a text.
-ghost use Rattle.std.specs.Prelude.{◌≡◌, ◌<◌, ◌+◌, ◌-◌, suc, List, ◌∷◌, length, IfOk, IfErr, if◌then◌else◌};
+ghost use Rattle.std.specs.Prelude.{◌≡◌, ◌<◌, ◌+◌, ◌-◌, suc, List, ◌∷◌, ◌++◌, length, IfOk, IfErr, OnOk, if◌then◌else◌};
+ghost use Rattle.std.specs.List.{flat_map};
 ghost use Rattle.first_fault.specs.Nesting.{FirstOver};
 ghost use Rattle.tptp_base.specs.declared.item.Item.{Item};
 ghost use Rattle.tptp_grammar.specs.Tokens.{Tokens as NestedTokens};
@@ -10,14 +11,16 @@ ghost use Rattle.tptp_grammar.specs.code.Outcomes.{Fails};
 ghost use Rattle.tptp_grammar.specs.code.ReadItems as items;
 ghost use Rattle.tptp_grammar.specs.code.ReadFile as spec;
 ghost use Rattle.tptp_grammar.specs.Answers as answers;
+ghost use Rattle.tptp_grammar.specs.Texts.{IsParsed};
 ghost use Rattle.tptp_grammar.specs.code.Answers as answers_code;
 
 use crate::cursor::{Cursor, count_solid, is_comment};
 use crate::fault::GrammarFault;
 use crate::items::item;
 use crate::stop::Stop;
+use crate::taker::Taker;
 use std::alloc::{AllocError, Global};
-use tptp_base::{Item, List, Place};
+use tptp_base::{Item, List, Memory, Place};
 use tptp_lexer::{Rest, Style, Token, TokenList, Tokens, Word};
 
 // How deep a text may nest.
@@ -35,6 +38,20 @@ struct Refusal {
 struct Turn {
     item: Item,
     left: usize,
+}
+
+impl From<Memory> for Refusal {
+    ghost use Rattle.std.specs.Prelude.{◌≡◌};
+    ghost use Rattle.tptp_grammar.specs.declared.stop.Stop.TheVariants.{Memory};
+
+    ghost from_gives = { λ _ e. e.stop ≡ Memory };
+
+    fn from(_: Memory) -> Refusal {
+        Refusal {
+            stop: Stop::Memory,
+            left: 0,
+        }
+    }
 }
 
 impl From<AllocError> for Refusal {
@@ -108,12 +125,18 @@ fn take_turn(
     }
 }
 
-// The items, and the comments between them.
-fn read_items(alloc: Global, tokens: &TokenList<'_>, style: Style) -> Result<List<Item>, Refusal>
-    ensures ok { IfOk result (λ found. spec.file style faults.max_nesting tokens.now ≡ Ok found) }
+// Gives away the items, and the comments between them.
+#[tactic(auto, using(crate::proofs::Taking::turn_refused))]
+fn read_items<T: Taker>(
+    alloc: Global,
+    tokens: &TokenList<'_>,
+    style: Style,
+    into: &mut T,
+) -> Result<(), Refusal>
+    ensures ok { OnOk result ((found : List Item) × (spec.file style faults.max_nesting tokens.now ≡ Ok found)
+        × (T.kept into.new ≡ T.kept into.old ++ flat_map T.parts found)) }
     ensures err { IfErr result (λ r. answers_code.Stopped (spec.file style faults.max_nesting tokens.now) r.stop r.left) }
 {
-    let mut found = List::new(alloc);
     let mut cursor = Cursor::new(tokens);
     let mut rest = tokens.rest();
     let mut left = 0;
@@ -123,10 +146,10 @@ fn read_items(alloc: Global, tokens: &TokenList<'_>, style: Style) -> Result<Lis
         } else if let Some((token, place)) = rest.next_placed() {
             let next = take_turn(alloc, &mut cursor, style, &token, place)?;
             left = next.left;
-            found.push(next.item)?;
+            into.take(next.item)?;
         }
     }
-    Ok(found)
+    Ok(())
 }
 
 // How many tokens are left of an item behind the next one, comments left out, where so many are left before it.
@@ -222,6 +245,31 @@ fn fault_of(stop: Stop, entry: Option<(Token<'_>, Place)>, end: Place) -> Gramma
     }
 }
 
+/// Gives away the one list of items that the tokens spell, each item as soon as it is read.
+///
+/// # Errors
+///
+/// The first fault, as `GrammarFault` tells them.
+pub fn parse_into<T: Taker>(
+    alloc: Global,
+    tokens: &Tokens<'_>,
+    into: &mut T,
+) -> Result<(), GrammarFault>
+    // What is read is what `parse` reads, and it is taken item by item.
+    ensures taken { OnOk result ((items : List Item) × IsParsed tokens.now (Ok items)
+        × (T.kept into.new ≡ T.kept into.old ++ flat_map T.parts items)) }
+    // Each fault is the first one.
+    ensures fault { IfErr result (λ fault. IsParsed tokens.now (Err fault)) }
+{
+    match read_items(alloc, &tokens.items, tokens.style, into) {
+        Ok(()) => Ok(()),
+        Err(refusal) => {
+            let entry = entry_at(&tokens.items, refusal.left);
+            Err(fault_of(refusal.stop, entry, tokens.end))
+        }
+    }
+}
+
 /// The one list of items that the tokens spell.
 ///
 /// # Errors
@@ -240,11 +288,7 @@ pub fn parse(alloc: Global, tokens: &Tokens<'_>) -> Result<List<Item>, GrammarFa
     ensures one { (first second : List Item) → Spells tokens.now.style first tokens.now.items
         → Spells tokens.now.style second tokens.now.items → first ≡ second }
 {
-    match read_items(alloc, &tokens.items, tokens.style) {
-        Ok(found) => Ok(found),
-        Err(refusal) => {
-            let entry = entry_at(&tokens.items, refusal.left);
-            Err(fault_of(refusal.stop, entry, tokens.end))
-        }
-    }
+    let mut found = List::new(alloc);
+    parse_into(alloc, tokens, &mut found)?;
+    Ok(found)
 }
