@@ -13,3 +13,4 @@ pub mod FilesShown
 pub mod OneReading
 pub mod ReadBack
 pub mod Equations
+pub mod PrintedItems
