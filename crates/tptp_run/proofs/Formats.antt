@@ -1,17 +1,23 @@
 -- How the text of a file that is formatted ends the command.
-use Rattle.std.proofs.Common.{◌≡◌, inl, ℕ, ◌≤◌, List, length, Option, IfSome, Result, Ok, Err}
+use Rattle.std.proofs.Common.{◌≡◌, ap, inl, inr, ℕ, ◌≤◌, List, length, Option, IfSome, Result, Ok, Err}
+use Rattle.canon_print.specs.Canonical.{canonical_text}
+use Rattle.tptp_base.specs.declared.item.Item.{Item}
 use Rattle.tptp_base.specs.Store.{Files, HasFile}
 use Rattle.tptp_base.specs.declared.read.TheConstants.{FILE_SIZE}
 use Rattle.tptp_run.specs.code.Answer.{ending_of}
-use Rattle.tptp_run.specs.Ending.{Ending}
+use Rattle.tptp_run.specs.Ending.{Ending, says}
 use Rattle.tptp_run.specs.Formatted.{EndsFormat, SaysText}
-use Rattle.tptp_run.specs.Spelled.{IsTextRefusal}
+use Rattle.tptp_run.specs.Spelled.{SpellsItems, IsTextRefusal}
 use Rattle.tptp_run.specs.code.Stop.{IfAnswer, IfRefused}
 use Rattle.tptp_run.specs.declared.run.TheConstants.{TOTAL_SIZE}
 use Rattle.tptp_run.specs.declared.stop.Answer.{Answer}
 use Rattle.tptp_run.specs.declared.stop.Halt.{Halt}
 use Rattle.tptp_run.specs.declared.stop.Halt.TheVariants.{Refused, Stopped}
 use Rattle.tptp_run.proofs.Stages.{after_read, if_told}
+
+-- the canonical text of what the text spells is said
+pub printed_said : (file text printed : List ℕ) → (items : List Item) × SpellsItems text items × (printed ≡ canonical_text items) → SaysText file text (says 0 printed)
+printed_said file text printed (items, spells, is) = inr (items, spells, ap (λ out. says 0 out) is)
 
 -- a refusal of the text is an answer
 pub refusal_said : (T : Type 0) (halt : Halt) (file text : List ℕ) → IfRefused {T = T} (Err halt) (λ answer. IsTextRefusal file text (ending_of answer)) → IfAnswer (Err halt) (λ answer. SaysText file text (ending_of answer))

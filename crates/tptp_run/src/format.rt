@@ -10,9 +10,8 @@ ghost use Rattle.tptp_run.specs.code.Stop.{HasCause, IfAnswer, IfStopped};
 
 use crate::refusals::read_text;
 use crate::run::TOTAL_SIZE;
-use crate::spelled::read_items;
+use crate::spelled::print_text;
 use crate::stop::{Answer, Halt};
-use canon_print::print;
 use std::alloc::Global;
 use tptp_base::Store;
 
@@ -39,10 +38,10 @@ fn format_text(alloc: Global, file: &str, text: &[u8]) -> Result<Answer, Halt>
     ensures status { IfAnswer result (λ answer. IsAnswer answer.status) }
     ensures cause { IfStopped result (λ stop. HasCause stop ⊥ ⊥) }
 {
-    match read_items(alloc, file, text) {
-        Ok(items) => Ok(Answer {
+    match print_text(alloc, file, text) {
+        Ok(printed) => Ok(Answer {
             status: 0,
-            text: print(alloc, items.as_slice())?,
+            text: printed,
         }),
         Err(halt) => Err(halt),
     }

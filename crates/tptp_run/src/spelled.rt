@@ -1,5 +1,7 @@
 // What the text of a problem spells, and what is said of its first fault.
-ghost use Rattle.std.specs.Prelude.{◌≡◌, ◌⊎◌, Ok, Err, IfOk, IfErr};
+ghost use Rattle.std.specs.Prelude.{◌≡◌, ◌⊎◌, List, Ok, Err, IfOk, IfErr};
+ghost use Rattle.canon_print.specs.Canonical.{canonical_text};
+ghost use Rattle.tptp_base.specs.declared.item.Item.{Item as item};
 ghost use Rattle.tptp_run.specs.code.Answer.{ending_of};
 ghost use Rattle.tptp_run.specs.Spelled.{IsLexed, SpellsItems, IsTextRefusal, SaysLexFault, SaysGrammarFault};
 ghost use Rattle.tptp_run.specs.code.Stop.{HasCause, IfRefused, IfStopped};
@@ -7,21 +9,23 @@ ghost use Rattle.tptp_lexer.specs.declared.fault.LexFault.{LexFault as lex_fault
 
 use crate::saying::{over_limit, say_at};
 use crate::stop::{Answer, Halt, Stop};
+use canon_print::print_parsed;
 use std::alloc::Global;
-use tptp_base::{Item, List, Region};
-use tptp_grammar::{GrammarFault, parse};
+use tptp_base::{Region, Text};
+use tptp_grammar::GrammarFault;
 use tptp_lexer::{LexFault, Style, Tokens, tokens};
 
-/// The items that the text of a file spells. The first fault of the text is refused.
-pub fn read_items(alloc: Global, name: &str, text: &[u8]) -> Result<List<Item>, Halt>
-    ensures spelled { IfOk result (λ items. SpellsItems text.now items) }
+/// The canonical text of what the text of a file spells. The first fault of the text is refused.
+pub fn print_text(alloc: Global, name: &str, text: &[u8]) -> Result<Text, Halt>
+    ensures printed { IfOk result (λ printed. (items : List item) × SpellsItems text.now items
+        × (printed ≡ canonical_text items)) }
     ensures refused { IfRefused result (λ answer. IsTextRefusal name.now text.now (ending_of answer)) }
     ensures status { IfRefused result (λ answer. (answer.status ≡ 3) ⊎ (answer.status ≡ 7)) }
     ensures cause { IfStopped result (λ stop. HasCause stop ⊥ ⊥) }
 {
     let tokens = read_tokens(alloc, name, text)?;
-    match parse(alloc, &tokens) {
-        Ok(items) => Ok(items),
+    match print_parsed(alloc, &tokens) {
+        Ok(printed) => Ok(printed),
         Err(fault) => Err(Halt::Refused(say_grammar_fault(alloc, name.as_bytes(), fault)?)),
     }
 }
