@@ -8,3 +8,4 @@ pub mod Holding
 pub mod Stating
 pub mod Cutting
 pub mod Keeping
+pub mod Dropping

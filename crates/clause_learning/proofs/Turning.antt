@@ -13,6 +13,7 @@ use Rattle.clause_learning.specs.declared.solver.Turn.TheVariants.{Further, Refu
 use Rattle.clause_learning.specs.declared.clauses.Clauses.{Clauses}
 use Rattle.clause_learning.specs.declared.restarts.Restarts.{Restarts}
 use Rattle.clause_learning.specs.declared.analysis.Stop.{Stop}
+use Rattle.clause_learning.specs.declared.marks.Marks.{Marks}
 use Rattle.clause_learning.specs.code.Held.{IsStopped}
 use Rattle.clause_learning.specs.Valuations.{HasAtoms, IsModel, entry_of}
 use Rattle.clause_learning.specs.code.Trails.{clauses_of, IsTrail, IsFresh, IsPushed}
@@ -93,9 +94,9 @@ restarted old new left state fewer many trail = record {
 }
 
 -- what is learned from a false clause
-pub learned_turn : (old mid new : Solver) (from : List ℕ) (stop : Stop) (t : Turn) → mid.clauses ≡ old.clauses → mid.restarts ≡ old.restarts → IsStopped (clauses_of old.clauses) from mid.marks old.trail mid.trail stop
+pub learned_turn : (old mid new : Solver) (from : List ℕ) (m : Marks) (stop : Stop) (t : Turn) → mid.clauses ≡ old.clauses → mid.restarts ≡ old.restarts → IsStopped (clauses_of old.clauses) from m old.trail mid.trail stop
     → IsNoted mid stop new t → IsTurned old new t
-learned_turn old mid new from stop Further clauses restarts stopped noted = record {
+learned_turn old mid new from m stop Further clauses restarts stopped noted = record {
   state = noted.state;
   inputs = noted.inputs ∙ ap (λ (c : Clauses). c.inputs) clauses;
   many = noted.many ∙ stopped.many;
@@ -104,8 +105,8 @@ learned_turn old mid new from stop Further clauses restarts stopped noted = reco
       let on = noted.weight stopped.here.step stopped.here.free in
       inr (noted.left ∙ ap (λ (r : Restarts). r.left) restarts, omega (arith, before, on));
 }
-learned_turn old mid new from stop Refuted clauses restarts stopped noted = absurd noted
-learned_turn old mid new from stop Settled clauses restarts stopped noted = absurd noted
+learned_turn old mid new from m stop Refuted clauses restarts stopped noted = absurd noted
+learned_turn old mid new from m stop Settled clauses restarts stopped noted = absurd noted
 
 -- the measure falls
 fewer_times : (a b p : ℕ) → a < b → a * p + p ≤ b * p

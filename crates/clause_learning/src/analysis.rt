@@ -23,8 +23,8 @@ pub struct Stop {
     pub keep: usize,
 }
 
-// Resolves what is held with the clause of this number, on this atom.
-fn resolve(
+/// Resolves what is held with the clause of this number, on this atom.
+pub fn resolve(
     clause: &[Literal],
     number: usize,
     atom: usize,

@@ -1,16 +1,18 @@
-//! What leads a search: which clauses are looked at, and which atom is taken freely. What it answers rests on none of
+//! What leads a search: which clauses are looked at, which atom is taken freely, and which literals are resolved away. What it answers rests on none of
 //! this.
 use crate::literal::Literal;
 use crate::order::Order;
+use crate::plan::Plan;
 use crate::trail::Trail;
 use crate::watches::Watches;
 use std::alloc::{AllocError, Global};
 
-/// The watches of the clauses, and the order of the atoms.
+/// The watches of the clauses, the order of the atoms, and what is planned for the next learned clause.
 #[derive(Drop)]
 pub struct Guide {
     pub watches: Watches,
     pub order: Order,
+    pub plan: Plan,
 }
 
 impl Guide {
@@ -19,6 +21,7 @@ impl Guide {
         Ok(Guide {
             watches: Watches::new(alloc, atoms)?,
             order: Order::new(alloc, atoms)?,
+            plan: Plan::new(alloc, atoms)?,
         })
     }
 

@@ -15,6 +15,7 @@ use crate::guide::Guide;
 use crate::level::Level;
 use crate::literal::Literal;
 use crate::marks::Marks;
+use crate::narrowing::narrow;
 use crate::order::Order;
 use crate::propagation::propagate;
 use crate::restarts::Restarts;
@@ -177,7 +178,18 @@ impl Solver {
             &mut guide.order,
             &mut from,
         )? {
-            Some(stop) => self.note(alloc, stop, from, guide),
+            Some(stop) => {
+                narrow(
+                    &self.clauses,
+                    &self.trail,
+                    stop,
+                    &mut guide.plan,
+                    &mut self.marks,
+                    &mut level,
+                    &mut from,
+                )?;
+                self.note(alloc, stop, from, guide)
+            }
             None => {
                 self.clauses.log.push(Learned {
                     lits: List::new(alloc),

@@ -1,5 +1,5 @@
 -- What is held while clauses are resolved: a clause that follows, whose atoms are marked.
-use Rattle.std.specs.Prelude.{◌≡◌, ◌<◌, ◌⊎◌, ◌++◌, ◌∷◌, [], ℕ, length, true, List, Option, Some, None, reverse}
+use Rattle.std.specs.Prelude.{◌≡◌, ◌≢◌, ◌<◌, ◌⊎◌, ◌++◌, ◌∷◌, [], ℕ, length, true, List, Option, Some, None, reverse}
 use Rattle.std.specs.List.{Contains}
 use Rattle.clause_learning.specs.declared.literal.Literal.{Literal}
 use Rattle.clause_learning.specs.declared.trail.Value.{Value}
@@ -69,6 +69,14 @@ pub record IsStopped (clauses : List (List Literal)) (from : List ℕ) (m : Mark
 abbrev pub IsWalked : List (List Literal) → List ℕ → Marks → Trail → Trail → Option Stop → Type 0
 IsWalked clauses from m old new None = IsDerived complement clauses from []
 IsWalked clauses from m old new (Some stop) = IsStopped clauses from m old new stop
+
+-- the atom has a value that it was given before so many steps
+abbrev pub IsBefore : List (Option Value) → ℕ → ℕ → Type 0
+IsBefore values a keep = (v : Value) × (value_at values a ≡ Some v) × (v.place < keep)
+
+-- so have the literals of other atoms than this
+abbrev pub AreBefore : List (Option Value) → List Literal → ℕ → ℕ → Type 0
+AreBefore values lits a keep = (x : Literal) → Contains lits x → x.atom ≢ a → IsBefore values x.atom keep
 
 -- l is the asserted literal, and the others are those of marked atoms that are false
 pub record IsCollected (l : Literal) (values : List (Option Value)) (m : Marks) (lits : List Literal) : Type 0 where

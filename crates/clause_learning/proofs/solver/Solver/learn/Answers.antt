@@ -20,6 +20,18 @@ walk-requires-clause-within c =
     let P : ℕ → Type 0 = λ n. HasAtoms n (clauses_of c.args.self.now.clauses) in
     subst P (sym (c.in_ok-begin.ensures.many ∙ c.requires.state.marks.many)) c.requires.state.clauses.within
 
+pub narrow-requires-clause-within : goal.narrow-requires-clause-within
+narrow-requires-clause-within c =
+    let P : ℕ → Type 0 = λ n. HasAtoms n (clauses_of c.args.self.now.clauses) in
+    subst P (sym (c.in_ok-stop.ensures.many ∙ c.in_ok-begin.ensures.many ∙ c.requires.state.marks.many)) c.requires.state.clauses.within
+
+pub narrow-requires-clause-stopped : goal.narrow-requires-clause-stopped
+narrow-requires-clause-stopped c =
+    let old = c.args.self.now in
+    let W : Option Stop → Type 0 = λ o. IsWalked (clauses_of old.clauses) c.walk.new.from c.walk.new.marks old.trail c.walk.new.trail o in
+    let stopped : IsStopped (clauses_of old.clauses) c.walk.new.from c.walk.new.marks old.trail c.walk.new.trail c.in-Some.stop = subst W c.in-Some.is c.in_ok-stop.ensures.walked in
+    stopped.here
+
 pub note-requires : goal.note-requires
 note-requires c =
     let old = c.args.self.now in
@@ -28,18 +40,18 @@ note-requires c =
     let L : ℕ → Type 0 = λ n. AreLearned n old.clauses in
     record {
       clauses = subst L (sym stopped.many) c.requires.state.clauses;
-      many = c.in_ok-stop.ensures.many ∙ c.in_ok-begin.ensures.many ∙ c.requires.state.marks.many ∙ sym stopped.many;
-      stopped = stopped.here;
+      many = c.in_ok-narrow-in-Some.ensures.many ∙ c.in_ok-stop.ensures.many ∙ c.in_ok-begin.ensures.many ∙ c.requires.state.marks.many ∙ sym stopped.many;
+      stopped = c.in_ok-narrow-in-Some.ensures.stopped;
     }
 
-pub returns-in-Some : goal.returns-in-Some
-returns-in-Some c =
+pub returns-in_ok-narrow-in-Some : goal.returns-in_ok-narrow-in-Some
+returns-in_ok-narrow-in-Some c =
     let old = c.args.self.now in
     let W : Option Stop → Type 0 = λ o. IsWalked (clauses_of old.clauses) c.walk.new.from c.walk.new.marks old.trail c.walk.new.trail o in
     let stopped : IsStopped (clauses_of old.clauses) c.walk.new.from c.walk.new.marks old.trail c.walk.new.trail c.in-Some.stop = subst W c.in-Some.is c.in_ok-stop.ensures.walked in
-    let mid : Solver = record { clauses = old.clauses; trail = c.walk.new.trail; marks = c.walk.new.marks; restarts = old.restarts } in
+    let mid : Solver = record { clauses = old.clauses; trail = c.walk.new.trail; marks = c.narrow.new.marks; restarts = old.restarts } in
     IfOk-weaker c.note.result (IsNoted mid c.in-Some.stop c.note.new.self) (IsTurned old c.note.new.self)
-    (λ t noted. learned_turn old mid c.note.new.self c.walk.new.from c.in-Some.stop t refl refl stopped noted) c.note.ensures
+    (λ t noted. learned_turn old mid c.note.new.self c.walk.new.from c.walk.new.marks c.in-Some.stop t refl refl stopped noted) c.note.ensures
 
 pub returns-in_ok-push-in-None : goal.returns-in_ok-push-in-None
 returns-in_ok-push-in-None c =
