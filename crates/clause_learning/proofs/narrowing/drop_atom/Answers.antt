@@ -1,4 +1,4 @@
-use Rattle.std.proofs.Common.{◌++◌, ◌∷◌, [], ℕ, option_copied, List, length, sym, ap, subst, ◌∙◌}
+use Rattle.std.proofs.Common.{option_copied, List, length, sym, ap, subst, ◌∙◌}
 use Rattle.std.specs.List.{Contains}
 use Rattle.clause_learning.specs.declared.literal.Literal.{Literal}
 use Rattle.clause_learning.specs.Valuations.{HasAtoms}

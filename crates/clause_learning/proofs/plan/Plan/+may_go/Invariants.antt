@@ -1,4 +1,4 @@
-use Rattle.std.proofs.Common.{ℕ, ◌+◌, ◌*◌}
+use Rattle.std.proofs.Common.{◌+◌, ◌*◌}
 use Rattle.clause_learning.proofs.plan.Plan.+may_go.Given as goal
 
 abbrev pub decreases-all_may_go : goal.decreases-all_may_go
