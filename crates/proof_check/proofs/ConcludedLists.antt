@@ -23,38 +23,42 @@ use Rattle.kernel.specs.declared.proof.Proof.{Proof, AndI, OrE, Raa}
 use Rattle.proof_check.proofs.Concluded.{some_same, only}
 
 -- what is in reach further inside
-pub reach_under : (v : Vocabulary) (scope : List ℕ) (h : List Form) (room : ℕ) (b : Form) → IsReach v scope h room → Sorted v scope b → IsReach v scope (b ∷ h) room
-reach_under v scope h room b r s = record { scope_fits = r.scope_fits; room_left = r.room_left; hyps_sorted = (s, r.hyps_sorted) }
+pub reach_under : (v : Vocabulary) (scope : List ℕ) (h : List Form) (room crossed : ℕ) (b : Form) → IsReach v scope h room crossed → Sorted v scope b → IsReach v scope (b ∷ h) room crossed
+reach_under v scope h room crossed b r s = record { scope_fits = r.scope_fits; room_left = r.room_left; few_crossed = r.few_crossed; hyps_sorted = (s, r.hyps_sorted) }
 
 all_lifted : (v : Vocabulary) (scope : List ℕ) (s : ℕ) (h : List Form) → IsScope v (s ∷ scope) → AllByRecursion (Sorted v scope) h → AllByRecursion (Sorted v (s ∷ scope)) (map (lifted 1 0) h)
 all_lifted v scope s [] sc all = tt
 all_lifted v scope s (a ∷ h) sc all = (lifted_over v scope 2147483647 s a sc all.0, all_lifted v scope s h sc all.1)
 
-scope_over : (v : Vocabulary) (scope : List ℕ) (h : List Form) (room s : ℕ) → IsReach v scope h room → (0 < room) × (s < length v.sorts) → IsScope v (s ∷ scope)
-scope_over v scope h room s r has = record { few_variables = omega (arith, r.room_left, has.0); sorts_exist = (has.1, r.scope_fits.sorts_exist) }
+scope_over : (v : Vocabulary) (scope : List ℕ) (h : List Form) (room crossed s : ℕ) → IsReach v scope h room crossed → (0 < room) × (s < length v.sorts) → IsScope v (s ∷ scope)
+scope_over v scope h room crossed s r has = record { few_variables = omega (arith, r.room_left, has.0); sorts_exist = (has.1, r.scope_fits.sorts_exist) }
 
-pub reach_over : (v : Vocabulary) (scope : List ℕ) (h : List Form) (room s : ℕ) → IsReach v scope h room → (0 < room) × (s < length v.sorts) → IsReach v (s ∷ scope) (all_over h) (room - 1)
-reach_over v scope h room s r has = record {
-  scope_fits = scope_over v scope h room s r has;
+pub reach_over : (v : Vocabulary) (scope : List ℕ) (h : List Form) (room crossed s : ℕ) → IsReach v scope h room crossed → (0 < room) × (s < length v.sorts) → IsReach v (s ∷ scope) (all_over h) (room - 1) (crossed + 1)
+reach_over v scope h room crossed s r has = record {
+  scope_fits = scope_over v scope h room crossed s r has;
   room_left = omega (arith, r.room_left, has.0);
-  hyps_sorted = all_lifted v scope s h (scope_over v scope h room s r has) r.hyps_sorted;
+  few_crossed = omega (arith, r.few_crossed);
+  hyps_sorted = all_lifted v scope s h (scope_over v scope h room crossed s r has) r.hyps_sorted;
 }
 
 by_recursion : {X : Type 0} (P : X → Type 0) (xs : List X) → All P xs → AllByRecursion P xs
 by_recursion P [] all = tt
 by_recursion P (x ∷ xs) all = (all zero x (omega arith), by_recursion P xs (λ i d lt. all (suc i) d (omega arith)))
 
-pub context_reach : (v : Vocabulary) (sorts : List ℕ) (hyps : List Form) → IsContext v (reverse sorts) (reverse hyps) → IsReach v (reverse sorts) (reverse hyps) (2147483647 - length sorts)
+pub context_reach : (v : Vocabulary) (sorts : List ℕ) (hyps : List Form) → IsContext v (reverse sorts) (reverse hyps) → IsReach v (reverse sorts) (reverse hyps) (2147483647 - length sorts) 0
 context_reach v sorts hyps r =
     let same : length (reverse sorts) ≡ length sorts = length-reverse sorts in
-    record { scope_fits = r.scope_fits; room_left = omega (arith, same, r.scope_fits.few_variables); hyps_sorted = by_recursion (Sorted v (reverse sorts)) (reverse hyps) r.hyps_sorted }
+    record { scope_fits = r.scope_fits; room_left = omega (arith, same, r.scope_fits.few_variables); few_crossed = omega arith; hyps_sorted = by_recursion (Sorted v (reverse sorts)) (reverse hyps) r.hyps_sorted }
 
 each_lifts : (v : Vocabulary) (scope : List ℕ) (h : List Form) → AllByRecursion (Sorted v scope) h → AllByRecursion (λ a. lift_reach 1 0 a < 2 ^ 32) h
 each_lifts v scope [] all = tt
 each_lifts v scope (a ∷ h) all = (lift_fits v scope a all.0, each_lifts v scope h all.1)
 
-pub reach_lifts : (v : Vocabulary) (scope : List ℕ) (h : List Form) (room : ℕ) → IsReach v scope h room → AllByRecursion (λ a. lift_reach 1 0 a < 2 ^ 32) h
-reach_lifts v scope h room r = each_lifts v scope h r.hyps_sorted
+pub reach_lifts : (v : Vocabulary) (scope : List ℕ) (h : List Form) (room crossed : ℕ) → IsReach v scope h room crossed → AllByRecursion (λ a. lift_reach 1 0 a < 2 ^ 32) h
+reach_lifts v scope h room crossed r = each_lifts v scope h r.hyps_sorted
+
+pub reach_few : (v : Vocabulary) (scope : List ℕ) (h : List Form) (room crossed : ℕ) → IsReach v scope h room crossed → crossed < 2 ^ 32
+reach_few v scope h room crossed r = omega (arith, r.few_crossed, r.scope_fits.few_variables)
 
 module _ (t : Statements) (v : List ℕ) (h : List Form) where
   pub shown_fits : (p : Proof) (shown : Option Form) → Concludes t v h p shown → (a : Form) → shown ≡ Some a → Sorted t.vocabulary v a

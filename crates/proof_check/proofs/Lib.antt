@@ -4,3 +4,4 @@ pub mod ConcludedLists
 pub mod Added
 pub mod Marked
 pub mod HypothesesFacts
+pub mod Lifts

@@ -1,15 +1,14 @@
-ghost use Rattle.std.specs.Prelude.{◌≡◌, ◌<◌, ◌^◌, [], ◌∷◌, slice_get, reverse, map, IfOk};
+ghost use Rattle.std.specs.Prelude.{◌≡◌, ◌+◌, ◌<◌, ◌^◌, [], ◌∷◌, slice_get, reverse, IfOk};
 ghost use Rattle.std.specs.Option.{option_copied, option_map};
 ghost use Rattle.std.specs.List.{AllByRecursion};
-ghost use Rattle.fof_terms.specs.Lift.{lift_reach};
-ghost use Rattle.kernel.specs.Proves.{over};
-ghost use Rattle.proof_check.specs.code.Hypotheses.{hypotheses};
+ghost use Rattle.fof_terms.specs.Lift.{lifted, lift_reach};
+ghost use Rattle.proof_check.specs.code.Hypotheses.{hypotheses, crossed_in, in_reach};
 
 use crate::finding::{Finding, Shown};
 use crate::theory::Theory;
-use fof_terms::{Form, Scope, SortId};
+use fof_terms::{Form, Scope, SortId, lift};
 use std::alloc::Global;
-use tptp_base::{List, Memory};
+use tptp_base::{Boxed, List, Memory};
 
 /// The sorts of the free variables, the last of which is variable 0, and the hypotheses, the last of which is number 0.
 #[derive(Drop)]
@@ -53,46 +52,65 @@ pub struct Reach<'f, 'c> {
     pub room: u32,
 }
 
-/// The hypothesis of that number.
-#[tactic(auto, using(crate::proofs::HypothesesFacts::hypotheses_equations))]
+/// A hypothesis, where it stands, and how many variables were crossed since.
+#[derive(Clone, Copy)]
+struct Standing<'f> {
+    form: &'f Form,
+    crossed: u32,
+}
+
+/// The hypothesis of that number. However many variables were crossed, it is lifted over them at once.
 #[inline(never)]
-#[cycle(hypothesis)]
 pub fn hypothesis<'f>(
     alloc: Global,
     hyps: &Hypotheses<'f, '_>,
     number: u32,
 ) -> Result<Shown<'f>, Memory>
-    requires { AllByRecursion (λ a. lift_reach 1 0 a < 2 ^ 32) (hypotheses hyps.now) }
+    requires few { crossed_in hyps.now < 2 ^ 32 }
+    requires fits { AllByRecursion (λ a. lift_reach 1 0 a < 2 ^ 32) (hypotheses hyps.now) }
     ensures { IfOk result (λ form. form ≡ slice_get (hypotheses hyps.now) number) }
 {
-    match hyps {
-        Hypotheses::Outside(forms) => Ok(given(from_end(*forms, number))),
-        Hypotheses::Under(form, outer) => {
-            if number == 0 {
-                Ok(Some(Finding::given(*form)))
-            } else {
-                hypothesis(alloc, *outer, number - 1)
-            }
-        }
-        Hypotheses::Over(outer) => hypothesis_over(alloc, *outer, number),
+    match find(hyps, number, 0) {
+        Some(found) => Ok(Some(over_crossed(alloc, found)?)),
+        None => Ok(None),
     }
 }
 
-// The hypothesis of that number over one variable more.
-#[inline(never)]
-#[cycle(hypothesis)]
-fn hypothesis_over<'f>(
-    alloc: Global,
-    outer: &Hypotheses<'f, '_>,
-    number: u32,
-) -> Result<Shown<'f>, Memory>
-    requires { AllByRecursion (λ a. lift_reach 1 0 a < 2 ^ 32) (hypotheses outer.now) }
-    ensures { IfOk result (λ form. form ≡ option_map over (slice_get (hypotheses outer.now) number)) }
+// Where the hypothesis of that number stands, `crossed` variables further in.
+#[tactic(auto, using(crate::proofs::HypothesesFacts::hypotheses_equations))]
+fn find<'f>(hyps: &Hypotheses<'f, '_>, number: u32, crossed: u32) -> Option<Standing<'f>>
+    requires { crossed + crossed_in hyps.now < 2 ^ 32 }
+    ensures { option_map in_reach result ≡ option_map (lifted crossed 0) (slice_get (hypotheses hyps.now) number) }
 {
-    match hypothesis(alloc, outer, number)? {
-        Some(found) => Ok(Some(found.over(alloc)?)),
-        None => Ok(None),
+    match hyps {
+        Hypotheses::Outside(forms) => match from_end(*forms, number) {
+            Some(form) => Some(Standing { form, crossed }),
+            None => None,
+        },
+        Hypotheses::Under(form, outer) => {
+            if number == 0 {
+                Some(Standing {
+                    form: *form,
+                    crossed,
+                })
+            } else {
+                find(*outer, number - 1, crossed)
+            }
+        }
+        Hypotheses::Over(outer) => find(*outer, number, crossed + 1),
     }
+}
+
+// The hypothesis over the variables that were crossed. One that none were crossed for is lent.
+fn over_crossed<'f>(alloc: Global, found: Standing<'f>) -> Result<Finding<'f>, Memory>
+    requires { lift_reach found.crossed 0 found.form.now < 2 ^ 32 }
+    ensures { IfOk result (λ form. form ≡ in_reach found.entry) }
+{
+    if found.crossed == 0 {
+        return Ok(Finding::given(found.form));
+    }
+    let moved = lift(alloc, found.form, found.crossed, 0)?;
+    Ok(Finding::made(Boxed::new(alloc, moved)?))
 }
 
 /// The formula, where it stands.

@@ -1,10 +1,9 @@
 // What a proof concludes: a formula that is lent where it stands.
-ghost use Rattle.std.specs.Prelude.{ℕ, ◌≡◌, ◌↔◌, ◌^◌, ◌<◌, List, Some, IsTrue, IfOk, IfSome, IfNone};
-ghost use Rattle.fof_terms.specs.Lift.{lifted, lift_reach};
+ghost use Rattle.std.specs.Prelude.{ℕ, ◌≡◌, ◌↔◌, List, Some, IsTrue, IfOk, IfSome, IfNone};
 ghost use Rattle.fof_terms.specs.declared.form.Form.{Form as Formula, Eq, Not, And, Or, Imp, Iff, All, Ex};
 ghost use Rattle.fof_terms.specs.declared.term.Term.{Term as Terms};
 
-use fof_terms::{Form, equal, lift};
+use fof_terms::{Form, equal};
 use std::alloc::Global;
 use std::marker::Model;
 use tptp_base::{Boxed, Memory};
@@ -253,19 +252,6 @@ impl<'f> Finding<'f> {
                 Ok(Boxed::new(alloc, Form::Iff(boxed(alloc, left)?, right))?)
             }
         }
-    }
-
-    /// The formula over one variable more.
-    #[inline(never)]
-    pub fn over(self, alloc: Global) -> Result<Finding<'f>, Memory>
-        requires { lift_reach 1 0 self < 2 ^ 32 }
-        ensures { IfOk result (λ moved. moved ≡ lifted 1 0 self.entry) }
-    {
-        if let Some(form) = self.standing() {
-            return Ok(Finding::made(Boxed::new(alloc, lift(alloc, form, 1, 0)?)?));
-        }
-        let form = self.into_boxed(alloc)?;
-        Ok(Finding::made(Boxed::new(alloc, lift(alloc, form.get(), 1, 0)?)?))
     }
 }
 

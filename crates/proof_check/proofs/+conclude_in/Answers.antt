@@ -5,15 +5,15 @@ use Rattle.fof_terms.specs.Scope.{scope_sorts}
 use Rattle.fof_terms.proofs.ScopeFacts.{scope_sorts-Under}
 use Rattle.fof_terms.specs.declared.form.Form.{Not}
 use Rattle.kernel.specs.declared.proof.Proof.TheViews.{the_lemmas}
-use Rattle.proof_check.specs.code.Hypotheses.{hypotheses}
-use Rattle.proof_check.proofs.HypothesesFacts.{hypotheses-Under, hypotheses-Over}
+use Rattle.proof_check.specs.code.Hypotheses.{hypotheses, crossed_in}
+use Rattle.proof_check.proofs.HypothesesFacts.{hypotheses-Under, hypotheses-Over, crossed_in-Under, crossed_in-Over}
 use Rattle.kernel.specs.Proves.{Proves, all_over}
 use Rattle.proof_check.specs.Concludes.{Concludes}
 use Rattle.proof_check.specs.code.Concludes.{ConcludesUnder, EachUnder}
 use Rattle.kernel.specs.declared.proof.Proof.{IffI}
 use Rattle.proof_check.proofs.Concluded.{ok_map, not_true, hyp_shown}
 use Rattle.proof_check.proofs.ConcludedOver.{ex_e_some, ex_e_none, inhabit_shown}
-use Rattle.proof_check.proofs.ConcludedLists.{reach_under, reach_over, reach_lifts, shown_fits, under_yes, over_no, over_under_no, or_e_some, or_e_none, raa_shown, each_length, each_at, each_end, AllFound, and_i_some, and_i_none, found_none, found_more, found_missing, found_all}
+use Rattle.proof_check.proofs.ConcludedLists.{reach_under, reach_over, reach_lifts, reach_few, shown_fits, under_yes, over_no, over_under_no, or_e_some, or_e_none, raa_shown, each_length, each_at, each_end, AllFound, and_i_some, and_i_none, found_none, found_more, found_missing, found_all}
 use Rattle.proof_check.proofs.+conclude_in.Goals as goal
 
 pub deduction::all_conclude-returns-then-cases-members : goal.deduction::all_conclude-returns-then-cases-members
@@ -54,20 +54,23 @@ deduction::over-returns-then-not-has_room t c = over_no c.args.reach.now.theory.
 pub deduction::over_under-returns-then-not-has_room : goal.deduction::over_under-returns-then-not-has_room
 deduction::over_under-returns-then-not-has_room t c = over_under_no c.args.reach.now.theory.now (scope_sorts c.args.reach.now.scope.now) (all_over (hypotheses c.args.reach.now.hyps.now)) c.args.sort c.args.reach.now.room c.args.assumed.now c.args.part.now c.requires.room_left (λ has. absurd (not_true (c.if-not-has_room.ensures.1 has)))
 
-pub deduction::conclude_in-hypothesis-requires : goal.deduction::conclude_in-hypothesis-requires
-deduction::conclude_in-hypothesis-requires t c = reach_lifts c.args.reach.now.theory.now.vocabulary (scope_sorts c.args.reach.now.scope.now) (hypotheses c.args.reach.now.hyps.now) c.args.reach.now.room c.requires
+pub deduction::conclude_in-hypothesis-requires-clause-few : goal.deduction::conclude_in-hypothesis-requires-clause-few
+deduction::conclude_in-hypothesis-requires-clause-few t c = reach_few c.args.reach.now.theory.now.vocabulary (scope_sorts c.args.reach.now.scope.now) (hypotheses c.args.reach.now.hyps.now) c.args.reach.now.room (crossed_in c.args.reach.now.hyps.now) c.requires
+
+pub deduction::conclude_in-hypothesis-requires-clause-fits : goal.deduction::conclude_in-hypothesis-requires-clause-fits
+deduction::conclude_in-hypothesis-requires-clause-fits t c = reach_lifts c.args.reach.now.theory.now.vocabulary (scope_sorts c.args.reach.now.scope.now) (hypotheses c.args.reach.now.hyps.now) c.args.reach.now.room (crossed_in c.args.reach.now.hyps.now) c.requires
 
 pub deduction::conclude_in-returns-in-Hyp : goal.deduction::conclude_in-returns-in-Hyp
 deduction::conclude_in-returns-in-Hyp t c = rw c.in-Hyp.is (ok_map c.hypothesis.result (λ r e. hyp_shown c.args.reach.now.theory.now (scope_sorts c.args.reach.now.scope.now) (hypotheses c.args.reach.now.hyps.now) c.in-Hyp.number r c.requires.hyps_sorted e) c.hypothesis.ensures)
 
 pub deduction::over-conclude_in-requires : goal.deduction::over-conclude_in-requires
-deduction::over-conclude_in-requires t c = (search (rules, the_lemmas), rw (scope_sorts-Under, hypotheses-Over) (reach_over c.args.reach.now.theory.now.vocabulary (scope_sorts c.args.reach.now.scope.now) (hypotheses c.args.reach.now.hyps.now) c.args.reach.now.room c.args.sort c.requires (c.if-not-has_room.ensures.0 refl)))
+deduction::over-conclude_in-requires t c = (search (rules, the_lemmas), rw (scope_sorts-Under, hypotheses-Over, crossed_in-Over) (reach_over c.args.reach.now.theory.now.vocabulary (scope_sorts c.args.reach.now.scope.now) (hypotheses c.args.reach.now.hyps.now) c.args.reach.now.room (crossed_in c.args.reach.now.hyps.now) c.args.sort c.requires (c.if-not-has_room.ensures.0 refl)))
 
 pub deduction::over-returns : goal.deduction::over-returns
 deduction::over-returns t c = rw (scope_sorts-Under, hypotheses-Over) at c.conclude_in.ensures
 
 pub deduction::over_under-under-requires : goal.deduction::over_under-under-requires
-deduction::over_under-under-requires t c = (search (rules, the_lemmas), rw (scope_sorts-Under, hypotheses-Over) (reach_over c.args.reach.now.theory.now.vocabulary (scope_sorts c.args.reach.now.scope.now) (hypotheses c.args.reach.now.hyps.now) c.args.reach.now.room c.args.sort c.requires (c.if-not-has_room.ensures.0 refl)))
+deduction::over_under-under-requires t c = (search (rules, the_lemmas), rw (scope_sorts-Under, hypotheses-Over, crossed_in-Over) (reach_over c.args.reach.now.theory.now.vocabulary (scope_sorts c.args.reach.now.scope.now) (hypotheses c.args.reach.now.hyps.now) c.args.reach.now.room (crossed_in c.args.reach.now.hyps.now) c.args.sort c.requires (c.if-not-has_room.ensures.0 refl)))
 
 pub deduction::over_under-returns : goal.deduction::over_under-returns
 deduction::over_under-returns t c = rw (scope_sorts-Under, hypotheses-Over) at c.under.ensures
@@ -75,7 +78,7 @@ deduction::over_under-returns t c = rw (scope_sorts-Under, hypotheses-Over) at c
 pub deduction::under-conclude_in-requires : goal.deduction::under-conclude_in-requires
 deduction::under-conclude_in-requires t c =
     let fits : Sorted c.args.reach.now.theory.now.vocabulary (scope_sorts c.args.reach.now.scope.now) c.args.assumed.now = rw c.signature.ensures at (c.if-not-well_sorted_in.ensures.0 refl) in
-    (search (rules, the_lemmas), rw hypotheses-Under (reach_under c.args.reach.now.theory.now.vocabulary (scope_sorts c.args.reach.now.scope.now) (hypotheses c.args.reach.now.hyps.now) c.args.reach.now.room c.args.assumed.now c.requires fits))
+    (search (rules, the_lemmas), rw (hypotheses-Under, crossed_in-Under) (reach_under c.args.reach.now.theory.now.vocabulary (scope_sorts c.args.reach.now.scope.now) (hypotheses c.args.reach.now.hyps.now) c.args.reach.now.room (crossed_in c.args.reach.now.hyps.now) c.args.assumed.now c.requires fits))
 
 pub deduction::under-returns : goal.deduction::under-returns
 deduction::under-returns t c =

@@ -1,5 +1,5 @@
 -- What private contracts say, beside the definitions of specs/Concludes.
-use Rattle.std.specs.Prelude.{ℕ, ◌≡◌, ◌↔◌, ◌+◌, List, [], ◌∷◌, length, Option, Some, Bool, IsTrue}
+use Rattle.std.specs.Prelude.{ℕ, ◌≡◌, ◌↔◌, ◌+◌, ◌≤◌, List, [], ◌∷◌, length, Option, Some, Bool, IsTrue}
 use Rattle.std.specs.List.{AllByRecursion}
 use Rattle.fof_terms.specs.Vocabulary.{Vocabulary}
 use Rattle.fof_terms.specs.Sorts.{IsScope, Sorted}
@@ -16,10 +16,11 @@ ConcludesUnder t v h b p answer = (a : Form) → (answer ≡ Some a) ↔ (Sorted
 abbrev pub Kept : Statements → List ℕ → Form → Bool → Option Form → Type 0
 Kept t v goal holds answer = (a : Form) → (answer ≡ Some a) ↔ ((a ≡ goal) × IsTrue holds × Sorted t.vocabulary v goal)
 
--- the same within a proof, with room for so many variables more
-pub record IsReach (v : Vocabulary) (scope : List ℕ) (h : List Form) (room : ℕ) : Type 0 where
+-- the same within a proof, with room for so many variables more, where so many were crossed
+pub record IsReach (v : Vocabulary) (scope : List ℕ) (h : List Form) (room crossed : ℕ) : Type 0 where
   pub scope_fits : IsScope v scope
   pub room_left : length scope + room ≡ 2147483647
+  pub few_crossed : crossed ≤ length scope
   pub hyps_sorted : AllByRecursion (Sorted v scope) h
 
 -- each proof shows the goal under the member at its place, which is well-sorted

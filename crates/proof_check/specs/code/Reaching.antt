@@ -4,14 +4,14 @@ use Rattle.fof_terms.specs.Scope.{scope_sorts}
 use Rattle.fof_terms.specs.declared.form.Form.{Form}
 use Rattle.proof_check.specs.declared.context.Reach.{Reach}
 use Rattle.kernel.specs.declared.proof.Proof.{Proof}
-use Rattle.proof_check.specs.code.Hypotheses.{hypotheses}
+use Rattle.proof_check.specs.code.Hypotheses.{hypotheses, crossed_in}
 use Rattle.kernel.specs.Proves.{all_over}
 use Rattle.proof_check.specs.Concludes.{Concludes}
 use Rattle.proof_check.specs.code.Concludes.{ConcludesUnder, EachUnder, IsReach}
 
 -- the variables and the hypotheses are well-sorted, and the room is what is left
 abbrev pub Reaches : Reach → Type 0
-Reaches r = IsReach r.theory.now.vocabulary (scope_sorts r.scope.now) (hypotheses r.hyps.now) r.room
+Reaches r = IsReach r.theory.now.vocabulary (scope_sorts r.scope.now) (hypotheses r.hyps.now) r.room (crossed_in r.hyps.now)
 
 -- the answer is what the proof concludes
 abbrev pub Shows : Reach → Proof → Option Form → Type 0

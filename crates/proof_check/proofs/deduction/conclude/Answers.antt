@@ -1,13 +1,13 @@
 use Rattle.std.proofs.Common.{rules, ◌≡◌, subst, reverse, Some}
 use Rattle.fof_terms.proofs.ScopeFacts.{scope_sorts-Outside}
-use Rattle.proof_check.proofs.HypothesesFacts.{hypotheses-Outside}
+use Rattle.proof_check.proofs.HypothesesFacts.{hypotheses-Outside, crossed_in-Outside}
 use Rattle.proof_check.specs.Concludes.{Concludes}
 use Rattle.proof_check.proofs.ConcludedLists.{context_reach}
 use Rattle.proof_check.proofs.deduction.conclude.Goals as goal
 
 pub conclude_in-requires : goal.conclude_in-requires
 conclude_in-requires c =
-    rw (scope_sorts-Outside, hypotheses-Outside, c.as_slice-sorts.ensures, c.as_slice.ensures) (context_reach c.args.theory.now.vocabulary c.args.context.now.sorts c.args.context.now.hyps c.requires)
+    rw (scope_sorts-Outside, hypotheses-Outside, crossed_in-Outside, c.as_slice-sorts.ensures, c.as_slice.ensures) (context_reach c.args.theory.now.vocabulary c.args.context.now.sorts c.args.context.now.hyps c.requires)
 
 pub returns-in_ok-into_boxed-in-Some : goal.returns-in_ok-into_boxed-in-Some
 returns-in_ok-into_boxed-in-Some c =
