@@ -1,7 +1,9 @@
 pub mod Concluded
 pub mod ConcludedOver
 pub mod ConcludedLists
+pub mod Chains
 pub mod Added
 pub mod Marked
 pub mod HypothesesFacts
+pub mod JointFacts
 pub mod Lifts

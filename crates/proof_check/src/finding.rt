@@ -3,7 +3,7 @@ ghost use Rattle.std.specs.Prelude.{ℕ, ◌≡◌, ◌↔◌, List, Some, IsTru
 ghost use Rattle.fof_terms.specs.declared.form.Form.{Form as Formula, Eq, Not, And, Or, Imp, Iff, All, Ex};
 ghost use Rattle.fof_terms.specs.declared.term.Term.{Term as Terms};
 
-use fof_terms::{Form, equal};
+use fof_terms::{Form, SortId, equal};
 use std::alloc::Global;
 use std::marker::Model;
 use tptp_base::{Boxed, Memory};
@@ -200,6 +200,21 @@ impl<'f> Finding<'f> {
                 _ => None,
             },
             Parts::Equivalence(left, _) => Some(Finding::given(left)),
+            _ => None,
+        }
+    }
+
+    /// The sort and the body of what holds for all.
+    pub fn into_body(self) -> Option<(SortId, Finding<'f>)>
+        ensures some { IfSome result (λ parts. self.entry ≡ All parts.0 parts.1) }
+        ensures none { IfNone result ((sort : ℕ) (body : Formula) → self.entry ≡ All sort body → ⊥) }
+    {
+        match self.parts {
+            Parts::Given(Form::All(sort, body)) => Some((*sort, Finding::given(body.get()))),
+            Parts::Made(form) => match form.into_inner() {
+                Form::All(sort, body) => Some((sort, Finding::made(body))),
+                _ => None,
+            },
             _ => None,
         }
     }

@@ -1,11 +1,13 @@
 //! What a proof concludes, and theories that grow by it.
 #![tactic(auto)]
 
+mod chain;
 mod closing;
 mod context;
 mod deduction;
 mod fault;
 mod finding;
+mod joint;
 mod marks;
 mod nodes;
 mod quantifiers;

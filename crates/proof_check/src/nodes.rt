@@ -1,10 +1,13 @@
 // The nodes of proofs. Each has a function of its own, so that a level of a proof takes little stack.
-ghost use Rattle.std.specs.Prelude.{ℕ, ◌≡◌, List, IfOk};
+ghost use Rattle.std.specs.Prelude.{ℕ, ◌≡◌, List, IfOk, IfSome};
+ghost use Rattle.std.specs.Option.{option_map};
 ghost use Rattle.fof_terms.specs.declared.form.Form.{Form as Formula};
 ghost use Rattle.kernel.specs.declared.proof.Proof.{Proof as Deduction, AndI, AndE, OrI, OrE, ImpI, ImpE, NotI, NotE};
 ghost use Rattle.kernel.specs.declared.proof.Proof.{Raa, IffI, IffL, IffR, AllI, AllE, ExI, ExE, Subst, Inhabit};
+ghost use Rattle.proof_check.specs.code.Chains.{joined_form, IsJoinable};
 ghost use Rattle.proof_check.specs.code.Reaching.{Reaches, Shows};
 
+use crate::chain::{Apart, joined, with_term, without_terms};
 use crate::context::Reach;
 use crate::deduction::{all_conclude, conclude_in, over, over_under, under};
 use crate::finding::Shown;
@@ -252,7 +255,7 @@ pub fn all_i<'f>(
     generalized(alloc, sort, shown)
 }
 
-/// The instance of what holds for all.
+/// The instance of what holds for all. A chain of instances is put into one copy.
 #[inline(never)]
 #[cycle(conclude_in)]
 pub fn all_e<'f>(
@@ -264,8 +267,56 @@ pub fn all_e<'f>(
     requires { Reaches reach.now }
     ensures { IfOk result (λ answer. Shows reach.now (AllE term.now part.now) answer) }
 {
-    let shown = conclude_in(alloc, reach, part)?;
-    specialized(alloc, reach.theory, reach.scope, term, &shown)
+    match part {
+        Proof::AllE(_, _) => chained(alloc, reach, part, term),
+        _ => {
+            let shown = conclude_in(alloc, reach, part)?;
+            specialized(alloc, reach.theory, reach.scope, term, &shown)
+        }
+    }
+}
+
+// The same where the part is such an instance too.
+#[inline(never)]
+#[cycle(conclude_in)]
+fn chained<'f>(
+    alloc: Global,
+    reach: &Reach<'f, '_>,
+    part: &'f Proof,
+    term: &Term,
+) -> Result<Shown<'f>, Memory>
+    requires { Reaches reach.now }
+    ensures { IfOk result (λ answer. Shows reach.now (AllE term.now part.now) answer) }
+{
+    let found = chain_of(alloc, reach, part)?;
+    joined(
+        alloc,
+        with_term(alloc, reach.theory, reach.scope, term, found)?,
+    )
+}
+
+// What a chain of instances concludes, the terms still apart.
+#[inline(never)]
+#[cycle(conclude_in)]
+fn chain_of<'f>(
+    alloc: Global,
+    reach: &Reach<'f, '_>,
+    proof: &'f Proof,
+) -> Result<Option<Apart<'f>>, Memory>
+    requires { Reaches reach.now }
+    ensures shown { IfOk result (λ answer. Shows reach.now proof.now (option_map joined_form answer)) }
+    ensures joinable { IfOk result (λ answer. IfSome answer IsJoinable) }
+{
+    match proof {
+        Proof::AllE(term, part) => {
+            let found = chain_of(alloc, reach, part.get())?;
+            with_term(alloc, reach.theory, reach.scope, term.get(), found)
+        }
+        _ => {
+            let shown = conclude_in(alloc, reach, proof)?;
+            Ok(without_terms(alloc, shown))
+        }
+    }
 }
 
 /// That there is one.

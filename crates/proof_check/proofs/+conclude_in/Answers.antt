@@ -86,7 +86,7 @@ deduction::under-returns t c =
     ok_map c.conclude_in.result (λ r k. under_yes c.args.reach.now.theory.now (scope_sorts c.args.reach.now.scope.now) (hypotheses c.args.reach.now.hyps.now) c.args.assumed.now c.args.part.now r fits k) (rw hypotheses-Under at c.conclude_in.ensures)
 
 pub nodes::all_e-specialized-requires : goal.nodes::all_e-specialized-requires
-nodes::all_e-specialized-requires t c = shown_fits c.args.reach.now.theory.now (scope_sorts c.args.reach.now.scope.now) (hypotheses c.args.reach.now.hyps.now) _ _ c.in_ok-shown.ensures
+nodes::all_e-specialized-requires t c = shown_fits c.args.reach.now.theory.now (scope_sorts c.args.reach.now.scope.now) (hypotheses c.args.reach.now.hyps.now) _ _ c.in_ok-shown-in_default.ensures
 
 pub nodes::imp_i-returns : goal.nodes::imp_i-returns
 nodes::imp_i-returns t c = ok_map c.implied.result (λ r k. k c.args.reach.now.theory.now (scope_sorts c.args.reach.now.scope.now) (hypotheses c.args.reach.now.hyps.now) c.args.part.now c.in_ok-shown.ensures) c.implied.ensures
@@ -160,3 +160,6 @@ nodes::and_i-loop-part-preserved t c =
 pub nodes::and_i-returns : goal.nodes::and_i-returns
 nodes::and_i-returns t c = ok_map c.conjoined.result (λ r e. and_i_some c.args.reach.now.theory.now (scope_sorts c.args.reach.now.scope.now) (hypotheses c.args.reach.now.hyps.now) c.args.parts.now (Some c.loop-part.forms) r c.loop-part.forms c.requires.scope_fits
     (found_all c.args.reach.now.theory.now (scope_sorts c.args.reach.now.scope.now) (hypotheses c.args.reach.now.hyps.now) c.args.parts.now c.loop-part.forms (subst (λ ps. AllFound c.args.reach.now.theory.now (scope_sorts c.args.reach.now.scope.now) (hypotheses c.args.reach.now.hyps.now) ps c.loop-part.forms) (take_all c.loop-part.part-index c.args.parts.now c.loop-part-test.false) c.loop-part.invariant)) refl e) c.conjoined.ensures
+
+pub nodes::chain_of-without_terms-requires : goal.nodes::chain_of-without_terms-requires
+nodes::chain_of-without_terms-requires t c = λ a e. (shown_fits c.args.reach.now.theory.now (scope_sorts c.args.reach.now.scope.now) (hypotheses c.args.reach.now.hyps.now) _ _ c.in_ok-shown-in_default.ensures a e).few_binders
