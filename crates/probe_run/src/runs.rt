@@ -2,12 +2,13 @@
 ghost use Rattle.std.specs.Prelude.{◌≡◌, ◌⊎◌, ◌≤◌, ℕ, List, None, IfSome};
 ghost use Rattle.std.specs.declared.option.Option.{Option};
 ghost use Rattle.tptp_base.specs.Count.{Rose};
+ghost use Rattle.read_problems.specs.Ending.{IsAnswer};
+ghost use Rattle.tptp_commands.specs.Made.{files, problem_name};
+ghost use Rattle.tptp_commands.specs.Words.{texts, Verify, Make, Request, IsForm};
 ghost use Rattle.tptp_run.specs.Complete.{MeetsNoFault};
 ghost use Rattle.tptp_run.specs.GoodRuns.{AreGood};
-ghost use Rattle.tptp_run.specs.Made.{files, problem_name};
 ghost use Rattle.tptp_run.specs.OtherFaults.{TakesOtherFault};
-ghost use Rattle.tptp_run.specs.Outcome.{IsAnswer, IsOutcome, IsRefutation, SaysMissing};
-ghost use Rattle.tptp_run.specs.Words.{texts, Verify, Make, Request, IsForm};
+ghost use Rattle.tptp_run.specs.Outcome.{IsOutcome, IsRefutation, SaysMissing};
 
 use crate::{Control, Probe};
 use std::alloc::Global;

@@ -1,11 +1,11 @@
 // What the words of the command line ask for.
 ghost use Rattle.std.specs.Prelude.{◌≡◌, IfSome, IfNone, None};
 ghost use Rattle.std.specs.Option.{option_copied};
-ghost use Rattle.tptp_run.specs.LogName as spec;
-ghost use Rattle.tptp_run.specs.Words.{texts, request_of, Request, IsForm, HaveNoForm};
+ghost use Rattle.tptp_commands.specs.LogName as spec;
+ghost use Rattle.tptp_commands.specs.Words.{texts, request_of, Request, IsForm, HaveNoForm};
 
 use crate::{Control, Probe};
-use tptp_run::{Command, Job, log_name, read_words};
+use tptp_commands::{Command, Job, log_name, read_words};
 
 /// Reads words.
 pub trait Asking {
@@ -45,7 +45,7 @@ impl Asking for Control {
         Some(Command { root, limit, job })
     }
 
-    #[tactic(auto, using(tptp_run::proofs::Requests::one_task))]
+    #[tactic(auto, using(tptp_commands::proofs::Requests::one_task))]
     fn log_name(words: &[String]) -> Option<&str> {
         match read_words(words) {
             Some(

@@ -18,17 +18,19 @@ use Rattle.derivation_check.specs.Checks.{Checks}
 use Rattle.derivation_text.specs.declared.derivation.Derivation.{Derivation}
 use Rattle.verifier.specs.Claim.{is_marked}
 use Rattle.derivation_check.proofs.Ends.{spares}
-use Rattle.tptp_run.specs.CheckedLog.{given_theory}
+use Rattle.read_problems.specs.Given.{given_theory}
 use Rattle.tptp_run.specs.Contradictory.{RefutesAxioms}
-use Rattle.tptp_run.specs.Denoted.{first_vocabulary}
-use Rattle.tptp_run.specs.Ending.{Ending}
+use Rattle.read_problems.specs.Denoted.{first_vocabulary}
+use Rattle.read_problems.specs.Ending.{Ending}
 use Rattle.tptp_run.specs.Ends.{EndsTask, Ends}
-use Rattle.tptp_run.specs.Sources.{given_names, conjecture_marks, entry_marks, has_conjecture, is_of_conjecture}
+use Rattle.read_problems.specs.Sources.{given_names, conjecture_marks, entry_marks, has_conjecture, is_of_conjecture}
 use Rattle.tptp_run.specs.Verifying.{EndsChecked, EndsVerify, SaysDerivation, asked_by}
-use Rattle.tptp_run.specs.Words.{Task, Verify, Request, IsForm}
-use Rattle.tptp_run.specs.declared.run.TheConstants.{TOTAL_SIZE}
-use Rattle.tptp_run.proofs.Headline.{no_include, no_sort, no_derivation, file_read, verified_is}
-use Rattle.tptp_run.proofs.Requests.{one_request}
+use Rattle.tptp_commands.specs.Words.{Task, Verify, Request, IsForm}
+use Rattle.read_problems.specs.declared.refusals.TheConstants.{TOTAL_SIZE}
+use Rattle.read_problems.proofs.NoRefusal.{no_include, no_sort, file_read}
+use Rattle.tptp_commands.proofs.NoDerivation.{no_derivation}
+use Rattle.tptp_run.proofs.Headline.{verified_is}
+use Rattle.tptp_commands.proofs.Requests.{one_request}
 
 one_text : (found : Option (List ℕ)) (text other : List ℕ) → found ≡ Some text → found ≡ Some other → text ≡ other
 one_text found text other first second = cc

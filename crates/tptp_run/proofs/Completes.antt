@@ -9,26 +9,26 @@ use Rattle.sort_check.specs.declared.fault.SortFault.{SortFault}
 use Rattle.sort_check.specs.declared.line.TextKind.TheVariants as kind
 use Rattle.sort_check.specs.Texts.{denoted}
 use Rattle.tptp_run.specs.code.Answer.{with_log, IsAnswerWithLog}
-use Rattle.tptp_run.specs.CheckedLog.{given_theory, IsGiven, SaysLog, EndsCheck}
+use Rattle.read_problems.specs.Given.{given_theory, IsGiven}
+use Rattle.tptp_commands.specs.CheckedLog.{SaysLog, EndsCheck}
 use Rattle.tptp_run.specs.Complete.{IsWellSpelled, IsWellSorted, IsRefutedByLog, MeetsNoFault}
-use Rattle.tptp_run.specs.Denoted.{first_vocabulary}
-use Rattle.tptp_run.specs.Ending.{Ending, AfterFile}
+use Rattle.read_problems.specs.Denoted.{first_vocabulary}
+use Rattle.read_problems.specs.Ending.{Ending, AfterFile, IsAnswer}
 use Rattle.tptp_run.specs.Ends.{EndsTask, Ends}
-use Rattle.tptp_run.specs.Formatted.{EndsFormat}
-use Rattle.tptp_run.specs.Outcome.{IsAnswer}
-use Rattle.tptp_run.specs.Parsed.{EndsParse}
-use Rattle.tptp_run.specs.Refuted.{HasRefutation}
-use Rattle.tptp_run.specs.Words.{Task, Verify, Format, Parse, Check, Make, Model, Request, IsForm}
-use Rattle.tptp_run.specs.declared.run.TheConstants.{TOTAL_SIZE}
-use Rattle.tptp_run.specs.declared.stop.Answer.{Answer}
-use Rattle.tptp_run.proofs.Exact.{log_exact}
+use Rattle.tptp_commands.specs.Formatted.{EndsFormat}
+use Rattle.tptp_commands.specs.Parsed.{EndsParse}
+use Rattle.tptp_commands.specs.Refuted.{HasRefutation}
+use Rattle.tptp_commands.specs.Words.{Task, Verify, Format, Parse, Check, Make, Model, Request, IsForm}
+use Rattle.read_problems.specs.declared.refusals.TheConstants.{TOTAL_SIZE}
+use Rattle.read_problems.specs.declared.stop.Answer.{Answer}
+use Rattle.tptp_commands.proofs.Exact.{log_exact}
 use Rattle.tptp_run.proofs.GoodEnds.{verify_good}
-use Rattle.tptp_run.proofs.Modellings.{model_complete}
-use Rattle.tptp_run.proofs.OneEnding.{parse_counts}
-use Rattle.tptp_run.proofs.OneFormat.{format_writes}
-use Rattle.tptp_run.proofs.OneProblem.{one_given, no_include_fault, one_problem, no_sort_fault}
-use Rattle.tptp_run.proofs.Requests.{one_request}
-use Rattle.tptp_run.proofs.Stages.{if_map}
+use Rattle.tptp_commands.proofs.Modellings.{model_complete}
+use Rattle.tptp_commands.proofs.OneEnding.{parse_counts}
+use Rattle.tptp_commands.proofs.OneFormat.{format_writes}
+use Rattle.read_problems.proofs.OneProblem.{one_given, no_include_fault, one_problem, no_sort_fault}
+use Rattle.tptp_commands.proofs.Requests.{one_request}
+use Rattle.read_problems.proofs.Stages.{if_map}
 
 abbrev status : Ending → ℕ
 status ending = ending.status

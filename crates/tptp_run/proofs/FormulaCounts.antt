@@ -7,13 +7,13 @@ use Rattle.include_resolve.specs.Resolved.{Resolves}
 use Rattle.sort_check.specs.declared.line.Line.{Line}
 use Rattle.sort_check.specs.declared.line.TextKind.TheVariants as kind
 use Rattle.sort_check.specs.Texts.{denoted}
-use Rattle.tptp_run.specs.Denoted.{first_vocabulary}
-use Rattle.tptp_run.specs.Ending.{Ending}
+use Rattle.read_problems.specs.Denoted.{first_vocabulary}
+use Rattle.read_problems.specs.Ending.{Ending}
 use Rattle.tptp_run.specs.Ends.{EndsTask, Ends}
-use Rattle.tptp_run.specs.Parsed.{counted, formula_count}
-use Rattle.tptp_run.specs.Words.{Task, Parse, Request, IsForm}
-use Rattle.tptp_run.proofs.OneEnding.{parse_counts}
-use Rattle.tptp_run.proofs.Requests.{one_root, one_task}
+use Rattle.tptp_commands.specs.Parsed.{counted, formula_count}
+use Rattle.tptp_commands.specs.Words.{Task, Parse, Request, IsForm}
+use Rattle.tptp_commands.proofs.OneEnding.{parse_counts}
+use Rattle.tptp_commands.proofs.Requests.{one_root, one_task}
 
 pub run_counts : (files : Files) (words : List (List ℕ)) (request : Request) (file : List ℕ) (problem : Problem) (lines : List Line) (v : Vocabulary) (ending : Ending) → Ends files words ending → IsForm words request → request.task ≡ Parse file
     → Resolves (Some files) request.root file (Ok problem) → denoted problem.items first_vocabulary kind.Problem ≡ Ok (lines, v) → ending ≡ counted (formula_count problem.items)

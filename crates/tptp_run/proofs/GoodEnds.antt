@@ -10,22 +10,21 @@ use Rattle.derivation_check.proofs.Ends.{good_not_stopped, good_verified}
 use Rattle.derivation_text.specs.declared.derivation.Derivation.{Derivation}
 use Rattle.derivation_text.proofs.OneDerivation.{one_derivation, derivation_wants}
 use Rattle.tptp_run.specs.code.Answer.{with_log, IsAnswerWithLog}
-use Rattle.tptp_run.specs.CheckedLog.{given_theory}
-use Rattle.tptp_run.specs.Denoted.{AfterDenoted}
-use Rattle.tptp_run.specs.Ending.{Ending, AfterFile}
+use Rattle.read_problems.specs.Given.{given_theory}
+use Rattle.read_problems.specs.Denoted.{AfterDenoted}
+use Rattle.read_problems.specs.Ending.{Ending, AfterFile, IsAnswer}
 use Rattle.tptp_run.specs.Ends.{EndsTask, Ends}
 use Rattle.tptp_run.specs.GoodRuns.{AreGood, IsGoodText}
-use Rattle.tptp_run.specs.Outcome.{IsAnswer}
-use Rattle.tptp_run.specs.Sources.{given_names, conjecture_marks, has_conjecture}
+use Rattle.read_problems.specs.Sources.{given_names, conjecture_marks, has_conjecture}
 use Rattle.tptp_run.specs.Verifying.{EndsVerify, SaysDerivation, asked_by, status_of}
-use Rattle.tptp_run.specs.Words.{Task, Verify, Request, IsForm}
-use Rattle.tptp_run.specs.declared.run.TheConstants.{TOTAL_SIZE}
-use Rattle.tptp_run.specs.declared.stop.Answer.{Answer}
-use Rattle.tptp_run.proofs.MarksFit.{marks_fit}
-use Rattle.tptp_run.proofs.OneProblem.{no_include_fault, no_sort_fault, one_meaning, one_problem}
+use Rattle.tptp_commands.specs.Words.{Task, Verify, Request, IsForm}
+use Rattle.read_problems.specs.declared.refusals.TheConstants.{TOTAL_SIZE}
+use Rattle.read_problems.specs.declared.stop.Answer.{Answer}
+use Rattle.read_problems.proofs.MarksFit.{marks_fit}
+use Rattle.read_problems.proofs.OneProblem.{no_include_fault, no_sort_fault, one_meaning, one_problem}
 use Rattle.tptp_run.proofs.OneVerify.{want_unsaid}
-use Rattle.tptp_run.proofs.Requests.{one_request}
-use Rattle.tptp_run.proofs.Stages.{if_map}
+use Rattle.tptp_commands.proofs.Requests.{one_request}
+use Rattle.read_problems.proofs.Stages.{if_map}
 
 module _ (problem file : List ℕ) (limit : ℕ) (lines : List Line) (v : Vocabulary) (text : List ℕ) (ending : Ending) (good : IsGoodText problem limit lines v text) where
   text_good : SaysDerivation problem file limit (given_theory lines v) (given_names lines) (conjecture_marks lines) (has_conjecture lines) text ending → ending.status ≡ 0

@@ -1,25 +1,10 @@
 -- A run that ends with status 0 has logged a refutation of its problem.
-use Rattle.std.proofs.Common.{◌≡◌, inl, inr, ℕ, suc, ◌-◌, Bool, true, false, List, [], codes, Option, None, Some, IfSome, refl, sym, ◌∙◌, ap, subst, arith}
+use Rattle.std.proofs.Common.{◌≡◌, inl, inr, ℕ, ◌-◌, Bool, true, false, List, [], codes, Option, None, Some, IfSome, refl, sym, ◌∙◌, ap, subst, arith}
 use Rattle.std.specs.Io.KnownBytes.{append_known}
 use Rattle.tptp_base.specs.Sink.{Takes}
 use Rattle.tptp_base.specs.Store.{Files, file_at}
 use Rattle.kernel.specs.Statements.{Statements}
 use Rattle.fof_terms.specs.Vocabulary.{Vocabulary}
-use Rattle.include_resolve.specs.declared.fault.IncludeFault.{IncludeFault}
-use Rattle.include_resolve.specs.declared.fault.IncludeFault.TheVariants as included
-use Rattle.include_resolve.specs.declared.fault.TextFault.{TextFault}
-use Rattle.include_resolve.specs.declared.fault.TextFault.TheVariants.{Lex, Grammar}
-use Rattle.sort_check.specs.declared.fault.SortFault.{SortFault}
-use Rattle.sort_check.specs.declared.fault.SortFault.TheVariants as sorted
-use Rattle.sort_check.specs.declared.fault.SortRule.{SortRule}
-use Rattle.sort_check.specs.declared.fault.SortRule.TheVariants as rule
-use Rattle.tptp_lexer.specs.declared.fault.LexFault.{LexFault}
-use Rattle.tptp_lexer.specs.declared.fault.LexFault.TheVariants as lexed
-use Rattle.tptp_grammar.specs.declared.fault.GrammarFault.{GrammarFault}
-use Rattle.tptp_grammar.specs.declared.fault.GrammarFault.TheVariants as parsed
-use Rattle.tstp_graph.specs.declared.fault.GraphFault.{GraphFault}
-use Rattle.tstp_graph.specs.declared.fault.GraphFault.TheVariants as graph
-use Rattle.derivation_text.specs.declared.fault.DerivationFault.{DerivationFault}
 use Rattle.derivation_text.specs.declared.fault.DerivationFault.TheVariants as derived
 use Rattle.derivation_text.specs.declared.derivation.Derivation.{Derivation}
 use Rattle.derivation_check.specs.Cases.{Asked}
@@ -28,96 +13,21 @@ use Rattle.sort_check.specs.Bringing.{Brings}
 use Rattle.derivation_text.proofs.Bringing.{derivation_brings}
 use Rattle.derivation_check.proofs.Ends.{refutes_logged}
 use Rattle.tptp_run.specs.code.Answer.{with_log, IsAnswerWithLog}
-use Rattle.tptp_run.specs.CheckedLog.{given_theory, IsGiven}
-use Rattle.tptp_run.specs.Denoted.{SaysIncludeFault, SaysTextFault, SaysSortFault, rule_status}
-use Rattle.tptp_run.specs.Derived.{SaysDerivationFault, SaysGraphFault, SaysLineFault}
-use Rattle.tptp_run.specs.Ending.{Ending, says, AfterFile}
+use Rattle.read_problems.specs.Given.{given_theory, IsGiven}
+use Rattle.read_problems.specs.Ending.{Ending, says}
 use Rattle.tptp_run.specs.Ends.{EndsTask, Ends}
-use Rattle.tptp_run.specs.Made as made
+use Rattle.tptp_commands.specs.Made as made
 use Rattle.tptp_run.specs.Making.{EndsMake}
 use Rattle.tptp_run.specs.Outcome.{IsRefutation}
-use Rattle.tptp_run.specs.Spelled.{SaysLexFault, SaysGrammarFault}
-use Rattle.tptp_run.specs.Sources.{given_names, conjecture_marks, has_conjecture}
+use Rattle.read_problems.specs.Sources.{given_names, conjecture_marks, has_conjecture}
 use Rattle.tptp_run.specs.Verifying.{EndsChecked, EndsVerify, SaysDerivation, asked_by, status_of}
-use Rattle.tptp_run.specs.Words.{Task, Verify, Format, Parse, Check, Make, Model, Request, IsForm}
-use Rattle.tptp_run.specs.declared.run.TheConstants.{TOTAL_SIZE}
-use Rattle.tptp_run.specs.declared.stop.Answer.{Answer}
-use Rattle.tptp_run.proofs.Requests.{one_request}
-use Rattle.tptp_run.proofs.Stages.{if_map}
-
--- ---- an ending of status 0 is no refusal
-
-pub no_refusal : {T : Type 0} (ending : Ending) (status : ℕ) (out : List ℕ) → ending.status ≡ 0 → ending ≡ says (suc status) out → T
-no_refusal ending status out zero is = absurd (omega (arith, zero, ap (λ (e : Ending). e.status) is))
-
-no_rule : {T : Type 0} (ending : Ending) (r : SortRule) (out : List ℕ) → ending.status ≡ 0 → ending ≡ says (rule_status r) out → T
-no_rule ending rule.FreeVariable out zero is = no_refusal ending 2 out zero is
-no_rule ending rule.Arity out zero is = no_refusal ending 2 out zero is
-no_rule ending rule.WrongSort out zero is = no_refusal ending 2 out zero is
-no_rule ending rule.Redeclared out zero is = no_refusal ending 2 out zero is
-no_rule ending rule.UnknownSort out zero is = no_refusal ending 2 out zero is
-no_rule ending rule.NotTyped out zero is = no_refusal ending 2 out zero is
-no_rule ending rule.TwoConjectures out zero is = no_refusal ending 2 out zero is
-no_rule ending rule.Variables out zero is = no_refusal ending 6 out zero is
-no_rule ending (rule.Limit limit) out zero is = no_refusal ending 6 out zero is
-
-pub no_lex : {T : Type 0} (name : List ℕ) (fault : LexFault) (ending : Ending) → ending.status ≡ 0 → SaysLexFault name fault ending → T
-no_lex name (lexed.Byte place) ending zero says = no_refusal ending 2 _ zero says
-no_lex name (lexed.Unfinished place) ending zero says = no_refusal ending 2 _ zero says
-no_lex name (lexed.Limit limit) ending zero says = no_refusal ending 6 _ zero says
-no_lex name lexed.Memory ending zero says = absurd says
-
-pub no_grammar : {T : Type 0} (name : List ℕ) (fault : GrammarFault) (ending : Ending) → ending.status ≡ 0 → SaysGrammarFault name fault ending → T
-no_grammar name (parsed.Token place) ending zero says = no_refusal ending 2 _ zero says
-no_grammar name (parsed.Profile place) ending zero says = no_refusal ending 2 _ zero says
-no_grammar name (parsed.End place) ending zero says = no_refusal ending 2 _ zero says
-no_grammar name (parsed.Deep place) ending zero says = no_refusal ending 6 _ zero says
-no_grammar name parsed.Memory ending zero says = absurd says
-
-no_text : {T : Type 0} (name : List ℕ) (fault : TextFault) (ending : Ending) → ending.status ≡ 0 → SaysTextFault name fault ending → T
-no_text name (Lex fault) ending zero says = no_lex name fault ending zero says
-no_text name (Grammar fault) ending zero says = no_grammar name fault ending zero says
-
-pub no_include : {T : Type 0} (fault : IncludeFault) (ending : Ending) → ending.status ≡ 0 → SaysIncludeFault fault ending → T
-no_include (included.Missing name) ending zero says = no_refusal ending 2 _ zero says
-no_include (included.Cycle name) ending zero says = no_refusal ending 2 _ zero says
-no_include (included.DeepInclude name) ending zero says = no_refusal ending 6 _ zero says
-no_include (included.UnknownSelection file name) ending zero says = no_refusal ending 2 _ zero says
-no_include (included.Text file fault) ending zero says = no_text file fault ending zero says
-no_include (included.Limit file limit) ending zero says = no_refusal ending 6 _ zero says
-no_include included.Store ending zero says = absurd says
-no_include included.Memory ending zero says = absurd says
-
-pub no_sort : {T : Type 0} (files : List (List ℕ)) (fault : SortFault) (ending : Ending) → ending.status ≡ 0 → SaysSortFault files fault ending → T
-no_sort files (sorted.Line r place name) ending zero says = no_rule ending r _ zero says
-no_sort files sorted.Memory ending zero says = absurd says
-
-no_line : {T : Type 0} (file : List ℕ) (fault : SortFault) (ending : Ending) → ending.status ≡ 0 → SaysLineFault file fault ending → T
-no_line file (sorted.Line r place name) ending zero says = no_rule ending r _ zero says
-no_line file sorted.Memory ending zero says = absurd says
-
-no_graph : {T : Type 0} (file : List ℕ) (fault : GraphFault) (ending : Ending) → ending.status ≡ 0 → SaysGraphFault file fault ending → T
-no_graph file (graph.UnknownParent place name parent) ending zero says = no_refusal ending 2 _ zero says
-no_graph file (graph.DuplicateLine place name) ending zero says = no_refusal ending 2 _ zero says
-no_graph file (graph.Cycle place name) ending zero says = no_refusal ending 2 _ zero says
-no_graph file (graph.BadSource place name) ending zero says = no_refusal ending 2 _ zero says
-no_graph file (graph.Include place) ending zero says = no_refusal ending 2 _ zero says
-no_graph file (graph.Limit limit) ending zero says = no_refusal ending 6 _ zero says
-no_graph file graph.Memory ending zero says = absurd says
-
-pub no_derivation : {T : Type 0} (file : List ℕ) (fault : DerivationFault) (ending : Ending) → ending.status ≡ 0 → SaysDerivationFault file fault ending → T
-no_derivation file (derived.Lex fault) ending zero says = no_lex file fault ending zero says
-no_derivation file (derived.Grammar fault) ending zero says = no_grammar file fault ending zero says
-no_derivation file (derived.Graph fault) ending zero says = no_graph file fault ending zero says
-no_derivation file (derived.Sort fault) ending zero says = no_line file fault ending zero says
-no_derivation file derived.Memory ending zero says = absurd says
-
-pub file_read : (files : Files) (name : List ℕ) (budget : ℕ) (Rest : List ℕ → Ending → Type 0) (ending : Ending) → ending.status ≡ 0 → AfterFile files name budget Rest ending → (text : List ℕ) × (file_at files name ≡ Some text) × Rest text ending
-file_read files name budget Rest ending zero after = go (file_at files name) refl
-  where
-    go : (found : Option (List ℕ)) → file_at files name ≡ found → (text : List ℕ) × (file_at files name ≡ Some text) × Rest text ending
-    go None is = no_refusal ending 2 _ zero (after.missing is)
-    go (Some text) is = (text, is, after.read text is (λ limit over. no_refusal ending 6 _ zero (after.limit limit text is over)))
+use Rattle.tptp_commands.specs.Words.{Task, Verify, Format, Parse, Check, Make, Model, Request, IsForm}
+use Rattle.read_problems.specs.declared.refusals.TheConstants.{TOTAL_SIZE}
+use Rattle.read_problems.specs.declared.stop.Answer.{Answer}
+use Rattle.tptp_commands.proofs.Requests.{one_request}
+use Rattle.read_problems.proofs.Stages.{if_map}
+use Rattle.read_problems.proofs.NoRefusal.{no_include, no_sort, file_read}
+use Rattle.tptp_commands.proofs.NoDerivation.{no_derivation}
 
 -- ---- the command
 

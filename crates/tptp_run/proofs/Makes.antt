@@ -1,5 +1,5 @@
 -- How the command `make` ends, by what it meets in turn.
-use Rattle.std.proofs.Common.{◌≡◌, inl, inr, ℕ, ◌+◌, Bool, true, List, [], ◌++◌, Option, None, Some, IfSome, Result, Ok, Err, refl, sym, ◌∙◌, ap, subst, arith, add-one}
+use Rattle.std.proofs.Common.{◌≡◌, inl, inr, ℕ, Bool, true, List, Option, None, Some, IfSome, Result, Ok, Err, sym, ◌∙◌, ap, subst, arith}
 use Rattle.tptp_base.specs.Store.{Files}
 use Rattle.tptp_base.specs.declared.name.Name.{Name}
 use Rattle.fof_terms.specs.Vocabulary.{Vocabulary}
@@ -10,29 +10,23 @@ use Rattle.derivation_check.specs.Logs.{TakesSomeOfLog}
 use Rattle.derivation_check.specs.declared.checking.Report.{Report}
 use Rattle.derivation_text.specs.Derivations.{IsDerivation}
 use Rattle.derivation_text.specs.declared.derivation.Derivation.{Derivation}
-use Rattle.tptp_run.specs.CheckedLog.{given_theory}
-use Rattle.tptp_run.specs.Ending.{Ending, says}
+use Rattle.read_problems.specs.Given.{given_theory}
+use Rattle.read_problems.specs.Ending.{Ending, says, IsAnswer}
 use Rattle.tptp_run.specs.Ends as Said
-use Rattle.tptp_run.specs.Made.{below, files, problem_name, derivation, summary}
+use Rattle.tptp_commands.specs.Made.{files, problem_name, derivation, summary}
 use Rattle.tptp_run.specs.Making.{EndsMake}
-use Rattle.tptp_run.specs.Outcome.{IsAnswer, TakesSomeOfProblemLog, TakesSomeOfTaskLog, TakesSomeOfRunLog}
-use Rattle.tptp_run.specs.Sources.{given_names, conjecture_marks, has_conjecture}
+use Rattle.tptp_run.specs.Outcome.{TakesSomeOfProblemLog, TakesSomeOfTaskLog, TakesSomeOfRunLog}
+use Rattle.read_problems.specs.Sources.{given_names, conjecture_marks, has_conjecture, IsSource}
 use Rattle.tptp_run.specs.Verifying.{asked_by}
-use Rattle.tptp_run.specs.Words.{Task, Make, Request, IsForm}
-use Rattle.tptp_run.specs.code.Answer.{ending_of, with_log, IsAnswerWithLog}
+use Rattle.tptp_commands.specs.Words.{Task, Make, Request, IsForm}
+use Rattle.read_problems.specs.Answer.{ending_of}
+use Rattle.tptp_run.specs.code.Answer.{with_log, IsAnswerWithLog}
 use Rattle.tptp_run.specs.code.Making.{IsReportOn, IsWhole}
-use Rattle.tptp_run.specs.code.Sources.{IsSource}
-use Rattle.tptp_run.specs.code.Stop.{IfAnswer}
-use Rattle.tptp_run.specs.declared.sources.Source.{Source}
-use Rattle.tptp_run.specs.declared.stop.Answer.{Answer}
-use Rattle.tptp_run.specs.declared.stop.Halt.{Halt}
-use Rattle.tptp_run.specs.declared.stop.Halt.TheVariants.{Refused, Stopped}
-
--- ---- the texts
-
--- one more line
-pub below_more : (text : ℕ → List ℕ) (n : ℕ) (lines more all : List ℕ) → lines ≡ below n text → more ≡ text n → all ≡ lines ++ more → all ≡ below (n + 1) text
-below_more text n lines more all so_far line joined = rw (joined, so_far, line, add-one) refl
+use Rattle.read_problems.specs.Stop.{IfAnswer}
+use Rattle.read_problems.specs.declared.sources.Source.{Source}
+use Rattle.read_problems.specs.declared.stop.Answer.{Answer}
+use Rattle.read_problems.specs.declared.stop.Halt.{Halt}
+use Rattle.read_problems.specs.declared.stop.Halt.TheVariants.{Refused, Stopped}
 
 -- ---- the problem
 

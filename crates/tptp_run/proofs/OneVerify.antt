@@ -18,17 +18,17 @@ use Rattle.derivation_text.specs.Wants.{IsWant}
 use Rattle.derivation_text.proofs.OneDerivation.{one_derivation, one_first_fault, derivation_wants}
 use Rattle.derivation_check.specs.Cases.{Asked}
 use Rattle.kernel.specs.Statements.{Statements}
-use Rattle.tptp_run.specs.CheckedLog.{given_theory}
-use Rattle.tptp_run.specs.Denoted.{SaysSortFault, SaysIncludeFault, AfterDenoted}
-use Rattle.tptp_run.specs.Derived.{SaysGraphFault, SaysLineFault, SaysDerivationFault}
-use Rattle.tptp_run.specs.Ending.{Ending, AfterFile}
-use Rattle.tptp_run.specs.Sources.{given_names, conjecture_marks, has_conjecture}
-use Rattle.tptp_run.specs.Spelled.{SaysLexFault, SaysGrammarFault}
+use Rattle.read_problems.specs.Given.{given_theory}
+use Rattle.read_problems.specs.Denoted.{SaysSortFault, SaysIncludeFault, AfterDenoted}
+use Rattle.tptp_commands.specs.Derived.{SaysGraphFault, SaysLineFault, SaysDerivationFault}
+use Rattle.read_problems.specs.Ending.{Ending, AfterFile}
+use Rattle.read_problems.specs.Sources.{given_names, conjecture_marks, has_conjecture}
+use Rattle.read_problems.specs.Spelled.{SaysLexFault, SaysGrammarFault}
 use Rattle.tptp_run.specs.Verifying.{AreOfRuns, EndsRun, EndsVerify, SaysDerivation, asked_by}
-use Rattle.tptp_run.specs.declared.run.TheConstants.{TOTAL_SIZE}
-use Rattle.tptp_run.proofs.OneEnding.{one_lex_said, one_grammar_said, one_include_said, one_sort_said}
-use Rattle.tptp_run.proofs.OneFormat.{over_or_not}
-use Rattle.tptp_run.proofs.OneProblem.{one_meaning, one_sort_fault, no_sort_fault, one_problem, one_include_fault, no_include_fault}
+use Rattle.read_problems.specs.declared.refusals.TheConstants.{TOTAL_SIZE}
+use Rattle.tptp_commands.proofs.OneEnding.{one_lex_said, one_grammar_said, one_include_said, one_sort_said}
+use Rattle.tptp_commands.proofs.OneFormat.{over_or_not}
+use Rattle.read_problems.proofs.OneProblem.{one_meaning, one_sort_fault, no_sort_fault, one_problem, one_include_fault, no_include_fault}
 
 -- the same status, and the same text on out
 abbrev pub SaySame : Ending → Ending → Type 0

@@ -15,28 +15,27 @@ use Rattle.derivation_check.specs.Logs.{ChecksWithLog, StopsWithLog, TakesSomeOf
 use Rattle.derivation_check.specs.declared.checking.Report.{Report}
 use Rattle.derivation_text.specs.Derivations.{IsDerivation}
 use Rattle.derivation_text.specs.declared.derivation.Derivation.{Derivation}
-use Rattle.tptp_run.specs.code.Answer.{ending_of, with_log, IsAnswerWithLog}
-use Rattle.tptp_run.specs.CheckedLog.{given_theory}
-use Rattle.tptp_run.specs.Denoted.{IsProblemRefusal}
-use Rattle.tptp_run.specs.Derived.{IsDerivationRefusal}
-use Rattle.tptp_run.specs.Ending.{Ending, AfterFile}
-use Rattle.tptp_run.specs.code.Ending.{IsReadRefusal}
+use Rattle.read_problems.specs.Answer.{ending_of}
+use Rattle.tptp_run.specs.code.Answer.{with_log, IsAnswerWithLog}
+use Rattle.read_problems.specs.Given.{given_theory}
+use Rattle.read_problems.specs.Denoted.{IsProblemRefusal}
+use Rattle.tptp_commands.specs.Derived.{IsDerivationRefusal}
+use Rattle.read_problems.specs.Ending.{Ending, AfterFile, IsReadRefusal}
 use Rattle.tptp_run.specs.Ends as Said
 use Rattle.tptp_run.specs.Outcome.{TakesSomeOfProblemLog, TakesSomeOfTaskLog, TakesSomeOfRunLog}
 use Rattle.tptp_run.specs.code.Rooms.{SaysLacking}
-use Rattle.tptp_run.specs.code.Sources.{IsSource}
-use Rattle.tptp_run.specs.Sources.{given_names, conjecture_marks, has_conjecture}
-use Rattle.tptp_run.specs.code.Stop.{HasCause, IfAnswer, IfRefused, IfStopped}
+use Rattle.read_problems.specs.Sources.{IsSource, given_names, conjecture_marks, has_conjecture}
+use Rattle.read_problems.specs.Stop.{HasCause, IfAnswer, IfRefused, IfStopped}
 use Rattle.tptp_run.specs.Verifying.{EndsRun, EndsVerify, SaysDerivation, asked_by, status_of}
-use Rattle.tptp_run.specs.Words.{Task, Verify, Request, IsForm}
-use Rattle.tptp_run.specs.declared.run.TheConstants.{TOTAL_SIZE}
-use Rattle.tptp_run.specs.declared.sources.Source.{Source}
-use Rattle.tptp_run.specs.declared.stop.Answer.{Answer}
-use Rattle.tptp_run.specs.declared.stop.Halt.{Halt}
-use Rattle.tptp_run.specs.declared.stop.Halt.TheVariants.{Refused, Stopped}
-use Rattle.tptp_run.specs.declared.stop.Stop.{Stop}
-use Rattle.tptp_run.specs.declared.stop.Stop.TheVariants.{Store, Sink, Memory}
-use Rattle.tptp_run.proofs.Stages.{after_read, after_refused, if_told, if_map}
+use Rattle.tptp_commands.specs.Words.{Task, Verify, Request, IsForm}
+use Rattle.read_problems.specs.declared.refusals.TheConstants.{TOTAL_SIZE}
+use Rattle.read_problems.specs.declared.sources.Source.{Source}
+use Rattle.read_problems.specs.declared.stop.Answer.{Answer}
+use Rattle.read_problems.specs.declared.stop.Halt.{Halt}
+use Rattle.read_problems.specs.declared.stop.Halt.TheVariants.{Refused, Stopped}
+use Rattle.read_problems.specs.declared.stop.Stop.{Stop}
+use Rattle.read_problems.specs.declared.stop.Stop.TheVariants.{Store, Sink, Memory}
+use Rattle.read_problems.proofs.Stages.{after_read, after_refused, if_told, if_map}
 
 -- ---- the report
 

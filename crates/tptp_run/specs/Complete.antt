@@ -4,12 +4,12 @@ use Rattle.std.specs.declared.option.Option.{Option}
 use Rattle.tptp_base.specs.declared.item.Item.{Item}
 use Rattle.tptp_base.specs.Store.{Files, file_at}
 use Rattle.kernel.specs.Statements.{Statements}
-use Rattle.tptp_run.specs.CheckedLog.{IsGiven}
+use Rattle.read_problems.specs.Given.{IsGiven}
 use Rattle.tptp_run.specs.GoodRuns.{AreGood}
-use Rattle.tptp_run.specs.Refuted.{IsInBudget, HasRefutation}
-use Rattle.tptp_run.specs.Spelled.{SpellsItems}
-use Rattle.tptp_run.specs.Modelling.{IsModelled}
-use Rattle.tptp_run.specs.Words.{Task, Verify, Format, Parse, Check, Make, Model}
+use Rattle.tptp_commands.specs.Refuted.{IsInBudget, HasRefutation}
+use Rattle.read_problems.specs.Spelled.{SpellsItems}
+use Rattle.tptp_commands.specs.Modelling.{IsModelled}
+use Rattle.tptp_commands.specs.Words.{Task, Verify, Format, Parse, Check, Make, Model}
 
 -- The file has a text within the limits that spells items.
 pub record IsWellSpelled (files : Files) (file : List ℕ) : Type 0 where

@@ -12,9 +12,9 @@ use Rattle.sort_check.specs.declared.line.Line.{Line}
 use Rattle.sort_check.specs.Given.{given_entries}
 use Rattle.sort_check.specs.Texts.{denoted}
 use Rattle.verifier.specs.Citing.{DoNotCite}
-use Rattle.tptp_run.specs.CheckedLog.{given_theory}
-use Rattle.tptp_run.specs.Denoted.{first_vocabulary}
-use Rattle.tptp_run.specs.Sources.{is_of_conjecture}
+use Rattle.read_problems.specs.Given.{given_theory}
+use Rattle.read_problems.specs.Denoted.{first_vocabulary}
+use Rattle.read_problems.specs.Sources.{is_of_conjecture}
 use Rattle.sort_check.specs.declared.line.TextKind.TheVariants as kind
 
 -- The log is the text of entries that refute what the problem in the file gives, and no entry cites a given formula of

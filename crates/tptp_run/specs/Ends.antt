@@ -2,14 +2,14 @@
 use Rattle.std.specs.Prelude.{◌≡◌, ◌⊎◌, ℕ, List}
 use Rattle.std.specs.declared.option.Option.{Option}
 use Rattle.tptp_base.specs.Store.{Files}
-use Rattle.tptp_run.specs.CheckedLog.{EndsCheck}
-use Rattle.tptp_run.specs.Ending.{Ending, says}
-use Rattle.tptp_run.specs.Formatted.{EndsFormat}
+use Rattle.tptp_commands.specs.CheckedLog.{EndsCheck}
+use Rattle.read_problems.specs.Ending.{Ending, says}
+use Rattle.tptp_commands.specs.Formatted.{EndsFormat}
 use Rattle.tptp_run.specs.Making.{EndsMake}
-use Rattle.tptp_run.specs.Modelled.{EndsModel}
-use Rattle.tptp_run.specs.Parsed.{EndsParse}
+use Rattle.tptp_commands.specs.Modelled.{EndsModel}
+use Rattle.tptp_commands.specs.Parsed.{EndsParse}
 use Rattle.tptp_run.specs.Verifying.{EndsVerify}
-use Rattle.tptp_run.specs.Words.{Task, Verify, Format, Parse, Check, Make, Model, Request, IsForm, HaveNoForm}
+use Rattle.tptp_commands.specs.Words.{Task, Verify, Format, Parse, Check, Make, Model, Request, IsForm, HaveNoForm}
 use Rattle.tptp_run.specs.declared.run.TheConstants.{USAGE}
 
 -- how each task ends, where included files are looked for in the root too, and a search keeps so many clauses at most

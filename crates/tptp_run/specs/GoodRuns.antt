@@ -14,10 +14,10 @@ use Rattle.sort_check.specs.Texts.{denoted}
 use Rattle.derivation_check.specs.GoodCases.{IsGoodCase}
 use Rattle.derivation_text.specs.Derivations.{IsDerivation}
 use Rattle.derivation_text.specs.declared.derivation.Derivation.{Derivation}
-use Rattle.tptp_run.specs.CheckedLog.{given_theory}
-use Rattle.tptp_run.specs.Denoted.{first_vocabulary}
-use Rattle.tptp_run.specs.Refuted.{IsInBudget}
-use Rattle.tptp_run.specs.Sources.{given_names, conjecture_marks, has_conjecture}
+use Rattle.read_problems.specs.Given.{given_theory}
+use Rattle.read_problems.specs.Denoted.{first_vocabulary}
+use Rattle.tptp_commands.specs.Refuted.{IsInBudget}
+use Rattle.read_problems.specs.Sources.{given_names, conjecture_marks, has_conjecture}
 use Rattle.tptp_run.specs.Verifying.{asked_by}
 
 -- The text is a derivation from what these lines of a problem give, and a good one.

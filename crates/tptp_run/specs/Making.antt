@@ -10,11 +10,11 @@ use Rattle.derivation_check.specs.Checks.{Checks}
 use Rattle.derivation_check.specs.Counts.{is_norm, is_resolution}
 use Rattle.derivation_text.specs.Derivations.{IsDerivation}
 use Rattle.derivation_text.specs.declared.derivation.Derivation.{Derivation}
-use Rattle.tptp_run.specs.CheckedLog.{given_theory}
-use Rattle.tptp_run.specs.Denoted.{first_vocabulary}
-use Rattle.tptp_run.specs.Ending.{Ending}
-use Rattle.tptp_run.specs.Made.{files, problem_name, derivation, summary}
-use Rattle.tptp_run.specs.Sources.{given_names, conjecture_marks, has_conjecture}
+use Rattle.read_problems.specs.Given.{given_theory}
+use Rattle.read_problems.specs.Denoted.{first_vocabulary}
+use Rattle.read_problems.specs.Ending.{Ending}
+use Rattle.tptp_commands.specs.Made.{files, problem_name, derivation, summary}
+use Rattle.read_problems.specs.Sources.{given_names, conjecture_marks, has_conjecture}
 use Rattle.tptp_run.specs.Verifying.{asked_by}
 
 -- The made problem resolves and denotes, the made text is a derivation from what it gives, and a check with this limit

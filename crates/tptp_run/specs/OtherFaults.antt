@@ -1,54 +1,12 @@
--- What status 3 says other than that a file is missing.
-use Rattle.std.specs.Prelude.{◌≡◌, ◌⊎◌, ℕ, List, Ok, Err}
+-- What status 3 says of a run other than that a file is missing.
+use Rattle.std.specs.Prelude.{◌⊎◌, ℕ, List}
 use Rattle.std.specs.declared.option.Option.{Option}
-use Rattle.tptp_base.specs.declared.name.Name.{Name}
 use Rattle.tptp_base.specs.Sink.{Takes}
-use Rattle.tptp_base.specs.Store.{HasFile, Files}
-use Rattle.fof_terms.specs.Vocabulary.{Vocabulary}
-use Rattle.include_resolve.specs.declared.fault.IncludeFault.{IncludeFault}
-use Rattle.include_resolve.specs.declared.fault.IncludeFault.TheVariants.{Missing}
-use Rattle.include_resolve.specs.declared.problem.Problem.{Problem}
-use Rattle.include_resolve.specs.Resolved.{Resolves}
-use Rattle.sort_check.specs.declared.fault.SortFault.{SortFault}
-use Rattle.sort_check.specs.declared.line.Line.{Line}
-use Rattle.sort_check.specs.Texts.{denoted}
-use Rattle.tptp_run.specs.Denoted.{first_vocabulary, SaysIncludeFault, SaysSortFault}
-use Rattle.tptp_run.specs.Derived.{IsDerivationRefusal}
-use Rattle.tptp_run.specs.Ending.{Ending}
-use Rattle.tptp_run.specs.Modelled.{IsModelRefusal}
-use Rattle.tptp_run.specs.Sources.{given_names}
-use Rattle.tptp_run.specs.Spelled.{IsTextRefusal}
-use Rattle.tptp_run.specs.Words.{Task, Verify, Format, Parse, Check, Make, Model, Request, IsForm}
-use Rattle.sort_check.specs.declared.line.TextKind.TheVariants as kind
-
--- the first fault on the walk through the problem's files is another than a missing file, and it is said
-abbrev pub SaysWalkFault : Option Files → Option (List ℕ) → List ℕ → Ending → Type 0
-SaysWalkFault told root file ending = (fault : IncludeFault) × Resolves told root file (Err fault) × ((written : List ℕ) → fault ≡ Missing written → ⊥) × SaysIncludeFault fault ending
-
--- that fault is said, or the problem's first fault against the rules of sorts
-abbrev pub SaysProblemFault : Option Files → Option (List ℕ) → List ℕ → Ending → Type 0
-SaysProblemFault told root file ending = SaysWalkFault told root file ending
-    ⊎ ((problem : Problem) × Resolves told root file (Ok problem) × ((fault : SortFault) × (denoted problem.items first_vocabulary kind.Problem ≡ Err fault) × SaysSortFault problem.files fault ending))
-
--- the first fault of the text of the file is said
-abbrev pub SaysFileFault : Option Files → List ℕ → Ending → Type 0
-SaysFileFault told file ending = (text : List ℕ) × HasFile told file (λ bytes. bytes ≡ text) × IsTextRefusal file text ending
-
--- the first fault of the derivation in the file is said, from given formulas of these names
-abbrev pub SaysLinesFault : Option Files → List ℕ → List Name → Vocabulary → Ending → Type 0
-SaysLinesFault told file given v ending = (text : List ℕ) × HasFile told file (λ bytes. bytes ≡ text) × IsDerivationRefusal file text given v ending
-
--- the same, from what the problem gives
-abbrev pub SaysDerivedFault : Option Files → Option (List ℕ) → List ℕ → List ℕ → Ending → Type 0
-SaysDerivedFault told root problem file ending = (whole : Problem) × (lines : List Line) × (v : Vocabulary) × Resolves told root problem (Ok whole) × (denoted whole.items first_vocabulary kind.Problem ≡ Ok (lines, v)) × SaysLinesFault told file (given_names lines) v ending
-
--- the first fault of the text of the model in the file is said
-abbrev pub SaysModelFileFault : Option Files → List ℕ → Ending → Type 0
-SaysModelFileFault told file ending = (text : List ℕ) × HasFile told file (λ bytes. bytes ≡ text) × IsModelRefusal file text ending
-
--- the same, where the problem resolves
-abbrev pub SaysModelledFault : Option Files → Option (List ℕ) → List ℕ → List ℕ → Ending → Type 0
-SaysModelledFault told root problem file ending = (whole : Problem) × Resolves told root problem (Ok whole) × SaysModelFileFault told file ending
+use Rattle.tptp_base.specs.Store.{Files}
+use Rattle.read_problems.specs.Ending.{Ending}
+use Rattle.tptp_commands.specs.Words.{Task, Verify, Format, Parse, Check, Make, Model, Request, IsForm}
+use Rattle.read_problems.specs.OtherFaults.{SaysProblemFault}
+use Rattle.tptp_commands.specs.OtherFaults.{SaysFileFault, SaysDerivedFault, SaysModelledFault}
 
 -- a fault of the task other than a missing file is said
 abbrev pub SaysTaskFault : Option Files → Option (List ℕ) → Task → Ending → Type 0

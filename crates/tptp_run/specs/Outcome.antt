@@ -1,5 +1,5 @@
 -- What a whole run answers and writes: its end, or how far it came where the outside fails or memory is wanting.
-use Rattle.std.specs.Prelude.{◌≡◌, ◌⊎◌, ℕ, ◌≤◌, List, None, Some, Err}
+use Rattle.std.specs.Prelude.{◌≡◌, ◌⊎◌, ℕ, List, None, Some, Err}
 use Rattle.std.specs.declared.option.Option.{Option}
 use Rattle.tptp_base.specs.Sink.{Takes, TakesPrefix}
 use Rattle.tptp_base.specs.Store.{Files, file_at}
@@ -10,16 +10,12 @@ use Rattle.proof_log.specs.Entries.{AreLogged, log_text}
 use Rattle.include_resolve.specs.Resolved.{Resolves}
 use Rattle.include_resolve.specs.declared.fault.IncludeFault.TheVariants.{Missing}
 use Rattle.derivation_check.specs.Logs.{TakesSomeOfLog}
-use Rattle.tptp_run.specs.CheckedLog.{IsGiven}
+use Rattle.read_problems.specs.Given.{IsGiven}
 use Rattle.tptp_run.specs.Complete.{IsWellSorted}
-use Rattle.tptp_run.specs.Ending.{Ending}
+use Rattle.read_problems.specs.Ending.{Ending, IsAnswer}
 use Rattle.tptp_run.specs.Ends.{Ends}
-use Rattle.tptp_run.specs.Made as made
-use Rattle.tptp_run.specs.Words.{Task, Verify, Format, Parse, Check, Make, Model, Request, IsForm}
-
--- a status that is an answer, and no fault of the outside or want of memory
-abbrev pub IsAnswer : ℕ → Type 0
-IsAnswer status = (status ≤ 3) ⊎ (status ≡ 7)
+use Rattle.tptp_commands.specs.Made as made
+use Rattle.tptp_commands.specs.Words.{Task, Verify, Format, Parse, Check, Make, Model, Request, IsForm}
 
 -- The sinks took these texts, and they are how a run ends.
 pub record Finishes (files : Files) (words : List (List ℕ)) (status : ℕ) (out_old out_new log_old log_new : Option (List ℕ)) : Type 0 where

@@ -11,14 +11,14 @@ use Rattle.kernel.specs.Statements.{Statements}
 use Rattle.derivation_check.specs.Cases.{Asked}
 use Rattle.derivation_check.specs.Checks.{Checks, Stops}
 use Rattle.derivation_text.specs.declared.derivation.Derivation.{Derivation}
-use Rattle.tptp_run.specs.CheckedLog.{given_theory}
+use Rattle.read_problems.specs.Given.{given_theory}
 use Rattle.sort_check.specs.declared.fault.SortRule.TheVariants.{Limit}
-use Rattle.tptp_run.specs.Denoted.{AfterResolved, AfterDenoted, in_line, rule_text}
-use Rattle.tptp_run.specs.Derived.{AfterDerivation}
-use Rattle.tptp_run.specs.Ending.{Ending, AfterFile}
-use Rattle.tptp_run.specs.Sources.{given_names, conjecture_marks, has_conjecture}
-use Rattle.tptp_run.specs.Spelled.{said_at}
-use Rattle.tptp_run.specs.declared.run.TheConstants.{TOTAL_SIZE}
+use Rattle.read_problems.specs.Denoted.{AfterResolved, AfterDenoted, in_line, rule_text}
+use Rattle.tptp_commands.specs.Derived.{AfterDerivation}
+use Rattle.read_problems.specs.Ending.{Ending, AfterFile}
+use Rattle.read_problems.specs.Sources.{given_names, conjecture_marks, has_conjecture}
+use Rattle.read_problems.specs.Spelled.{said_at}
+use Rattle.read_problems.specs.declared.refusals.TheConstants.{TOTAL_SIZE}
 
 -- the status of a check
 abbrev pub status_of : Bool → ℕ

@@ -8,11 +8,11 @@ ghost use Rattle.include_resolve.specs.Resolved.{Resolves};
 ghost use Rattle.sort_check.specs.declared.line.Line.{Line as LineOf};
 ghost use Rattle.sort_check.specs.declared.line.TextKind.TheVariants as kind;
 ghost use Rattle.sort_check.specs.Texts.{denoted};
-ghost use Rattle.tptp_run.specs.Denoted.{first_vocabulary};
-ghost use Rattle.tptp_run.specs.Ending.{Ending};
+ghost use Rattle.read_problems.specs.Denoted.{first_vocabulary};
+ghost use Rattle.read_problems.specs.Ending.{Ending};
 ghost use Rattle.tptp_run.specs.Ends.{Ends};
-ghost use Rattle.tptp_run.specs.Parsed.{counted, formula_count};
-ghost use Rattle.tptp_run.specs.Words.{Parse, Request, IsForm};
+ghost use Rattle.tptp_commands.specs.Parsed.{counted, formula_count};
+ghost use Rattle.tptp_commands.specs.Words.{Parse, Request, IsForm};
 
 /// `parse` of a problem that resolves, and whose formulas denote, says how many formulas it has with all that it
 /// includes.

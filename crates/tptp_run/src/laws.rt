@@ -7,17 +7,18 @@ ghost use Rattle.proof_log.specs.declared.reader.TheConstants.{MAX_NESTING};
 ghost use Rattle.derivation_check.specs.Cases.{claimed};
 ghost use Rattle.std.specs.Prelude.{◌≡◌, ◌⊎◌, ◌↔◌, ℕ, List, [], ◌∷◌, Some, length, codes, Option};
 ghost use Rattle.tptp_base.specs.Store.{Files as StoreFiles, file_at};
-ghost use Rattle.tptp_run.specs.CheckedLog.{refuted, IsGiven};
+ghost use Rattle.tptp_commands.specs.CheckedLog.{refuted};
+ghost use Rattle.read_problems.specs.Given.{IsGiven};
 ghost use Rattle.tptp_run.specs.Contradictory.{RefutesAxioms};
-ghost use Rattle.tptp_run.specs.Ending.{Ending};
+ghost use Rattle.read_problems.specs.Ending.{Ending};
 ghost use Rattle.tptp_run.specs.Ends.{Ends};
-ghost use Rattle.tptp_run.specs.Formatted.{EndsFormat};
-ghost use Rattle.tptp_run.specs.Modelling.{IsModelled};
+ghost use Rattle.tptp_commands.specs.Formatted.{EndsFormat};
+ghost use Rattle.tptp_commands.specs.Modelling.{IsModelled};
 ghost use Rattle.tptp_run.specs.Outcome.{IsRefutation};
-ghost use Rattle.tptp_run.specs.Parsed.{EndsParse};
-ghost use Rattle.tptp_run.specs.Refuted.{IsInBudget, GivesTheSame, IsExact, IsRefused};
+ghost use Rattle.tptp_commands.specs.Parsed.{EndsParse};
+ghost use Rattle.tptp_commands.specs.Refuted.{IsInBudget, GivesTheSame, IsExact, IsRefused};
 ghost use Rattle.tptp_run.specs.Verifying.{AreOfRuns, EndsVerify};
-ghost use Rattle.tptp_run.specs.Words.{Check, Model, Verify, Request, IsForm};
+ghost use Rattle.tptp_commands.specs.Words.{Check, Model, Verify, Request, IsForm};
 
 /// A check ends with status 0 exactly where the file has the text of a log, within the limits, whose entries refute
 /// what the problem gives. A problem that has a fault gives nothing, and the fault is said.

@@ -7,20 +7,18 @@ ghost use Rattle.sort_check.specs.Sorting.{AreDeclared, IsSentence};
 ghost use Rattle.derivation_check.specs.Logs.{TakesSomeOfLog};
 ghost use Rattle.tptp_run.specs.code.Answer.{IsAnswerWithLog};
 ghost use Rattle.tptp_run.specs.code.Making.{IsReportOn, IsWhole};
-ghost use Rattle.tptp_run.specs.code.Sources.{IsSource};
-ghost use Rattle.tptp_run.specs.code.Stop.{HasCause, IfAnswer, IfStopped};
-ghost use Rattle.tptp_run.specs.Made as spec;
+ghost use Rattle.read_problems.specs.Sources.{IsSource};
+ghost use Rattle.read_problems.specs.Stop.{HasCause, IfAnswer, IfStopped};
+ghost use Rattle.tptp_commands.specs.Made as spec;
 ghost use Rattle.tptp_run.specs.Making.{EndsMake};
 ghost use Rattle.tptp_run.specs.Outcome.{TakesSomeOfProblemLog};
-ghost use Rattle.tptp_run.specs.Words.{IsLimit};
+ghost use Rattle.tptp_commands.specs.Words.{IsLimit};
 
-use crate::derived::read_derived;
-use crate::made::{derivation_text, problem_text, say_made};
-use crate::sources::{Source, read_source};
-use crate::stop::{Answer, Halt, Stop};
 use derivation_check::{Asked, Report, check_derivation};
+use read_problems::{Answer, Halt, Source, Stop, read_source};
 use std::alloc::Global;
 use tptp_base::{FILE_SIZE, List, Memory, Sink, SteadyStore, Text};
+use tptp_commands::{derivation_text, problem_text, read_derived, say_made};
 use verifier::RunFault;
 
 /// Makes a problem of so many implications and its refutation, verifies it as `verify` does, writes the log, and says

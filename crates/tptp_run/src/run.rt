@@ -2,30 +2,25 @@
 ghost use Rattle.std.specs.Prelude.{⊤, ◌≡◌, ◌⊎◌, ◌≤◌, ℕ, List, None, IfOk, IfErr, IfSome};
 ghost use Rattle.std.specs.declared.option.Option.{Option};
 ghost use Rattle.tptp_base.specs.Count.{Rose};
-ghost use Rattle.tptp_run.specs.code.Answer.{ending_of, IsAnswerWithLog};
+ghost use Rattle.read_problems.specs.Answer.{ending_of};
+ghost use Rattle.tptp_run.specs.code.Answer.{IsAnswerWithLog};
 ghost use Rattle.tptp_run.specs.Complete.{MeetsNoFault};
-ghost use Rattle.tptp_run.specs.Ending;
+ghost use Rattle.read_problems.specs.Ending;
 ghost use Rattle.tptp_run.specs.Ends.{Ends};
 ghost use Rattle.tptp_run.specs.GoodRuns.{AreGood};
-ghost use Rattle.tptp_run.specs.Made.{files, problem_name};
+ghost use Rattle.tptp_commands.specs.Made.{files, problem_name};
 ghost use Rattle.tptp_run.specs.OtherFaults.{SaysOtherFault, TakesOtherFault};
-ghost use Rattle.tptp_run.specs.Outcome.{IsAnswer, IsOutcome, IsRefutation, SaysMissing, TakesSomeOfRunLog};
-ghost use Rattle.tptp_run.specs.code.Stop.{HasCause, IfAnswer, IfStopped};
-ghost use Rattle.tptp_run.specs.Words.{texts, Verify, Make, Request, IsForm};
+ghost use Rattle.read_problems.specs.Ending.{IsAnswer};
+ghost use Rattle.tptp_run.specs.Outcome.{IsOutcome, IsRefutation, SaysMissing, TakesSomeOfRunLog};
+ghost use Rattle.read_problems.specs.Stop.{HasCause, IfAnswer, IfStopped};
+ghost use Rattle.tptp_commands.specs.Words.{texts, Verify, Make, Request, IsForm};
 
-use crate::check::check;
-use crate::format::format;
 use crate::make::make;
-use crate::model::model;
-use crate::parse::parse;
-use crate::stop::{Answer, Halt, Stop};
 use crate::verify::verify;
-use crate::words::{Job, read_words};
+use read_problems::{Answer, Halt, Stop};
 use std::alloc::Global;
 use tptp_base::{Sink, SinkFault, Store, Text, put_all};
-
-/// The greatest number of bytes that a run reads.
-pub const TOTAL_SIZE: u64 = 268_435_456;
+use tptp_commands::{Job, check, format, model, parse, read_words};
 
 /// What is printed where the words have no form of a command.
 pub const USAGE: &str =

@@ -7,28 +7,26 @@ ghost use Rattle.sort_check.specs.Sorting.{AreDeclared, Extends, IsSentence};
 ghost use Rattle.tstp_graph.specs.Graphs.{IsOrdered};
 ghost use Rattle.derivation_check.specs.Cases.{asked_of};
 ghost use Rattle.derivation_check.specs.Logs.{TakesSomeOfLog};
-ghost use Rattle.tptp_run.specs.code.Answer.{ending_of, IsAnswerWithLog};
-ghost use Rattle.tptp_run.specs.Derived.{IsDerivationRefusal};
-ghost use Rattle.tptp_run.specs.Ending.{AfterFile};
-ghost use Rattle.tptp_run.specs.OtherFaults.{SaysDerivedFault, SaysLinesFault, SaysProblemFault};
-ghost use Rattle.tptp_run.specs.Outcome.{IsAnswer, TakesSomeOfProblemLog};
+ghost use Rattle.read_problems.specs.Answer.{ending_of};
+ghost use Rattle.tptp_run.specs.code.Answer.{IsAnswerWithLog};
+ghost use Rattle.tptp_commands.specs.Derived.{IsDerivationRefusal};
+ghost use Rattle.read_problems.specs.Ending.{AfterFile, IsAnswer};
+ghost use Rattle.tptp_commands.specs.OtherFaults.{SaysDerivedFault, SaysLinesFault};
+ghost use Rattle.read_problems.specs.OtherFaults.{SaysProblemFault};
+ghost use Rattle.tptp_run.specs.Outcome.{TakesSomeOfProblemLog};
 ghost use Rattle.tptp_run.specs.code.Rooms.{SaysLacking};
-ghost use Rattle.tptp_run.specs.code.Stop.{HasCause, IfAnswer, IfStopped};
+ghost use Rattle.read_problems.specs.Stop.{HasCause, IfAnswer, IfStopped};
 ghost use Rattle.tptp_run.specs.Verifying.{EndsRun, EndsVerify, SaysDerivation, status_of};
 
-use crate::denoted::say_of_line;
-use crate::derived::read_derived;
-use crate::refusals::read_text;
-use crate::run::TOTAL_SIZE;
-use crate::sources::{Source, read_source};
-use crate::stop::{Answer, Halt, Stop};
 use derivation_check::{Asked, Report, check_derivation};
 use derivation_text::Derivation;
 use fof_terms::Signature;
 use proof_check::Theory;
+use read_problems::{Answer, Halt, Source, Stop, TOTAL_SIZE, read_source, read_text, say_of_line};
 use sort_check::SortRule;
 use std::alloc::Global;
 use tptp_base::{FILE_SIZE, LimitName, Sink, Store};
+use tptp_commands::read_derived;
 use verifier::RunFault;
 
 /// Checks a derivation against a problem, with all that it includes, both read from the store, and writes the log. A search

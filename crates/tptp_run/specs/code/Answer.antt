@@ -1,13 +1,9 @@
--- An answer of the program, and what the log took, as an ending.
+-- An answer of the program, with what the log took, as an ending.
 use Rattle.std.specs.Prelude.{ℕ, List}
 use Rattle.std.specs.declared.option.Option.{Option}
 use Rattle.tptp_base.specs.Sink.{Takes}
-use Rattle.tptp_run.specs.Ending.{Ending, says}
-use Rattle.tptp_run.specs.declared.stop.Answer.{Answer}
-
--- with no log
-abbrev pub ending_of : Answer → Ending
-ending_of answer = says answer.status answer.text
+use Rattle.read_problems.specs.Ending.{Ending}
+use Rattle.read_problems.specs.declared.stop.Answer.{Answer}
 
 abbrev pub with_log : Answer → List ℕ → Ending
 with_log answer log = record { status = answer.status; out = answer.text; log = log }

@@ -1,4 +1,4 @@
--- What private contracts say, beside the definitions of specs/Made and specs/Making.
+-- What private contracts say, beside the definitions of specs/Making.
 use Rattle.std.specs.Prelude.{◌≡◌, ℕ, ◌+◌, ◌*◌, true, Bool, List}
 use Rattle.std.specs.declared.option.Option.{Option}
 use Rattle.tptp_base.specs.declared.name.Name.{Name}
@@ -8,16 +8,8 @@ use Rattle.derivation_check.specs.Logs.{ChecksWithLog}
 use Rattle.derivation_check.specs.declared.checking.Report.{Report}
 use Rattle.derivation_text.specs.Derivations.{IsDerivation}
 use Rattle.derivation_text.specs.declared.derivation.Derivation.{Derivation}
-use Rattle.tptp_run.specs.declared.made.Part.{Part}
-use Rattle.tptp_run.specs.declared.made.Part.TheVariants.{Implication, Leaf, Step}
-use Rattle.tptp_run.specs.Made.{implication, leaf, step, problem_name}
+use Rattle.tptp_commands.specs.Made.{problem_name}
 use Rattle.tptp_run.specs.Verifying.{asked_by}
-
--- the line of the part with this number
-abbrev pub line_of : Part → ℕ → List ℕ
-line_of Implication = implication
-line_of Leaf = leaf
-line_of Step = step
 
 -- the text is a derivation from given formulas of this theory, with these names and marks, and the report is that of a
 -- check of it

@@ -4,8 +4,8 @@ use Rattle.tptp_base.specs.declared.limit.LimitName.TheVariants.{Symbols}
 use Rattle.tptp_base.specs.declared.name.Name.{Name}
 use Rattle.tptp_base.specs.declared.place.Place.{Place}
 use Rattle.sort_check.specs.declared.fault.SortRule.TheVariants.{Limit}
-use Rattle.tptp_run.specs.Denoted.{against_rule}
-use Rattle.tptp_run.specs.Ending.{Ending}
+use Rattle.read_problems.specs.Denoted.{against_rule}
+use Rattle.read_problems.specs.Ending.{Ending}
 
 -- of the line of this number in the file, it is said that symbols are over their limit
 pub record SaysLacking (file : List ℕ) (names : List Name) (places : List Place) (number : ℕ) (ending : Ending) : Type 0 where

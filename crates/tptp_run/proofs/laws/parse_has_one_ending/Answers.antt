@@ -1,4 +1,4 @@
-use Rattle.tptp_run.proofs.OneEnding.{one_parse}
+use Rattle.tptp_commands.proofs.OneEnding.{one_parse}
 use Rattle.tptp_run.proofs.laws.parse_has_one_ending.Goals as goal
 
 pub returns : goal.returns

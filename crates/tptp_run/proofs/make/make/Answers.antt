@@ -1,5 +1,5 @@
 use Rattle.std.proofs.Common.{None, Some}
-use Rattle.tptp_run.specs.Made.{files, problem_name}
+use Rattle.tptp_commands.specs.Made.{files, problem_name}
 use Rattle.tptp_run.proofs.Makes.{made_logs}
 use Rattle.tptp_run.proofs.Verifies.{source_same}
 use Rattle.tptp_run.proofs.make.make.Goals as goal

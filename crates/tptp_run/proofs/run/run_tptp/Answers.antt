@@ -1,5 +1,5 @@
-use Rattle.tptp_run.specs.Words.{texts}
-use Rattle.tptp_run.specs.code.Answer.{ending_of}
+use Rattle.tptp_commands.specs.Words.{texts}
+use Rattle.read_problems.specs.Answer.{ending_of}
 use Rattle.tptp_run.proofs.Absences.{missing_rises, taken_absence}
 use Rattle.tptp_run.proofs.Completes.{answered_complete}
 use Rattle.tptp_run.proofs.GoodEnds.{answered_good}

@@ -1,11 +1,10 @@
 use Rattle.std.proofs.Common.{ap, subst}
 use Rattle.std.specs.Option.{option_copied}
-use Rattle.tptp_run.specs.Words.{Format, Parse, Check, Make, Model, Verify, HasNames, texts, request_of, task_of}
+use Rattle.tptp_commands.specs.Words.{Format, Parse, Check, Make, Model, Verify, HasNames, texts, request_of, task_of}
 use Rattle.tptp_run.proofs.Absences.{asked_absence}
 use Rattle.tptp_run.proofs.Verifies.{text_stopped, verify_asked, verify_logged}
-use Rattle.tptp_run.proofs.Checks.{check_asked}
+use Rattle.tptp_run.proofs.Asked.{check_asked, model_asked}
 use Rattle.tptp_run.proofs.Makes.{make_asked, make_logged, zero_absence, zero_answer}
-use Rattle.tptp_run.proofs.Models.{model_asked}
 use Rattle.tptp_run.proofs.run.run_words.Goals as goal
 
 pub returns-in-Parse-clause-absence : goal.returns-in-Parse-clause-absence

@@ -1,10 +1,11 @@
 use Rattle.std.proofs.Common.{◌⊎◌}
 use Rattle.std.specs.Option.{option_copied}
 use Rattle.tptp_base.specs.Count.{Rose}
-use Rattle.tptp_run.specs.code.Answer.{ending_of}
-use Rattle.tptp_run.specs.OtherFaults.{SaysDerivedFault, SaysLinesFault, SaysProblemFault}
-use Rattle.tptp_run.specs.declared.sources.Source.{Source}
-use Rattle.tptp_run.proofs.Absences.{answered_so, derived_said, problem_refused_so}
+use Rattle.read_problems.specs.Answer.{ending_of}
+use Rattle.tptp_commands.specs.OtherFaults.{SaysDerivedFault, SaysLinesFault}
+use Rattle.read_problems.specs.OtherFaults.{SaysProblemFault}
+use Rattle.read_problems.specs.declared.sources.Source.{Source}
+use Rattle.tptp_commands.proofs.Absences.{answered_so, derived_said, problem_refused_so}
 use Rattle.tptp_run.proofs.Verifies.{nothing_logged, problem_refused, source_ends, source_logged, source_same, stopped_since}
 use Rattle.tptp_run.proofs.verify.verify.Goals as goal
 

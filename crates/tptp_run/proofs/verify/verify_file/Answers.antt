@@ -1,11 +1,11 @@
 use Rattle.std.proofs.Common.{◌⊎◌, inl, ◌-◌, List, ℕ}
 use Rattle.tptp_base.specs.Count.{Rose}
-use Rattle.tptp_run.specs.code.Answer.{ending_of}
-use Rattle.tptp_run.specs.Derived.{IsDerivationRefusal}
-use Rattle.tptp_run.specs.OtherFaults.{SaysLinesFault}
+use Rattle.read_problems.specs.Answer.{ending_of}
+use Rattle.tptp_commands.specs.Derived.{IsDerivationRefusal}
+use Rattle.tptp_commands.specs.OtherFaults.{SaysLinesFault}
 use Rattle.tptp_run.specs.Verifying.{SaysDerivation}
-use Rattle.tptp_run.specs.declared.run.TheConstants.{TOTAL_SIZE}
-use Rattle.tptp_run.proofs.Absences.{answered_so, refused_three, text_said}
+use Rattle.read_problems.specs.declared.refusals.TheConstants.{TOTAL_SIZE}
+use Rattle.tptp_commands.proofs.Absences.{answered_so, refused_three, text_said}
 use Rattle.tptp_run.proofs.Verifies.{file_refused, file_said}
 use Rattle.tptp_run.proofs.verify.verify_file.Goals as goal
 

@@ -1,8 +1,8 @@
 use Rattle.derivation_text.specs.declared.derivation.Derivation.{Derivation}
-use Rattle.tptp_run.specs.code.Answer.{ending_of}
-use Rattle.tptp_run.specs.Derived.{IsDerivationRefusal}
-use Rattle.tptp_run.specs.declared.stop.Answer.{Answer}
-use Rattle.tptp_run.proofs.Absences.{refused_so}
+use Rattle.read_problems.specs.Answer.{ending_of}
+use Rattle.tptp_commands.specs.Derived.{IsDerivationRefusal}
+use Rattle.read_problems.specs.declared.stop.Answer.{Answer}
+use Rattle.tptp_commands.proofs.Absences.{refused_so}
 use Rattle.tptp_run.proofs.Verifies.{text_refused}
 use Rattle.tptp_run.proofs.verify.verify_text.Goals as goal
 

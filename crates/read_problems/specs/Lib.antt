@@ -1,0 +1,9 @@
+pub mod Answer
+pub mod Denoted
+pub mod Ending
+pub mod Given
+pub mod OtherFaults
+pub mod Posed
+pub mod Sources
+pub mod Spelled
+pub mod Stop

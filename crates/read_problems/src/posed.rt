@@ -1,0 +1,58 @@
+// What a problem poses: its signature, and the formulas that it gives.
+ghost use Rattle.std.specs.Prelude.{◌≡◌, ◌⊎◌, ◌≤◌, IfOk};
+ghost use Rattle.std.specs.Option.{option_copied};
+ghost use Rattle.tptp_base.specs.Count.{Rose};
+ghost use Rattle.read_problems.specs.Answer.{ending_of};
+ghost use Rattle.read_problems.specs.Posed.{IsPosed};
+ghost use Rattle.read_problems.specs.Denoted.{IsProblemRefusal};
+ghost use Rattle.read_problems.specs.OtherFaults.{SaysProblemFault};
+ghost use Rattle.read_problems.specs.Stop.{HasCause, IfRefused, IfStopped};
+ghost use Rattle.read_problems.specs.declared.refusals.TheConstants.{TOTAL_SIZE};
+
+use crate::denoted::read_meaning;
+use crate::resolved::read_files;
+use crate::stop::Halt;
+use fof_terms::Signature;
+use sort_check::{GivenEntry, given};
+use std::alloc::Global;
+use tptp_base::{List, Store};
+
+/// The signature of a problem, the formulas that it gives, and how many bytes its files have.
+#[derive(Drop)]
+pub struct Posed {
+    pub signature: Signature,
+    pub given: List<GivenEntry>,
+    pub read: u64,
+}
+
+/// What the problem in the file poses, with all that it includes. The first fault is refused.
+#[tactic(auto, using(crate::proofs::Givens::include_refused, crate::proofs::Givens::sort_refused, crate::proofs::Givens::posed_is, crate::proofs::Absences::problem_said, crate::proofs::Absences::sorts_said))]
+pub fn read_posed<S: Store>(
+    alloc: Global,
+    store: &mut S,
+    root: Option<&str>,
+    file: &str,
+) -> Result<Posed, Halt>
+    ensures is { IfOk result (λ posed. IsPosed (S.files store.old) (option_copied root.entry) file.now posed) }
+    ensures in_budget { IfOk result (λ posed. posed.read ≤ TOTAL_SIZE) }
+    ensures refused { IfRefused result (λ answer.
+        IsProblemRefusal (S.files store.old) (option_copied root.entry) file.now (ending_of answer)) }
+    ensures status { IfRefused result (λ answer. (answer.status ≡ 3) ⊎ (answer.status ≡ 7)) }
+    ensures absence { IfRefused result (λ answer. Rose (S.absents store.old) (S.absents store.new)
+        ⊎ SaysProblemFault (S.files store.old) (option_copied root.entry) file.now (ending_of answer)) }
+    ensures cause { IfStopped result (λ stop. HasCause stop (Rose (S.faults store.old) (S.faults store.new)) ⊥) }
+    ensures same_files { S.files store.new ≡ S.files store.old }
+    ensures more_absents { S.absents store.old ≤ S.absents store.new }
+    ensures more_faults { S.faults store.old ≤ S.faults store.new }
+{
+    let files = read_files(alloc, store, root, file)?;
+    let meaning = read_meaning(alloc, &files)?;
+    let read = files.read;
+    drop(files);
+    let given = given(alloc, meaning.lines.as_slice())?;
+    Ok(Posed {
+        signature: meaning.signature,
+        given,
+        read,
+    })
+}

@@ -1,0 +1,14 @@
+pub mod Absences
+pub mod Checks
+pub mod Derivations
+pub mod Exact
+pub mod Formats
+pub mod Makes
+pub mod ModelExact
+pub mod Modellings
+pub mod Models
+pub mod NoDerivation
+pub mod OneEnding
+pub mod OneFormat
+pub mod Parses
+pub mod Requests

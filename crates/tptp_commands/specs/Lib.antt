@@ -1,0 +1,12 @@
+pub mod CheckedLog
+pub mod Derived
+pub mod Formatted
+pub mod LogName
+pub mod Made
+pub mod Modelled
+pub mod Modelling
+pub mod OtherFaults
+pub mod Parsed
+pub mod Refuted
+pub mod Words
+pub mod code

@@ -1,8 +1,0 @@
-use Rattle.std.proofs.Common.{◌≡◌}
-use Rattle.tptp_run.specs.Made.{below}
-use Rattle.tptp_run.specs.code.Making.{line_of}
-use Rattle.tptp_run.proofs.made.lines.Given as goal
-
--- the lines so far
-abbrev pub invariant-loop-number : goal.invariant-loop-number
-invariant-loop-number l = l.text.items ≡ below l.number (line_of l.part)
