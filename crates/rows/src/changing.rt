@@ -1,4 +1,4 @@
-// A store whose files are others from a call on, and may have no end.
+// A store whose files are others from a call on, and may have no end, or that lacks memory.
 ghost use Rattle.std.specs.Prelude.{◌≤◌, None, IfSome, length};
 
 use crate::row::{Given, Source};
@@ -10,6 +10,7 @@ pub struct ChangingStore<'a> {
     files: &'a [Given],
     last_log: &'a [u8],
     failing: &'a [u64],
+    lacks: bool,
     calls: u64,
     absents: u64,
     faults: u64,
@@ -18,11 +19,18 @@ pub struct ChangingStore<'a> {
 
 impl<'a> ChangingStore<'a> {
     /// Of a name the last file counts that is there at a call. The calls of these numbers fail; the first is call 1.
-    pub fn new(files: &'a [Given], last_log: &'a [u8], failing: &'a [u64]) -> ChangingStore<'a> {
+    /// Each call may lack memory.
+    pub fn new(
+        files: &'a [Given],
+        last_log: &'a [u8],
+        failing: &'a [u64],
+        lacks: bool,
+    ) -> ChangingStore<'a> {
         ChangingStore {
             files,
             last_log,
             failing,
+            lacks,
             calls: 0,
             absents: 0,
             faults: 0,
@@ -81,6 +89,9 @@ impl Store for ChangingStore<'_> {
         if self.failing.contains(&self.calls) {
             self.faults = self.faults.saturating_add(1);
             return Err(StoreFault::Failed);
+        }
+        if self.lacks {
+            return Err(StoreFault::Memory);
         }
         match self.read(name, offset, into) {
             Some(count) => {

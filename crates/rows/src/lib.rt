@@ -10,6 +10,7 @@ mod fault;
 mod line;
 mod reading;
 mod row;
+mod row_sink;
 mod running;
 mod setting;
 mod slow_sink;

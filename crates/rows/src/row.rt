@@ -30,6 +30,14 @@ pub struct Calls {
     pub entries: u64,
 }
 
+/// What lacks memory at each call.
+#[derive(Clone, Copy)]
+pub struct Lacking {
+    pub store: bool,
+    pub out: bool,
+    pub log: bool,
+}
+
 /// What the log must have taken.
 #[derive(Drop)]
 pub enum WantedLog {
@@ -52,6 +60,7 @@ pub struct Row {
     pub failing_writes: Vec<u64>,
     /// The calls of the log that fail.
     pub failing_entries: Vec<u64>,
+    pub lacking: Lacking,
     /// How many calls of the store, the output and the log there are, where each is to fail in a run of its own.
     pub each: Option<Calls>,
     pub status: u8,
@@ -70,6 +79,11 @@ impl Row {
             failing_reads: Vec::new(alloc),
             failing_writes: Vec::new(alloc),
             failing_entries: Vec::new(alloc),
+            lacking: Lacking {
+                store: false,
+                out: false,
+                log: false,
+            },
             each: None,
             status: 0,
             out: Vec::new(alloc),
@@ -77,11 +91,16 @@ impl Row {
         }
     }
 
-    /// Whether some call is to fail.
+    /// Whether some call is to fail, or to lack memory.
     pub fn has_failing_calls(&self) -> bool {
         !self.failing_reads.is_empty()
             || !self.failing_writes.is_empty()
             || !self.failing_entries.is_empty()
+            || self.has_lacking_calls()
+    }
+
+    fn has_lacking_calls(&self) -> bool {
+        self.lacking.store || self.lacking.out || self.lacking.log
     }
 
     /// Whether some file changes while the run goes on, is said to be gone, or has no end.

@@ -52,6 +52,18 @@ fn set(alloc: Global, row: &mut Row, part: Part, setting: Setting<'_>) -> Result
             row.is_plain = true;
             Ok(Part::Nothing)
         }
+        Setting::StoreLacks => {
+            row.lacking.store = true;
+            Ok(Part::Nothing)
+        }
+        Setting::OutLacks => {
+            row.lacking.out = true;
+            Ok(Part::Nothing)
+        }
+        Setting::LogLacks => {
+            row.lacking.log = true;
+            Ok(Part::Nothing)
+        }
         Setting::Out => {
             row.out.clear();
             Ok(Part::Out)

@@ -2,10 +2,11 @@
 use crate::changing::ChangingStore;
 use crate::ending::Ending;
 use crate::row::{Row, Source};
+use crate::row_sink::RowSink;
 use crate::slow_sink::SlowSink;
 use crate::toolchain::Toolchain;
 use std::alloc::Global;
-use tptp_base::{List, Memory, MemorySink, MemoryStore, SteadyStore, Text};
+use tptp_base::{List, Memory, MemoryStore, SteadyStore, Text};
 
 /// A row, and the log that the row before has written.
 #[derive(Clone, Copy)]
@@ -34,22 +35,18 @@ impl<'a> Failing<'a> {
     }
 }
 
-/// Runs a row over a store and sinks in memory, of which these calls fail. The store is one that changes where the row
-/// has files that change.
+/// Runs a row over a store and sinks in memory, of which these calls fail, and those lack memory that the row says. The
+/// store is one that changes where the row has files that change.
 pub fn run_plainly<T: Toolchain>(
     toolchain: &T,
     trial: Trial<'_>,
     failing: Failing<'_>,
 ) -> Result<Ending, Memory> {
-    let mut out = sink_of(trial.alloc, failing.writes)?;
-    let mut log = sink_of(trial.alloc, failing.entries)?;
+    let lacking = trial.row.lacking;
+    let mut out = RowSink::new(trial.alloc, failing.writes, lacking.out);
+    let mut log = RowSink::new(trial.alloc, failing.entries, lacking.log);
     let status = run_over(toolchain, trial, failing.reads, &mut out, &mut log)?;
     ending_of(trial.alloc, status, out.bytes(), log.bytes())
-}
-
-// A sink in memory of which these calls fail.
-fn sink_of(alloc: Global, calls: &[u64]) -> Result<MemorySink, Memory> {
-    Ok(MemorySink::new(alloc, List::from_slice(alloc, calls)?))
 }
 
 // Runs a row over a store of which these calls fail.
@@ -57,12 +54,12 @@ fn run_over<T: Toolchain>(
     toolchain: &T,
     trial: Trial<'_>,
     calls: &[u64],
-    out: &mut MemorySink,
-    log: &mut MemorySink,
+    out: &mut RowSink<'_>,
+    log: &mut RowSink<'_>,
 ) -> Result<u8, Memory> {
     let row = trial.row;
-    if row.has_changing_files() {
-        let mut store = ChangingStore::new(&row.files, trial.last_log, calls);
+    if row.has_changing_files() || row.lacking.store {
+        let mut store = ChangingStore::new(&row.files, trial.last_log, calls, row.lacking.store);
         return Ok(toolchain.run(trial.alloc, &row.words, &mut store, out, log));
     }
     let mut store = store_of(trial, calls)?;

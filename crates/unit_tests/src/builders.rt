@@ -13,8 +13,15 @@ use tptp_base::{Boxed, List, Memory};
 // The predicates p and q, the predicate r of one argument, and the constants c and d, in this order.
 const SYMBOLS: &str = "tptp-log 1\nD p 'p' 0\nD p 'q' 0\nD p 'r' 1 0\nD f 'c' 0 0\nD f 'd' 0 0\n";
 
-// The formula of a text as logs have it.
-fn form(alloc: Global, text: &str) -> Result<Form, Fail> {
+/// A theory without formulas, over these symbols.
+pub fn symbols(alloc: Global) -> Result<Theory, Fail> {
+    let mut theory = start(alloc)?;
+    admit_log(alloc, &mut theory, SYMBOLS)?;
+    Ok(theory)
+}
+
+/// The formula of a text as logs have it.
+pub fn form(alloc: Global, text: &str) -> Result<Form, Fail> {
     let entries = entries_of(alloc, text)?;
     named(alloc, entries.as_slice())
 }
@@ -60,7 +67,8 @@ fn lemma(alloc: Global, premise: &str, proof: Part) -> Result<Boxed<Entry>, Fail
     Ok(Boxed::new(alloc, Entry::Lemma(whole.into_inner()))?)
 }
 
-fn is_concluded(alloc: Global, lemma: &Entry, wanted: &str) -> Result<bool, Fail> {
+/// Whether the kernel concludes the formula of a text by a lemma.
+pub fn is_concluded(alloc: Global, lemma: &Entry, wanted: &str) -> Result<bool, Fail> {
     let wanted = Boxed::new(alloc, form(alloc, wanted)?)?;
     is_concluded_at_start(alloc, lemma, wanted.get())
 }

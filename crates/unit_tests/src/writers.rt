@@ -1,5 +1,6 @@
 // A sink of the program over a writer that takes nothing, and over none.
 use crate::said::is;
+use proof_log::write_header;
 use std::alloc::Global;
 use std::io;
 use std::io::Write;
@@ -33,6 +34,16 @@ fn a_piece_without_bytes_is_taken(rt: HostRuntime) -> Result<(), Fail> {
 #[test]
 fn without_a_writer_a_piece_is_not_taken(rt: HostRuntime) -> Result<(), Fail> {
     is(&rt, said_of(rt.alloc(), None, b"ab"), "failed")
+}
+
+#[test]
+fn a_log_that_takes_nothing_is_a_fault(rt: HostRuntime) -> Result<(), Fail> {
+    is(&rt, header(rt.alloc()), "failed")
+}
+
+fn header(alloc: Global) -> Result<String, Fail> {
+    let mut log = RealSink::new(Some(Idle));
+    Ok(String::from_str(alloc, name_of(write_header(&mut log)))?)
 }
 
 fn said_of(alloc: Global, writer: Option<Idle>, piece: &[u8]) -> Result<String, Fail> {
