@@ -26,7 +26,7 @@ use Rattle.flat_proofs.specs.code.Gathering.{AreClosed, inhabited, and_arms, or_
 use Rattle.flat_proofs.proofs.Opened.{nothing, closed_lifted, opened, body_further}
 
 -- what is proved over variables of these sorts is proved without them
-by_inhabited : (t : Statements) (sorts v : List ℕ) (h : List Form) (g : Form) (p : Proof) → Proves t (around sorts v) (all_around sorts h) p (lifted (length sorts) 0 g) → Proves t v h (inhabited sorts g p) g
+pub by_inhabited : (t : Statements) (sorts v : List ℕ) (h : List Form) (g : Form) (p : Proof) → Proves t (around sorts v) (all_around sorts h) p (lifted (length sorts) 0 g) → Proves t v h (inhabited sorts g p) g
 by_inhabited t [] v h g p w = subst (λ (a : Form). Proves t v h p a) (nothing 0 g) w
 by_inhabited t (s ∷ sorts) v h g p w =
     let same : lifted (length (s ∷ sorts)) 0 g ≡ lifted (length sorts) 0 (over g) = sym (twice_form (length sorts) 1 (length (s ∷ sorts)) (omega arith) g 0) in

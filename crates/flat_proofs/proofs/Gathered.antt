@@ -29,7 +29,7 @@ module _ (t : Statements) (v : List ℕ) (d : ℕ) (h : List Form) (sc : IsScope
   exist : AllByRecursion (λ s. s < length t.vocabulary.sorts) (sorts_of ps)
   exist = all_sorts_exist t.vocabulary d v ps (omega arith) closed
 
-  sc_all : IsScope t.vocabulary (around (sorts_of ps) v)
+  pub sc_all : IsScope t.vocabulary (around (sorts_of ps) v)
   sc_all = around_scope t.vocabulary (sorts_of ps) v (omega arith) exist sc
 
   bodies : AllByRecursion (SortedTo d t.vocabulary (around (sorts_of ps) v)) (bodies_of 0 ps)
@@ -52,11 +52,11 @@ module _ (t : Statements) (v : List ℕ) (d : ℕ) (h : List Form) (sc : IsScope
   node_here true = and_sorted t.vocabulary v 2147483647 sc (map closed_of ps) (closed_list ps closed)
   node_here false = or_sorted t.vocabulary v 2147483647 sc (map closed_of ps) (closed_list ps closed)
 
-  body_here : (kind : Bool) → SortedTo d t.vocabulary (around (sorts_of ps) v) (node kind (bodies_of 0 ps))
+  pub body_here : (kind : Bool) → SortedTo d t.vocabulary (around (sorts_of ps) v) (node kind (bodies_of 0 ps))
   body_here true = and_sorted t.vocabulary (around (sorts_of ps) v) d sc_all (bodies_of 0 ps) bodies
   body_here false = or_sorted t.vocabulary (around (sorts_of ps) v) d sc_all (bodies_of 0 ps) bodies
 
-  whole_here : (kind : Bool) → Sorted t.vocabulary v (closed_by (sorts_of ps) (node kind (bodies_of 0 ps)))
+  pub whole_here : (kind : Bool) → Sorted t.vocabulary v (closed_by (sorts_of ps) (node kind (bodies_of 0 ps)))
   whole_here kind =
       raised t.vocabulary v (d + length (sorts_of ps)) 2147483647 (closed_by (sorts_of ps) (node kind (bodies_of 0 ps))) (omega arith)
       (closed_sorted t.vocabulary d (sorts_of ps) v (node kind (bodies_of 0 ps)) (body_here kind))

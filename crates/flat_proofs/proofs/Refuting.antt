@@ -42,7 +42,7 @@ behind (b ∷ bs) rest j = ap (slice_get (denied bs (Not b ∷ rest))) (let same
 right_behind : (bs : List Form) (a : Form) (rest : List Form) → slice_get (denied bs (a ∷ rest)) (length bs) ≡ Some a
 right_behind bs a rest = ap (slice_get (denied bs (a ∷ rest))) (let same : length bs ≡ length bs + 0 = omega arith in same) ∙ behind bs (a ∷ rest) 0
 
-around_one : (sorts : List ℕ) (a : Form) (h : List Form) → all_around sorts (a ∷ h) ≡ lifted (length sorts) 0 a ∷ all_around sorts h
+pub around_one : (sorts : List ℕ) (a : Form) (h : List Form) → all_around sorts (a ∷ h) ≡ lifted (length sorts) 0 a ∷ all_around sorts h
 around_one [] a h = ap (λ b. b ∷ h) (sym (nothing 0 a))
 around_one (s ∷ sorts) a h =
     around_one sorts (over a) (all_over h) ∙ ap (λ b. b ∷ all_around sorts (all_over h)) (twice_form (length sorts) 1 (length (s ∷ sorts)) (omega arith) a 0)
@@ -53,7 +53,7 @@ around_denied sorts (b ∷ bs) rest =
     around_denied sorts bs (Not b ∷ rest)
     ∙ ap (denied (map (lifted (length sorts) 0) bs)) (around_one sorts (Not b) rest ∙ ap (λ a. a ∷ all_around sorts rest) (lifted-Not (length sorts) 0 b))
 
-sorts_append : (qs ps : List Pulled) → sorts_of (qs ++ ps) ≡ sorts_of qs ++ sorts_of ps
+pub sorts_append : (qs ps : List Pulled) → sorts_of (qs ++ ps) ≡ sorts_of qs ++ sorts_of ps
 sorts_append [] ps = refl
 sorts_append (q ∷ qs) ps = ap (λ xs. q.sorts ++ xs) (sorts_append qs ps) ∙ sym (append_assoc q.sorts (sorts_of qs) (sorts_of ps))
 
@@ -74,7 +74,7 @@ bodies_end f (q ∷ qs) p =
     ap (λ b. b ∷ bodies_of (f + length q.sorts) (qs ++ p ∷ [])) head
     ∙ ap (λ bs. lifted n 0 (lifted (length (sorts_of qs)) 0 x) ∷ bs) (bodies_end (f + length q.sorts) qs p ∙ ap (λ m. map (lifted n 0) (bodies_of (f + length q.sorts) qs) ++ lifted m n p.body ∷ []) sum)
 
-bodies_count : (f : ℕ) (qs : List Pulled) → length (bodies_of f qs) ≡ length qs
+pub bodies_count : (f : ℕ) (qs : List Pulled) → length (bodies_of f qs) ≡ length qs
 bodies_count f [] = refl
 bodies_count f (q ∷ qs) = ap suc (bodies_count (f + length q.sorts) qs)
 

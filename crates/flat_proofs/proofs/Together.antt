@@ -23,12 +23,12 @@ use Rattle.norm_proofs.proofs.Places.{at_index}
 use Rattle.flat_form.specs.declared.pulling.Pulled.{Pulled as Made}
 use Rattle.flat_form.specs.Flat.{Pulled, kept, sorts_of, bodies_of}
 use Rattle.flat_form.proofs.Lists.{take_next, take_end}
-use Rattle.flat_proofs.specs.code.Gathering.{AreClosed, gather_tree}
+use Rattle.flat_proofs.specs.code.Gathering.{AreClosed}
+use Rattle.flat_proofs.specs.code.Halving.{Gathers}
 use Rattle.flat_proofs.specs.code.Leading.{Leads}
 use Rattle.flat_proofs.specs.code.Loose.{loose, closed_of}
 use Rattle.flat_proofs.specs.code.Members.{seen, bare, room_of, HaveRoom, IsSpacious}
 use Rattle.flat_proofs.specs.code.Moving.{link_tree, IsMoved, AreMoved, IsLed}
-use Rattle.flat_proofs.proofs.Gathered.{gather_shows}
 use Rattle.flat_proofs.proofs.LeadFacts.{leads_some, leads_none, leads_roomier}
 use Rattle.flat_proofs.proofs.LooseFacts.{node_sorts, node_body, all_sorts, all_body, kept_node}
 use Rattle.flat_proofs.proofs.LooseSizes.{Bounded, loose_depth, node_bounded, node_count}
@@ -177,15 +177,14 @@ module _ (g forth : Bool) (as_ : List Form) where
   abbrev size : ℕ
   size = norm_size_of (node g as_)
 
-  gather_bare : (n : ℕ) → size + length (sorts_of (map loose as_)) ≤ n
-      → Between forth n (gather_tree g forth (map bare (map loose as_))) (node g (map closed_of (map loose as_))) (closed_of (loose (node g as_)))
-  gather_bare n le t v h room s =
+  gather_bare : (n : ℕ) (tree : Proof) → Gathers g forth (map bare (map loose as_)) tree → size + length (sorts_of (map loose as_)) ≤ n
+      → Between forth n tree (node g (map closed_of (map loose as_))) (closed_of (loose (node g as_)))
+  gather_bare n tree gathers le t v h room s =
       let qs = map loose as_ in
       let ps = map bare qs in
-      let tree = gather_tree g forth ps in
       let closed = bare_closed t.vocabulary size v qs (closed_within t v size as_ (node_bounded g as_) (members_sorted g (map closed_of qs) t v s)) in
       let count = ap length (sorts_bare qs) in
-      let shown = gather_shows t v size h s.scope_fits ps (omega arith) closed g forth in
+      let shown = gathers t v size h s.scope_fits (omega arith) closed in
       let one : node g (map closed_of ps) ≡ node g (map closed_of qs) = ap (node g) (closed_bare qs) in
       let two : closed_by (sorts_of ps) (node g (bodies_of 0 ps)) ≡ closed_of (loose (node g as_)) =
       ap (λ ss. closed_by ss (node g (bodies_of 0 ps))) (sorts_bare qs ∙ sym (node_sorts g as_)) ∙ ap (closed_by (loose (node g as_)).sorts) (ap (node g) (bodies_bare 0 qs) ∙ sym (node_body g as_)) in
@@ -221,13 +220,11 @@ module _ (g forth : Bool) (as_ : List Form) where
           closed = subst (AreClosed s.vocabulary size s.scope) (sym are) closed;
         }
 
-    pub gathered_leads : (n : ℕ) (gathered : Proof) (part : Option Proof) (cs : List Form) (last : Form) → room_of (node g as_) ≤ n → gathered ≡ gather_tree g forth (map seen ms) → part ≡ Some gathered → cs ≡ map closed_of (map seen ms)
+    pub gathered_leads : (n : ℕ) (gathered : Proof) (part : Option Proof) (cs : List Form) (last : Form) → room_of (node g as_) ≤ n → Gathers g forth (map seen ms) gathered → part ≡ Some gathered → cs ≡ map closed_of (map seen ms)
         → last ≡ closed_of (loose (node g as_)) → Leads forth n part (node g cs) last
     gathered_leads n gathered part cs last le eg ep ec el =
         let few = node_count g as_ in
-        let shows = gather_bare n (omega arith) in
-        let tree : gather_tree g forth (map bare (map loose as_)) ≡ gathered = sym (eg ∙ ap (gather_tree g forth) are) in
-        let whole : Between forth n gathered (node g (map closed_of (map loose as_))) (closed_of (loose (node g as_))) = subst (λ (p : Proof). Between forth n p (node g (map closed_of (map loose as_))) (closed_of (loose (node g as_)))) tree shows in
+        let whole = gather_bare n gathered (subst (λ (ps : List Pulled). Gathers g forth ps gathered) are eg) (omega arith) in
         rw (ep, closed_are cs ec, el) whole
 
   pub link_leads : (n : ℕ) (ps : List Proof) (cs : List Form) (linked : Proof) → cs ≡ map closed_of (map loose as_) → linked ≡ link_tree g forth as_ cs ps → AreMoved forth n as_ ps → Between forth n linked (node g as_) (node g cs)
@@ -239,7 +236,7 @@ few_forms g as_ le = omega (arith, few_members g as_)
 -- the node, as code makes it
 pub led_node : (g forth : Bool) (as_ : List Form) (ms : List Made) (are : map seen ms ≡ map bare (map loose as_)) (ps : List Proof) → AreMoved forth (room_of (node g as_)) as_ ps
     → (sorts : List ℕ) (bodies all cs : List Form) (body first last : Form) (gathered : Proof) (linked part : Option Proof) → sorts ≡ sorts_of (map seen ms) → bodies ≡ bodies_of 0 (map seen ms) → all ≡ map closed_of (map seen ms) → cs ≡ all
-    → body ≡ node g bodies → first ≡ node g as_ → last ≡ closed_by sorts body → gathered ≡ gather_tree g forth (map seen ms) → ((n : ℕ) → AreMoved forth n as_ ps → Leads forth n linked (node g as_) (node g cs))
+    → body ≡ node g bodies → first ≡ node g as_ → last ≡ closed_by sorts body → Gathers g forth (map seen ms) gathered → ((n : ℕ) → AreMoved forth n as_ ps → Leads forth n linked (node g as_) (node g cs))
     → ((n : ℕ) (middle : Form) → Leads forth n linked first middle → Leads forth n (Some gathered) middle last → Leads forth n part first last) → IsLed forth (node g as_) part
 led_node g forth as_ ms are ps m sorts bodies all cs body first last gathered linked part es eb ea ec ey ef el eg link whole =
     let n = room_of (node g as_) in

@@ -19,7 +19,12 @@ use std::alloc::Global;
 use tptp_base::{Boxed, List, Memory};
 
 // What the part shows over variables of these sorts, of which the formula doesn't speak.
-fn inhabited(alloc: Global, sorts: &[SortId], form: &Form, part: Part) -> Result<Part, Memory>
+pub(crate) fn inhabited(
+    alloc: Global,
+    sorts: &[SortId],
+    form: &Form,
+    part: Part,
+) -> Result<Part, Memory>
     requires few { length sorts.now ≤ 100000 }
     requires room { (by : ℕ) → by ≤ length sorts.now → lift_reach by 0 form.now < 2 ^ 32 }
     ensures { IfOk result (λ made. made ≡ inhabited_tree sorts.now form.now part) }
@@ -131,32 +136,8 @@ fn back_arms(
     Ok(made)
 }
 
-// From the node of the closed bodies to all quantifiers over the node of the bodies, or back.
-pub(crate) fn gather(
-    alloc: Global,
-    kind: bool,
-    forth: bool,
-    members: &[Pulled],
-    sorts: &[SortId],
-    bodies: &[Form],
-    closed: &[Form],
-) -> Result<Part, Memory>
-    requires many { length members.now ≤ 100000 }
-    requires few { length sorts.now ≤ 100000 }
-    requires room { HaveRoom (map seen members.now) }
-    requires sorts { sorts.now ≡ sorts_of (map seen members.now) }
-    requires bodies { bodies.now ≡ bodies_of 0 (map seen members.now) }
-    requires closed { closed.now ≡ map closed_of (map seen members.now) }
-    ensures { IfOk result (λ made. made ≡ gather_tree kind forth (map seen members.now)) }
-{
-    if forth {
-        return forwards(alloc, kind, members, sorts, bodies, closed);
-    }
-    backwards(alloc, kind, members, sorts, bodies, closed)
-}
-
-// The first of the two.
-fn forwards(
+// From the node of the closed bodies to all quantifiers over the node of the bodies.
+pub(crate) fn forwards(
     alloc: Global,
     kind: bool,
     members: &[Pulled],
@@ -197,8 +178,8 @@ fn node_of_bodies(
     or_e(alloc, Form::Or(copy_all(alloc, bodies)?), own, arms)
 }
 
-// The second of the two.
-fn backwards(
+// The same back.
+pub(crate) fn backwards(
     alloc: Global,
     kind: bool,
     members: &[Pulled],

@@ -4,6 +4,7 @@
 mod denying;
 mod flats;
 mod gathering;
+mod halving;
 mod instances;
 mod laws;
 mod leading;

@@ -9,7 +9,7 @@ ghost use Rattle.flat_proofs.specs.code.Loose.{loose, closed_of};
 ghost use Rattle.flat_proofs.specs.code.Members.{seen, bare, room_of, IsSpacious};
 ghost use Rattle.flat_proofs.specs.code.Moving.{AreMoved, IsLed};
 
-use crate::gathering::gather;
+use crate::halving::gather;
 use crate::leading::{chained, or_same};
 use crate::linking::link;
 use crate::members::{bodies_of_all, closed, closed_all, sorts_of_all};
