@@ -1,0 +1,2 @@
+pub mod ChosenFacts
+pub mod PartFacts

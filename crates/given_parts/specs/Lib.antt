@@ -1,0 +1,5 @@
+pub mod Chosen
+pub mod Parts
+pub mod Owners
+pub mod Functions
+pub mod Numbers
