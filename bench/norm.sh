@@ -5,7 +5,9 @@
 # outermost of which is used in each literal, and 200 implications inside each other. Times are the processor's, beside
 # `tptp parse` on both files. At most 12 times the time is wanted for ten times the literals, and well under a second for a
 # conjunction of 10,000 literals and for 200 levels. A proof through quantifiers names the formula inside at each of them, so
-# 200 quantifiers around so many literals are 200 times as much work.
+# 200 quantifiers around so many literals are 200 times as much work. At last a line that has the quantifiers of 100 and 200
+# members, one for each, outside of the conjunction or disjunction, or where the parent has them there each at its member,
+# and the bytes of its log.
 #
 #     bench/norm.sh [PROGRAM]
 #
@@ -59,3 +61,34 @@ for kind in unused outermost; do
     echo "1,000 $kind: $large ms, $(calculate "$large / ($small + 0.001)") times the time for 100"
 done
 echo "200 implications: $(line implications 200 10) ms"
+
+# Members of a node, with a quantifier each at the member or all outside.
+members() {
+    awk -v where="$1" -v between="$2" -v size="$3" '
+    BEGIN {
+        for (i = 0; i < size; i++) {
+            text = text (i ? between : "") (where == "inside" ? "(![X" i "]:" : "") "(p" i "(X" i ")|q" i "(X" i "))" \
+                (where == "inside" ? ")" : "")
+            variables = variables (i ? "," : "") "X" i
+        }
+        print where == "inside" ? text : "![" variables "]:(" text ")"
+    }'
+}
+
+# The milliseconds that a line takes that has them elsewhere than its parent.
+moved() {
+    { echo "fof(a,axiom,("; members "$1" "$3" "$4"; echo "))."; } > p.p
+    { echo "fof(l,plain,("; members "$2" "$3" "$4"; echo "),inference(step,[],[a]))."; } > s.s
+    whole=$(processor verify p.p s.s x.log || true)
+    test "$(grep -c ' ok norm$' answer)" = 1
+    calculate_to 0 "1000 * $whole"
+}
+
+for between in "&" "|"; do
+    for places in "inside outside" "outside inside"; do
+        small=$(moved $places "$between" 100)
+        large=$(moved $places "$between" 200)
+        echo "200 quantifiers of members of $between moved from $places: $large ms," \
+            "$(calculate "$large / ($small + 1)") times the time for 100, a log of $(wc -c < x.log) bytes"
+    done
+done
