@@ -1,0 +1,4 @@
+pub mod NamesFacts
+pub mod NestingFacts
+pub mod TotalsFacts
+pub mod VariablesFacts
