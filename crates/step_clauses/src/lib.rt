@@ -17,7 +17,7 @@ pub use clausal::{Clausal, clausify};
 pub use existentials::{Existential, existentials_of};
 pub use input::{MAX_CLAUSES, MAX_WEIGHT, search_input};
 pub use laws::skolemized_as_used;
-pub use room::has_room;
+pub use room::{has_room, wanted};
 pub use skolemizing::skolemize;
 pub use skolems::{Skolem, skolems_of, uses_of};
 pub use ways::paths_of;

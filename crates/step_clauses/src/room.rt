@@ -80,8 +80,9 @@ fn wanted_of_parents(alloc: Global, parents: &[Parent]) -> Result<u64, Memory>
     Ok(total)
 }
 
-// How many symbols the formula, or under minus its negation, may bring in.
-fn wanted(alloc: Global, form: &Form, positive: bool) -> Result<u64, Memory>
+/// How many symbols the formula, or under minus its negation, may bring in: one for each existential quantifier of its
+/// normal form, where it has one.
+pub fn wanted(alloc: Global, form: &Form, positive: bool) -> Result<u64, Memory>
     ensures { IfOk result (λ count. count ≡ wanted_by (signed positive form.now)) }
 {
     if norm_size(form) > MAX_NORM_SIZE {

@@ -5,5 +5,6 @@ mod grown;
 mod outcome;
 mod searching;
 
+pub use grown::with_functions;
 pub use outcome::Searched;
 pub use searching::searched;
