@@ -11,7 +11,8 @@ use Rattle.tptp_base.specs.declared.surface.BoundVar.{BoundVar}
 use Rattle.tptp_base.specs.declared.surface.BinOp.{BinOp}
 use Rattle.tptp_base.specs.declared.surface.Quant.{Quant}
 use Rattle.fof_terms.specs.Lift.{greatest}
-use Rattle.derivation_limits.specs.Nesting.{Nested, alone, applied_nesting, as_unit, grouping, nested, nesting_of, nesting_step, term_nesting, term_nesting_step, unit_nesting}
+use Rattle.derivation_limits.specs.Nesting.{Nested, alone, applied_nesting, as_unit, grouping, nested, nesting_of, nesting_step, term_nesting, term_nesting_step}
+use Rattle.derivation_limits.specs.code.Units.{unit_nesting}
 use Rattle.sort_check.proofs.Equations.{fold-Var, fold-App, fold-True, fold-False, fold-Atom, fold-Eq, fold-Neq, fold-Not, fold-And, fold-Or, fold-Binary, fold-Bind}
 use Rattle.sort_check.specs.Symbols.{Text}
 

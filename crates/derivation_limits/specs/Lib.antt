@@ -1,3 +1,4 @@
 pub mod Nesting
 pub mod Totals
 pub mod Names
+pub mod code

@@ -53,6 +53,3 @@ nested = fold-Surface Nested nesting_step
 
 abbrev pub nesting_of : Surface → ℕ
 nesting_of formula = (nested formula).depth
-
-abbrev pub unit_nesting : Surface → ℕ
-unit_nesting formula = as_unit (nested formula)

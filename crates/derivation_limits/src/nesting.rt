@@ -2,7 +2,8 @@
 ghost use Rattle.std.specs.Prelude.{◌≡◌, ◌↔◌, ◌<◌, ◌≤◌, ◌-◌, IsTrue, if◌then◌else◌, length};
 ghost use Rattle.std.specs.Prelude.{map, min};
 ghost use Rattle.fof_terms.specs.Lift.{greatest};
-ghost use Rattle.derivation_limits.specs.Nesting.{applied_nesting, nested, nesting_of, term_nesting, unit_nesting};
+ghost use Rattle.derivation_limits.specs.Nesting.{applied_nesting, nested, nesting_of, term_nesting};
+ghost use Rattle.derivation_limits.specs.code.Units.{unit_nesting};
 
 use tptp_base::{STerm, Surface};
 

@@ -27,7 +27,8 @@ use Rattle.norm_proofs.proofs.NumberingFacts.{by_general, around_sorted}
 use Rattle.flat_form.specs.declared.pulling.Pulled.{Pulled as Made}
 use Rattle.flat_form.specs.Flat.{Pulled, sorts_of, bodies_of}
 use Rattle.flat_proofs.specs.code.Gathering.{AreClosed, inhabited, gather_tree}
-use Rattle.flat_proofs.specs.code.Halving.{full, picks, segment, freed, front_tree, rear_tree, both_tree, joined_tree, group_of, Gathers}
+use Rattle.flat_proofs.specs.code.Halving.{picks, segment, freed, front_tree, rear_tree, both_tree, joined_tree, Gathers}
+use Rattle.flat_proofs.proofs.Grouped.{full, group_of}
 use Rattle.flat_proofs.specs.code.Loose.{closed_of}
 use Rattle.flat_proofs.specs.declared.halving.Group.{Group}
 use Rattle.flat_proofs.specs.code.Members.{seen, HaveRoom}

@@ -2,6 +2,7 @@ pub mod Arms
 pub mod FlatFacts
 pub mod GatherFacts
 pub mod Gathered
+pub mod Grouped
 pub mod Halves
 pub mod LeadFacts
 pub mod LooseFacts

@@ -10,7 +10,8 @@ use Rattle.fof_terms.specs.Variables.{has_in_term}
 use Rattle.fof_terms.proofs.VariablesFacts.{has_in_term-Var, has_in_term-App}
 use Rattle.clause_form.specs.declared.clause.AtomOf.{AtomOf}
 use Rattle.printed_clauses.specs.Trimmed.{has_in_atom}
-use Rattle.printed_clauses.specs.Marks.{Marks, AreMarks, AreUnmarked, is_marked}
+use Rattle.printed_clauses.specs.Marks.{Marks, AreUnmarked, is_marked}
+use Rattle.printed_clauses.specs.code.Marked.{AreMarks}
 
 or_true : (b : Bool) → (b || true) ≡ true
 or_true true = refl

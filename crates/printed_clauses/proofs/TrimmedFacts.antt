@@ -5,7 +5,8 @@ use Rattle.std.proofs.lemmas.List.{drop_more, length-drop, append-nil}
 use Rattle.fof_terms.specs.declared.term.Term.{Term, Var}
 use Rattle.clause_form.specs.declared.clause.Clause.{Clause}
 use Rattle.printed_clauses.specs.Trimmed.{count_below, new_variables, kept_sorts, occurs_in}
-use Rattle.printed_clauses.specs.Marks.{AreMarks, is_marked}
+use Rattle.printed_clauses.specs.Marks.{is_marked}
+use Rattle.printed_clauses.specs.code.Marked.{AreMarks}
 
 -- two tests that agree on the variables below d
 abbrev pub AgreeBelow : (ℕ → Bool) → (ℕ → Bool) → ℕ → Type 0

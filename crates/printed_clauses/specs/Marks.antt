@@ -14,8 +14,3 @@ pub record AreUnmarked (n : ℕ) (marks : List Bool) : Type 0 where
 pub record Marks (passes : ℕ → Bool) (old new : List Bool) : Type 0 where
   pub count : length new ≡ length old
   pub each : (k : ℕ) → k < length old → is_marked new k ≡ (is_marked old k || passes k)
-
--- a mark for each number below n, which says whether it passes
-pub record AreMarks (passes : ℕ → Bool) (n : ℕ) (marks : List Bool) : Type 0 where
-  pub count : length marks ≡ n
-  pub each : (k : ℕ) → k < n → is_marked marks k ≡ passes k

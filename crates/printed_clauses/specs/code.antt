@@ -1,2 +1,3 @@
 -- What private contracts alone say of the code. Nothing public rests on this.
+pub mod Marked
 pub mod Underscores

@@ -3,7 +3,8 @@ ghost use Rattle.std.specs.Prelude.{◌==◌, length, IfOk};
 ghost use Rattle.std.specs.List.{list_any};
 ghost use Rattle.fof_terms.specs.Variables.{has_in_term};
 ghost use Rattle.printed_clauses.specs.Trimmed.{has_in_atom, occurs_in};
-ghost use Rattle.printed_clauses.specs.Marks.{AreMarks, AreUnmarked, Marks};
+ghost use Rattle.printed_clauses.specs.Marks.{AreUnmarked, Marks};
+ghost use Rattle.printed_clauses.specs.code.Marked.{AreMarks};
 
 use clause_form::{AtomOf, Clause, Lit};
 use fof_terms::Term;

@@ -15,10 +15,6 @@ use Rattle.flat_proofs.specs.code.Gathering.{AreClosed, inhabited}
 use Rattle.flat_proofs.specs.code.Loose.{closed_of}
 use Rattle.flat_proofs.specs.declared.halving.Group.{Group}
 
--- all quantifiers over the conjunction of the bodies
-abbrev pub full : List Pulled → Form
-full ps = closed_by (sorts_of ps) (And (bodies_of 0 ps))
-
 -- n members, from number k on, of the conjunction that is the hypothesis of number i
 abbrev pub picks : ℕ → ℕ → ℕ → List Proof
 picks i k n = numbered (λ j. AndE j (Hyp i)) k n
@@ -47,10 +43,6 @@ both_tree cl cr = ImpI (And cl) (ImpI (And cr) (AndI (picks 1 0 (length cl) ++ p
 abbrev pub joined_tree : Group → Group → Group → Proof → Proof → Proof
 joined_tree g l r p q =
     ImpI (closed_by g.sorts (And g.bodies)) (ImpE (ImpE (both_tree l.closed r.closed) (ImpE p (front_tree l.sorts r.sorts l.bodies g.bodies))) (ImpE q (rear_tree l.sorts r.sorts l.bodies r.bodies g.bodies)))
-
--- what is pulled out of the members
-abbrev pub group_of : List Pulled → Group
-group_of ps = record { sorts = sorts_of ps; bodies = bodies_of 0 ps; closed = map closed_of ps }
 
 -- in every theory and every context with room, in which the closed bodies are well-sorted, the proof leads from their node to
 -- all over the node of the bodies, or back

@@ -1,6 +1,7 @@
 use Rattle.std.proofs.Common.{◌<◌, arith, rules, get_or}
 use Rattle.fof_terms.proofs.Lists.{below_greatest, greatest_more}
-use Rattle.derivation_limits.specs.Nesting.{nesting_of, unit_nesting}
+use Rattle.derivation_limits.specs.Nesting.{nesting_of}
+use Rattle.derivation_limits.specs.code.Units.{unit_nesting}
 use Rattle.derivation_limits.proofs.NestingFacts.{unit_within}
 use Rattle.derivation_limits.proofs.nesting.+nests_below.Goals as goal
 
