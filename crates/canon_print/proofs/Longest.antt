@@ -14,7 +14,7 @@ use Rattle.tptp_lexer.specs.Comments.{begins_comment, HasNoEnd}
 use Rattle.tptp_lexer.specs.Marks.{mark_text}
 use Rattle.tptp_lexer.specs.Numbers.{is_sign, is_exponent, AreDigits, IsSign, no_sign, one_sign, IsFraction, no_fraction, dot_decimal, IsExponent, no_exponent, exponent, IsNumber, rational, decimal}
 use Rattle.tptp_lexer.specs.Quotes.{IsWritten, single_quote, double_quote}
-use Rattle.tptp_lexer.specs.code.Scan.{front_of, marked, quoted, dollar, number_len, commented}
+use Rattle.tptp_lexer.specs.Scan.{front_of, marked, quoted, dollar, number_len, commented}
 use Rattle.tptp_lexer.specs.Spelled.{IsLongest}
 use Rattle.tptp_lexer.proofs.CommentEnds.{comment_end_is}
 use Rattle.tptp_lexer.proofs.Cuts.{found_longest}

@@ -13,7 +13,7 @@ use Rattle.tptp_grammar.specs.Items.{IsItem}
 use Rattle.tptp_grammar.specs.Solid.{Placed, is_comment, solid}
 use Rattle.tptp_grammar.specs.Files.{Through, last_token, token, IsFile, end_of_file, comment, input}
 use Rattle.tptp_grammar.proofs.Solids.{BeginsSolid}
-use Rattle.tptp_grammar.proofs.SolidItems.{SolidTo, none, one}
+use Rattle.tptp_grammar.proofs.SolidItems.{AreSolid}
 use Rattle.tptp_grammar.proofs.ExactFile.{Ends, ends_here, ends_drop, ends_keep, comment_text, solid_kept, solid_dropped, through_drop}
 
 -- ---- tokens between comments
@@ -39,10 +39,10 @@ unfoldable pub placed : Place → Tokens → List Placed
 placed place [] = []
 placed place (u ∷ us) = (u.0, place) ∷ placed place us
 
-pub holds_placed : {ts rest : Tokens} → (place : Place) → SolidTo ts rest → rest ≡ [] → Holds (placed place ts) ts
+pub holds_placed : (place : Place) (ts : Tokens) → AreSolid ts → Holds (placed place ts) ts
 unfolding placed
-holds_placed {ts = ts} place none e = subst (λ l. Holds (placed place l) l) (sym e) holds_none
-holds_placed place (one e h) k = holds_keep e (holds_placed place h k)
+holds_placed place [] h = holds_none
+holds_placed place ((u, n) ∷ us) h = holds_keep h.0 (holds_placed place us h.1)
 
 -- comments are a file
 data Remarks : List Placed → Type 0 where

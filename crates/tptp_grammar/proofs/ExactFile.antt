@@ -18,7 +18,7 @@ use Rattle.tptp_grammar.specs.Items.{IsItem}
 use Rattle.tptp_grammar.specs.Solid.{Placed, is_comment, solid}
 use Rattle.tptp_grammar.specs.Files.{Through, last_token, dropped, token, IsFile, end_of_file, comment, input}
 use Rattle.tptp_grammar.specs.code.ReadItems.{item}
-use Rattle.tptp_grammar.specs.code.ReadFile.{with_item, followed, file_from, file}
+use Rattle.tptp_grammar.proofs.ReadFile.{with_item, followed, file_from, file}
 use Rattle.tptp_grammar.proofs.ExactItems.{good_item}
 
 -- ---- lists without their comments

@@ -15,9 +15,9 @@ use Rattle.tptp_grammar.specs.Items.{IsItem}
 use Rattle.tptp_grammar.specs.Solid.{Placed, is_comment, is_remark, solid}
 use Rattle.tptp_grammar.specs.Files.{IsFile, end_of_file, comment, input, SpellsWithin}
 use Rattle.tptp_grammar.specs.code.ReadItems.{item}
-use Rattle.tptp_grammar.specs.code.ReadFile.{FileOutcome, with_item, file}
+use Rattle.tptp_grammar.proofs.ReadFile.{FileOutcome, with_item, file}
 use Rattle.tptp_grammar.proofs.Solids.{BeginsSolid}
-use Rattle.tptp_grammar.proofs.SolidItems.{SolidTo, none, one, of_item}
+use Rattle.tptp_grammar.proofs.SolidItems.{AreSolid, of_item, solid_to}
 use Rattle.tptp_grammar.proofs.ExactItems.{good_item}
 use Rattle.tptp_grammar.proofs.ExactFile.{Ends, comment_text, solid_kept, solid_ends, through_of, item_read, item_fails, started_comment}
 use Rattle.tptp_grammar.proofs.AmongComments.{Passed, Second, Taken, Whole, holds_both, holds_placed, passed, placed, second_of, solid_holds, taken, whole_of}
@@ -161,18 +161,14 @@ rest_head place (entry ∷ rest) u others h e =
     let same : entry.0 ≡ u = cc in
     (rest, ap (λ v. (v, entry.1) ∷ rest) same)
 
-solid_tail : {ts rest : Tokens} → SolidTo ts rest → (u : Nested Token) (us : Tokens) → ts ≡ u ∷ us → rest ≡ [] → SolidTo us []
-solid_tail none u us e k = let no_token : u ∷ us ≡ [] = sym e ∙ k in cc
-solid_tail (one {ts = ts} {rest = rest} i h) u us e k = let same : ts ≡ us = cc in subst (λ l. SolidTo us l) k (subst (λ l. SolidTo l rest) same h)
-
-solid_behind : (us vs : Tokens) → SolidTo (us ++ vs) [] → SolidTo vs []
+solid_behind : (us vs : Tokens) → AreSolid (us ++ vs) → AreSolid vs
 solid_behind [] vs h = h
-solid_behind (u ∷ us) vs h = solid_behind us vs (solid_tail h u (us ++ vs) refl refl)
+solid_behind (u ∷ us) vs h = solid_behind us vs h.1
 
 whole_placed : (style : Style) (place : Place) (i : Item) (vs : Tokens) → IsItem style place i vs [] → Whole style (placed place vs) vs
 unfolding placed
 whole_placed style place i [] h = absurd (some_item h refl)
-whole_placed style place i (v ∷ vs) h = whole_of style place i v.0 v.1 (placed place vs) vs h (holds_placed place (solid_tail (of_item h) v vs refl refl) refl)
+whole_placed style place i (v ∷ vs) h = whole_of style place i v.0 v.1 (placed place vs) vs h (holds_placed place vs (solid_to (of_item h) tt))
 
 module _ (style : Style) (room : ℕ) (t : Token) (place : Place) (kept : is_comment t ≡ false) (raw : List Placed) (cause : Cause) (left : List Token) (value : Item) (on : Tokens → Tokens) where
   over_here : (left ≡ t ∷ solid raw) → (c : Cause) → Over c room left on → FileOver c room ((t, place) ∷ raw) (placed place (on [])) (on [])
@@ -236,8 +232,8 @@ module _ (style : Style) (room : ℕ) (t : Token) (place : Place) (kept : is_com
     fault_behind spells over again =
         let p = passed left raw us others in
         let q = place_or place p.rest in
-        let solid_on : SolidTo (on []) [] = solid_behind us (on []) (solid_tail (of_item (spells [])) (t, n) (us ++ on []) refl refl) in
-        let w = whole_of style place value t n (p.fr ++ placed q (on [])) (us ++ on []) (spells []) (holds_both p.holds (holds_placed q solid_on refl)) in record {
+        let solid_on : AreSolid (on []) = solid_behind us (on []) (solid_to (of_item (spells [])) tt) in
+        let w = whole_of style place value t n (p.fr ++ placed q (on [])) (us ++ on []) (spells []) (holds_both p.holds (holds_placed q (on []) solid_on)) in record {
           front = (t, place) ∷ p.fr;
           rest = p.rest;
           text = ap (λ l. (t, place) ∷ l) p.text;

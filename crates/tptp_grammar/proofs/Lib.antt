@@ -18,13 +18,14 @@ pub mod ExactItems
 pub mod SolidItems
 pub mod SpelledNames
 pub mod SpelledSizes
+pub mod ReadFile
 pub mod ExactFile
 pub mod AmongComments
 pub mod FirstFaults
 pub mod Nests
+pub mod Overs
+pub mod Dots
 pub mod Whole
-pub mod Turns
-pub mod Refusals
 pub mod Taking
 pub mod Stuck
 pub mod OneAnswer

@@ -1,5 +1,5 @@
 -- Tokens have an answer, and only one.
-use Rattle.std.proofs.Common.{◌≡◌, Bool, true, false, if◌then◌else◌, List, [], ◌∷◌, ◌++◌, length, flat_map, Option, Some, None, Result, Ok, Err, ◌⊎◌, inl, inr, refl, sym, ◌∙◌, ap, subst, append_assoc}
+use Rattle.std.proofs.Common.{◌≡◌, Bool, true, false, if◌then◌else◌, ◌+◌, ◌-◌, List, [], ◌∷◌, ◌++◌, length, flat_map, Option, Some, None, Result, Ok, Err, ◌⊎◌, inl, inr, refl, sym, ◌∙◌, ap, subst, append_assoc, arith}
 use Rattle.std.specs.Result.{IsErrAnd}
 use Rattle.first_fault.specs.Nesting.{plain, FirstOver}
 use Rattle.first_fault.specs.code.Reading.{Cause, Unexpected, TooDeep}
@@ -11,14 +11,15 @@ use Rattle.tptp_grammar.specs.declared.stop.Stop.TheVariants as stop
 use Rattle.tptp_grammar.specs.declared.fault.GrammarFault.{GrammarFault}
 use Rattle.tptp_grammar.specs.declared.fault.GrammarFault.TheVariants as fault
 use Rattle.tptp_grammar.specs.Tokens.{Tokens}
-use Rattle.tptp_grammar.specs.Solid.{Placed}
+use Rattle.tptp_grammar.specs.Solid.{Placed, solid}
 use Rattle.tptp_grammar.specs.Files.{IsFile, SpellsWithin, IsPossible, IsPossibleWithin}
 use Rattle.tptp_grammar.specs.Faults.{max_nesting, is_outside, IsUnfinished}
-use Rattle.tptp_grammar.specs.code.ReadFile.{FileOutcome, file}
+use Rattle.tptp_grammar.specs.code.Dots.{entry_behind}
+use Rattle.tptp_grammar.proofs.ReadFile.{FileOutcome, file}
 use Rattle.tptp_grammar.specs.Answers as a
 use Rattle.tptp_grammar.specs.code.Answers as a_code
 use Rattle.tptp_grammar.specs.Laws.{IsOne, HasAnswer}
-use Rattle.tptp_grammar.proofs.Whole.{ok_says, fault_says, deep_refused, one_list}
+use Rattle.tptp_grammar.proofs.Whole.{ok_says, fault_says, left_within, deep_refused, one_list}
 use Rattle.tptp_grammar.proofs.Stuck.{Stuck, same_stuck, possible_within, possible_so, not_possible, deep_stuck}
 
 abbrev items_in : Result (List Item) GrammarFault → List Item
@@ -141,13 +142,20 @@ module _ (style : Style) (tokens : List Placed) (end : Place) where
   depth_not None e = cc
   depth_not (Some entry) e = cc
 
+  -- the token with which these are left
+  abbrev entry_from : List Token → Option Placed
+  entry_from left = entry_behind (length (solid tokens) - length left) tokens
+
+  counted : (c : Cause) (left : List Token) → file style max_nesting tokens ≡ Err (c, left) → length (solid tokens) - length left + length left ≡ length (solid tokens)
+  counted c left e = let fits = left_within style tokens end c left e in omega (arith, fits)
+
   by_fault : (c : Cause) (left : List Token) → file style max_nesting tokens ≡ Err (c, left) → HasAnswer style tokens end
   by_fault Unexpected left e =
-      let o = a_code.entry_at (length left) tokens in
-      (Err (a_code.refusal_at o end), no_memory (a_code.refusal_at o end) (refusal_not o), fault_says style tokens end stop.Unexpected (length left) (left, refl, e))
+      let o = entry_from left in
+      (Err (a_code.refusal_at o end), no_memory (a_code.refusal_at o end) (refusal_not o), fault_says style tokens end stop.Unexpected left [] tokens (length (solid tokens) - length left) refl (counted Unexpected left e) e)
   by_fault TooDeep left e =
-      let o = a_code.entry_at (length left) tokens in
-      (Err (a_code.depth_at o end), no_memory (a_code.depth_at o end) (depth_not o), fault_says style tokens end stop.TooDeep (length left) (left, refl, e))
+      let o = entry_from left in
+      (Err (a_code.depth_at o end), no_memory (a_code.depth_at o end) (depth_not o), fault_says style tokens end stop.TooDeep left [] tokens (length (solid tokens) - length left) refl (counted TooDeep left e) e)
 
   by_outcome : (o : FileOutcome) → file style max_nesting tokens ≡ o → HasAnswer style tokens end
   by_outcome (Ok items) e = (Ok items, λ never. (cc), ok_says style tokens items e)
@@ -182,8 +190,8 @@ module _ (style : Style) (tokens : List Placed) (end : Place) where
   deep answer h items us over d k =
       let (rest, e) = deep_refused style max_nesting items tokens us d over k in
       let left = plain rest in
-      let o = a_code.entry_at (length left) tokens in
-      is_deep o answer (one answer (Err (a_code.depth_at o end)) h (fault_says style tokens end stop.TooDeep (length left) (left, refl, e)))
+      let o = entry_from left in
+      is_deep o answer (one answer (Err (a_code.depth_at o end)) h (fault_says style tokens end stop.TooDeep left [] tokens (length (solid tokens) - length left) refl (counted TooDeep left e) e))
 
   -- ---- answers that are handed on
 

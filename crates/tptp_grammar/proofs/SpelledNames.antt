@@ -37,7 +37,7 @@ use Rattle.tptp_grammar.specs.Items as i
 use Rattle.tptp_grammar.specs.Items.{IsBody, IsItem}
 use Rattle.tptp_grammar.specs.Solid.{Placed}
 use Rattle.tptp_grammar.specs.Files.{Through, last_token, dropped, token, IsFile, end_of_file, comment, input, Spells}
-use Rattle.tptp_grammar.proofs.SolidItems.{SolidTo, none, one, of_shape, of_variables, of_name, of_end, of_selection}
+use Rattle.tptp_grammar.proofs.SolidItems.{ClearTo, none, one, DotTo, dot, earlier, of_shape, of_variables, of_name, of_end, of_selection}
 
 -- ---- tokens
 
@@ -49,9 +49,13 @@ Words tokens = AllByRecursion (λ (entry : Nested Token). IsNameable entry.0) to
 abbrev Spelt : Names → Tokens → Type 0
 Spelt names rest = AreQuotable names × Words rest
 
-behind : {ts rest : Tokens} → SolidTo ts rest → Words ts → Words rest
+behind : {ts rest : Tokens} → ClearTo ts rest → Words ts → Words rest
 behind none all = all
-behind (one solid h) all = behind h all.1
+behind (one clear h) all = behind h all.1
+
+behind_dot : {ts rest : Tokens} → DotTo ts rest → Words ts → Words rest
+behind_dot dot all = all.1
+behind_dot (earlier clear h) all = behind_dot h all.1
 
 word_quotable : (w : Token) (name : Text) → word w ≡ Some name → IsNameable w → IsQuotable name
 word_quotable (Lower own) name e h = (let same : own ≡ name = cc in subst IsQuotable same h)
@@ -144,8 +148,8 @@ of_body (i.tcf_body h) all = of_typed_clause h all
 of_body (i.type_body h) all = of_typing h all
 
 of_item : {style : Style} {place : Place} {x : Item} {ts rest : Tokens} → IsItem style place x ts rest → Words ts → Spelt (names_of_item x) rest
-of_item (i.annotated e has h j k x) all = (let inner = of_body k (behind (of_name h) all.1.1).1.1.1 in (inner.0, behind (of_end x) inner.1))
-of_item (i.include e h) all = ((all.1.1.0, tt), behind (of_selection h) all.1.1.1)
+of_item (i.annotated e has h j k x) all = (let inner = of_body k (behind (of_name h) all.1.1).1.1.1 in (inner.0, behind_dot (of_end x) inner.1))
+of_item (i.include e h) all = ((all.1.1.0, tt), behind_dot (of_selection h) all.1.1.1)
 
 -- ---- files
 

@@ -1,52 +1,48 @@
 -- The parser's loop, whose items are taken one by one.
-use Rattle.std.proofs.Common.{◌≡◌, ℕ, zero, ◌<◌, List, [], ◌∷◌, ◌++◌, flat_map, Result, Ok, Err, sym, ◌∙◌, ap, subst, append_assoc, append-nil}
+use Rattle.std.proofs.Common.{◌≡◌, ◌↔◌, Bool, false, IsTrue, ℕ, ◌<◌, ◌≤◌, List, [], ◌∷◌, ◌++◌, length, flat_map, refl, sym, ◌∙◌, ap, subst, append_assoc, append-nil, arith}
 use Rattle.std.proofs.lemmas.Grind.{flat_map-append}
-use Rattle.std.specs.Prelude.{IfErr}
-use Rattle.std.specs.Result.{IsErrAnd}
 use Rattle.tptp_lexer.specs.declared.style.Style.{Style}
 use Rattle.tptp_lexer.specs.declared.token.Token.{Token}
+use Rattle.tptp_lexer.specs.declared.token.Token.TheVariants.{Comment}
+use Rattle.tptp_base.specs.declared.place.Place.{Place}
 use Rattle.tptp_base.specs.declared.item.Item.{Item}
-use Rattle.tptp_grammar.specs.declared.reading.Refusal.{Refusal}
+use Rattle.tptp_grammar.specs.Files.{SpellsWithin}
 use Rattle.tptp_grammar.specs.Faults.{max_nesting}
-use Rattle.tptp_grammar.specs.Solid.{Placed, solid}
-use Rattle.tptp_grammar.specs.code.ReadFile.{file}
-use Rattle.tptp_grammar.specs.code.Answers.{Starts, StartFails, Stopped}
-use Rattle.tptp_grammar.proofs.Refusals.{handed_on}
-use Rattle.tptp_grammar.proofs.Turns.{Passes, kept_passed}
-use Rattle.tptp_grammar.proofs.Whole.{Kept, kept_first, kept_last, kept_start, stops}
+use Rattle.tptp_grammar.specs.Solid.{Placed}
+use Rattle.tptp_grammar.specs.code.Answers.{Starts}
+use Rattle.tptp_grammar.proofs.Dots.{behind_shorter}
+use Rattle.tptp_grammar.proofs.Whole.{Kept, kept_first, kept_last, kept_start, ok_says}
 
 -- the items so far are taken, and they and what is still to be read are the whole
-pub record Taken {Part : Type 0} (parts : Item → List Part) (old now : List Part) (style : Style) (all : List Placed) (left : ℕ) (rest : List Placed) (cursor : List Token) : Type 0 where
+pub record Taken {Part : Type 0} (parts : Item → List Part) (old now : List Part) (style : Style) (all rest : List Placed) : Type 0 where
   pub found : List Item
-  pub kept : Kept style all found left rest cursor
+  pub kept : Kept style all found rest
   pub taken : now ≡ old ++ flat_map parts found
 
 module _ {Part : Type 0} (parts : Item → List Part) (old : List Part) (style : Style) (all : List Placed) where
-  pub taken_first : (rest : List Placed) (cursor : List Token) → rest ≡ all → cursor ≡ solid all → Taken parts old old style all zero rest cursor
-  taken_first rest cursor is e = record {
-    found = [];
-    kept = subst (λ (ts : List Placed). Kept style all [] zero ts cursor) (sym is) (kept_first style all cursor e);
-    taken = sym (append-nil old);
-  }
+  pub taken_first : (rest : List Placed) → rest ≡ all → Taken parts old old style all rest
+  taken_first rest is = record { found = []; kept = subst (Kept style all []) (sym is) (kept_first style all); taken = sym (append-nil old) }
 
-  pub taken_passed : (now : List Part) (left : ℕ) (us new : List Placed) (n : ℕ) (cursor : List Token) → 0 < left → (us ≡ [] → ⊥) → Passes us left new n → Taken parts old now style all left us cursor → Taken parts old now style all n new cursor
-  taken_passed now left us new n cursor some more p h = record { found = h.found; kept = kept_passed style all h.found left cursor some us new n more p h.kept; taken = h.taken }
-
-  pub taken_last : (now : List Part) (left : ℕ) (rest : List Placed) (cursor : List Token) → rest ≡ [] → Taken parts old now style all left rest cursor → (found : List Item) × (file style max_nesting all ≡ Ok found) × (now ≡ old ++ flat_map parts found)
-  taken_last now left rest cursor is h = (h.found, kept_last style all h.found left rest cursor is h.kept, h.taken)
+  pub taken_last : (now : List Part) (rest : List Placed) → rest ≡ [] → Taken parts old now style all rest → (found : List Item) × SpellsWithin style max_nesting found all × (now ≡ old ++ flat_map parts found)
+  taken_last now rest is h = (h.found, ok_says style all h.found (kept_last style all h.found rest is h.kept), h.taken)
 
   one_more : (now next : List Part) (found : List Item) (item : Item) → now ≡ old ++ flat_map parts found → next ≡ now ++ parts item → next ≡ old ++ flat_map parts (found ++ (item ∷ []))
   one_more now next found item is more =
       let last : flat_map parts (found ++ (item ∷ [])) ≡ flat_map parts found ++ parts item = flat_map-append parts found (item ∷ []) ∙ ap (λ l. flat_map parts found ++ l) (append-nil (parts item)) in
       more ∙ ap (λ l. l ++ parts item) is ∙ append_assoc old (flat_map parts found) (parts item) ∙ ap (λ l. old ++ l) (sym last)
 
-  -- between items
-  module _ (now : List Part) (left : ℕ) (entry : Placed) (rest us : List Placed) (cursor : List Token) (is : us ≡ entry ∷ rest) (none : left ≡ zero) (h : Taken parts old now style all left us cursor) where
-    here : Kept style all h.found zero us cursor
-    here = subst (λ (n : ℕ). Kept style all h.found n us cursor) none h.kept
+  -- behind one more item
+  pub taken_more : (now next : List Part) (t : Token) (place : Place) (ts us : List Placed) → us ≡ (t, place) ∷ ts → Taken parts old now style all us → (item : Item) (new : List Placed) → Starts style t place ts item new → next ≡ now ++ parts item
+      → Taken parts old next style all new
+  taken_more now next t place ts us is h item new starts more = record { found = h.found ++ (item ∷ []); kept = kept_start style all h.found t place ts us is h.kept item new starts; taken = one_more now next h.found item h.taken more }
 
-    pub taken_more : (next : List Part) (item : Item) (n : ℕ) (new : List Token) → Starts style max_nesting entry.0 entry.1 cursor item n new → next ≡ now ++ parts item → Taken parts old next style all n rest new
-    taken_more next item n new starts more = record { found = h.found ++ (item ∷ []); kept = kept_start style all h.found entry rest us cursor is here item n new starts; taken = one_more now next h.found item h.taken more }
+-- where a list is not found empty
+pub more_left : (b : Bool) (us : List Placed) → (IsTrue b ↔ (us ≡ [])) → b ≡ false → us ≡ [] → ⊥
+more_left b us h e none = let t : IsTrue b = h.1 none in cc
 
-    pub turn_refused : {A : Type 0} (res : Result A Refusal) (r : Refusal) (new : List Token) → IsErrAnd res (λ e. e ≡ r) → StartFails style max_nesting entry.0 entry.1 cursor r.stop r.left new → IfErr res (λ e. Stopped (file style max_nesting all) e.stop e.left)
-    turn_refused res r new is_r fails = handed_on (file style max_nesting all) res r is_r (stops style all h.found entry rest us cursor is here r.stop r.left new fails)
+shorter_start : (style : Style) (t : Token) (place : Place) (rest : List Placed) (item : Item) (new : List Placed) → Starts style t place rest item new → length new ≤ length rest
+shorter_start style (Comment text) place rest item new h = omega (arith, ap length h.1)
+shorter_start style t place rest item new h = omega (arith, ap length h.0, behind_shorter rest)
+
+pub starts_shorter : (style : Style) (t : Token) (place : Place) (rest us : List Placed) (item : Item) (new : List Placed) → us ≡ (t, place) ∷ rest → Starts style t place rest item new → length new < length us
+starts_shorter style t place rest us item new is h = let le = shorter_start style t place rest item new h in omega (arith, ap length is)

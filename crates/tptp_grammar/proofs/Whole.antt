@@ -1,10 +1,7 @@
 -- All tokens: what the parser's loop keeps, and what its answers say.
-use Rattle.std.proofs.Common.{◌≡◌, ◌==◌, ◌&&◌, not, Bool, true, false, if◌then◌else◌, ℕ, zero, suc, ◌+◌, ◌-◌, ◌≤◌, ◌<◌, List, [], ◌∷◌, ◌++◌, length, drop, Option, Some, None, Ok, Err, inl, inr, refl, sym, ◌∙◌, ap, subst, append_assoc, append-nil, length-append, arith}
-use Rattle.std.proofs.Math.Seq.{drop-append_seam}
-use Rattle.std.proofs.lemmas.Bool.Decides.{nat_tests}
-use Rattle.first_fault.specs.Nesting.{plain, Within, FirstOver, here, behind}
-use Rattle.first_fault.specs.code.Reading.{Cause, Unexpected, TooDeep, Outcome, next}
-use Rattle.first_fault.proofs.Exact.{Exact, IsRead}
+use Rattle.std.proofs.Common.{◌≡◌, Bool, true, false, if◌then◌else◌, ℕ, zero, suc, ◌+◌, ◌-◌, ◌≤◌, List, [], ◌∷◌, ◌++◌, length, Option, Some, Ok, Err, inl, inr, refl, sym, ◌∙◌, ap, subst, append_assoc, append-nil, length-append, arith, ◌⊎◌}
+use Rattle.first_fault.specs.Nesting.{plain, Within, FirstOver}
+use Rattle.first_fault.specs.code.Reading.{Cause, Unexpected, TooDeep, next}
 use Rattle.tptp_lexer.specs.declared.style.Style.{Style}
 use Rattle.tptp_lexer.specs.declared.token.Token.{Token}
 use Rattle.tptp_lexer.specs.declared.token.Token.TheVariants.{Comment}
@@ -14,43 +11,21 @@ use Rattle.tptp_base.specs.declared.item.Item.TheVariants as it
 use Rattle.tptp_grammar.specs.declared.stop.Stop.{Stop}
 use Rattle.tptp_grammar.specs.declared.stop.Stop.TheVariants as stop
 use Rattle.tptp_grammar.specs.declared.fault.GrammarFault.TheVariants as fault
-use Rattle.tptp_grammar.specs.Tokens.{Text, Tokens}
-use Rattle.tptp_grammar.specs.Items.{IsItem}
+use Rattle.tptp_grammar.specs.Tokens.{Tokens}
 use Rattle.tptp_grammar.specs.Solid.{Placed, is_comment, is_remark, solid}
 use Rattle.tptp_grammar.specs.Files.{IsFile, Spells, SpellsWithin, IsPossible, IsPossibleWithin}
 use Rattle.tptp_grammar.specs.Faults.{max_nesting, is_outside, IsImpossible, IsUnfinished, IsDeep}
+use Rattle.tptp_grammar.specs.code.Dots.{through_dot, behind_dot, entry_behind}
 use Rattle.tptp_grammar.specs.code.Outcomes.{Fails}
 use Rattle.tptp_grammar.specs.code.ReadItems.{item}
-use Rattle.tptp_grammar.specs.code.ReadFile.{FileOutcome, with_item, followed, started, file_from, file}
+use Rattle.tptp_grammar.proofs.ReadFile.{FileOutcome, with_item, file}
 use Rattle.tptp_grammar.specs.Answers as a
 use Rattle.tptp_grammar.specs.code.Answers as a_code
 use Rattle.tptp_grammar.proofs.Solids.{BeginsSolid}
-use Rattle.tptp_grammar.proofs.ExactItems.{good_item}
-use Rattle.tptp_grammar.proofs.ExactFile.{solid_kept, solid_dropped, comment_text, found_file}
-use Rattle.tptp_grammar.proofs.FirstFaults.{FileFault, FileSays, file_says, some_item}
-
--- ---- an item takes tokens
-
-taken_front : (style : Style) (place : Place) (i : Item) (us rest : List Token) (front : Tokens) → us ≡ plain front ++ rest → ((after : Tokens) → IsItem style place i (front ++ after) after) → (t : Token) (more : List Token) → us ≡ t ∷ more → (length rest < length us) × (rest ≡ drop (length more - length rest) more)
-taken_front style place i us rest [] text spells t more is = absurd (some_item (spells []) refl)
-taken_front style place i us rest (u ∷ front) text spells t more is =
-    let both : t ∷ more ≡ u.0 ∷ (plain front ++ rest) = sym is ∙ text in
-    let others : more ≡ plain front ++ rest = cc in
-    let size : length more - length rest ≡ length (plain front) = omega (arith, ap length others, length-append (plain front) rest) in (
-      omega (arith, ap length is, ap length others, length-append (plain front) rest),
-      sym (drop-append_seam (plain front) rest) ∙ ap (λ l. drop (length (plain front)) l) (sym others) ∙ ap (λ n. drop n more) (sym size),
-    )
-
-read_takes : (style : Style) (room : ℕ) (place : Place) (i : Item) (us rest : List Token) → IsRead (item style room place) (IsItem style place) room i us rest → (t : Token) (more : List Token) → us ≡ t ∷ more → (length rest < length us) × (rest ≡ drop (length more - length rest) more)
-read_takes style room place i us rest h t more is = taken_front style place i us rest h.front h.text h.spells t more is
-
-item_takes : (style : Style) (room : ℕ) (place : Place) (i : Item) (t : Token) (more rest : List Token) → item style room place (t ∷ more) ≡ Ok (i, rest) → (length rest < length (t ∷ more)) × (rest ≡ drop (length more - length rest) more)
-item_takes style room place i t more rest e = read_takes style room place i (t ∷ more) rest (subst (Exact (item style room place) (IsItem style place) room (t ∷ more)) e ((good_item style room room (omega arith) place).exact (t ∷ more))) t more refl
-
-pub item_moves : (style : Style) (room : ℕ) (place : Place) (i : Item) (us rest : List Token) → item style room place us ≡ Ok (i, rest) → length rest < length us
-unfolding item
-item_moves style room place i [] rest e = let none : ◌≡◌ {A = Outcome Token Item} (Err (Unexpected, [])) (Ok (i, rest)) = e in cc
-item_moves style room place i (t ∷ us) rest e = (item_takes style room place i t us rest e).0
+use Rattle.tptp_grammar.proofs.Dots.{solid_split, behind_split, read_through, fails_through, left_fits}
+use Rattle.tptp_grammar.proofs.Overs.{not_over}
+use Rattle.tptp_grammar.proofs.ExactFile.{solid_kept, solid_dropped, comment_text, found_file, started_comment, item_fails}
+use Rattle.tptp_grammar.proofs.FirstFaults.{FileFault, FileSays, file_says}
 
 -- ---- what the loop keeps
 
@@ -66,138 +41,112 @@ with_one_more : (found : List Item) (i : Item) (o : FileOutcome) → with_items 
 with_one_more found i (Ok items) = ap Ok (sym (append_assoc found (i ∷ []) items))
 with_one_more found i (Err f) = refl
 
--- the cursor stands behind the item, and the items so far and what is still to be read are the whole
-abbrev pub Kept : Style → List Placed → List Item → ℕ → List Placed → List Token → Type 0
-Kept style all found left ts cursor = (cursor ≡ drop left (solid ts)) × (file style max_nesting all ≡ with_items found (file_from style max_nesting left ts))
+-- the items so far, and what is still to be read, are the whole
+pub record Kept (style : Style) (all : List Placed) (found : List Item) (ts : List Placed) : Type 0 where
+  pub before : List Placed
+  pub text : all ≡ before ++ ts
+  pub read : file style max_nesting all ≡ with_items found (file style max_nesting ts)
 
-pub kept_first : (style : Style) (all : List Placed) (cursor : List Token) → cursor ≡ solid all → Kept style all [] zero all cursor
+pub kept_first : (style : Style) (all : List Placed) → Kept style all [] all
+kept_first style all = record { before = []; text = refl; read = sym (with_none (file style max_nesting all)) }
+
+no_more : (style : Style) → file style max_nesting [] ≡ Ok []
 unfolding file
-kept_first style all cursor e = (e, sym (with_none (file style max_nesting all)))
+no_more style = refl
 
-pub kept_last : (style : Style) (all : List Placed) (found : List Item) (left : ℕ) (ts : List Placed) (cursor : List Token) → ts ≡ [] → Kept style all found left ts cursor → file style max_nesting all ≡ Ok found
-kept_last style all found left ts cursor is h = h.1 ∙ ap (λ l. with_items found (file_from style max_nesting left l)) is ∙ ap Ok (append-nil found)
+pub kept_last : (style : Style) (all : List Placed) (found : List Item) (ts : List Placed) → ts ≡ [] → Kept style all found ts → file style max_nesting all ≡ Ok found
+kept_last style all found ts is h = h.read ∙ ap (λ l. with_items found (file style max_nesting l)) is ∙ ap (with_items found) (no_more style) ∙ ap Ok (append-nil found)
 
-skip_case : (style : Style) (b : Bool) (t : Token) (place : Place) (ts : List Placed) (left : ℕ) → is_comment t ≡ b → (drop (suc left) (solid ((t, place) ∷ ts)) ≡ drop (if b then suc left else left) (solid ts)) × (file_from style max_nesting (suc left) ((t, place) ∷ ts) ≡ file_from style max_nesting (if b then suc left else left) ts)
-skip_case style true t place ts left e = (ap (drop (suc left)) (solid_dropped t place ts e), ap (λ c. file_from style max_nesting (if c then suc left else left) ts) e)
-skip_case style false t place ts left e = (ap (drop (suc left)) (solid_kept t place ts e), ap (λ c. file_from style max_nesting (if c then suc left else left) ts) e)
+starts_item : (style : Style) (t : Token) (place : Place) (rest : List Placed) (i : Item) (new : List Placed) → is_comment t ≡ false → a_code.Starts style t place rest i new → a_code.ItemRead style t place rest i new
+starts_item style (Comment text) place rest i new e h = cc
+starts_item style t place rest i new e h = h
 
-module _ (style : Style) (all : List Placed) (found : List Item) (left : ℕ) (entry : Placed) (ts us : List Placed) (cursor : List Token) (is : us ≡ entry ∷ ts) (some : 0 < left) (h : Kept style all found left us cursor) where
-  skipped : (n : ℕ) → left ≡ suc n → (b : Bool) → is_comment entry.0 ≡ b → Kept style all found (if b then suc n else n) ts cursor
-  skipped n k b e =
-      let c = skip_case style b entry.0 entry.1 ts n e in (
-        h.0 ∙ ap (λ m. drop m (solid us)) k ∙ ap (λ l. drop (suc n) (solid l)) is ∙ c.0,
-        h.1 ∙ ap (λ m. with_items found (file_from style max_nesting m us)) k ∙ ap (λ l. with_items found (file_from style max_nesting (suc n) l)) is ∙ ap (with_items found) c.1,
-      )
+fails_item : (style : Style) (t : Token) (place : Place) (rest : List Placed) (s : Stop) (taken : ℕ) → is_comment t ≡ false → a_code.StartFails style t place rest s taken → a_code.Refuses style t place rest s taken
+fails_item style (Comment text) place rest s taken e h = cc
+fails_item style t place rest s taken e h = h
 
-  -- inside an item
-  pub kept_comment : is_comment entry.0 ≡ true → Kept style all found left ts cursor
-  kept_comment e = let k : left ≡ suc (left - 1) = omega (arith, some) in subst (λ m. Kept style all found m ts cursor) (sym k) (skipped (left - 1) k true e)
+module _ (style : Style) (all : List Placed) (found : List Item) (t : Token) (place : Place) (ts us : List Placed) (is : us ≡ (t, place) ∷ ts) (h : Kept style all found us) where
+  whole : file style max_nesting all ≡ with_items found (file style max_nesting ((t, place) ∷ ts))
+  whole = h.read ∙ ap (λ l. with_items found (file style max_nesting l)) is
 
-  pub kept_token : is_comment entry.0 ≡ false → Kept style all found (left - 1) ts cursor
-  kept_token e = let k : left ≡ suc (left - 1) = omega (arith, some) in skipped (left - 1) k false e
+  -- behind so much of what is still to be read
+  goes_on : (i : Item) (front new : List Placed) → ts ≡ front ++ new → file style max_nesting ((t, place) ∷ ts) ≡ with_item i (file style max_nesting new) → Kept style all (found ++ (i ∷ [])) new
+  goes_on i front new text e = record {
+    before = h.before ++ ((t, place) ∷ front);
+    text = h.text ∙ ap (λ l. h.before ++ l) (is ∙ ap (λ l. (t, place) ∷ l) text) ∙ sym (append_assoc h.before ((t, place) ∷ front) new);
+    read = whole ∙ ap (with_items found) e ∙ with_one_more found i (file style max_nesting new);
+  }
 
-starts_item : (style : Style) (t : Token) (place : Place) (old : List Token) (i : Item) (left : ℕ) (new : List Token) → is_comment t ≡ false → a_code.Starts style max_nesting t place old i left new → (item style max_nesting place old ≡ Ok (i, new)) × (suc (left + length new) ≡ length old)
-starts_item style (Comment text) place old i left new e h = cc
-starts_item style t place old i left new e h = h
-
-starts_comment : (style : Style) (t : Token) (place : Place) (old : List Token) (i : Item) (left : ℕ) (new : List Token) (text : Text) → t ≡ Comment text → a_code.Starts style max_nesting t place old i left new → (i ≡ it.Comment text) × (left ≡ 0) × (new ≡ old)
-starts_comment style t place old i left new text e h = subst (λ u. a_code.Starts style max_nesting u place old i left new) e h
-
-fails_item : (style : Style) (t : Token) (place : Place) (old : List Token) (s : Stop) (left : ℕ) (new : List Token) → is_comment t ≡ false → a_code.StartFails style max_nesting t place old s left new → Fails (item style max_nesting place old) s new × (left ≡ length new)
-fails_item style (Comment text) place old s left new e h = cc
-fails_item style t place old s left new e h = h
-
-fails_comment : (style : Style) (t : Token) (place : Place) (old : List Token) (s : Stop) (left : ℕ) (new : List Token) (text : Text) → t ≡ Comment text → a_code.StartFails style max_nesting t place old s left new → s ≡ stop.Memory
-fails_comment style t place old s left new text e h = subst (λ u. a_code.StartFails style max_nesting u place old s left new) e h
-
-from_item : (style : Style) (t : Token) (place : Place) (ts : List Placed) → is_comment t ≡ false → file_from style max_nesting zero ((t, place) ∷ ts) ≡ followed (item style max_nesting place (t ∷ solid ts)) (λ left. file_from style max_nesting left ts) (length (solid ts))
-from_item style (Comment text) place ts e = cc
-from_item style t place ts e = refl
-
-module _ (style : Style) (all : List Placed) (found : List Item) (entry : Placed) (ts us : List Placed) (cursor : List Token) (is : us ≡ entry ∷ ts) (h : Kept style all found zero us cursor) where
-  whole : file style max_nesting all ≡ with_items found (file_from style max_nesting zero (entry ∷ ts))
-  whole = h.1 ∙ ap (λ l. with_items found (file_from style max_nesting zero l)) is
-
-  cursor_is : is_comment entry.0 ≡ false → cursor ≡ entry.0 ∷ solid ts
-  cursor_is e = h.0 ∙ ap solid is ∙ solid_kept entry.0 entry.1 ts e
-
-  start_at : (b : Bool) → is_comment entry.0 ≡ b → (i : Item) (left : ℕ) (new : List Token) → a_code.Starts style max_nesting entry.0 entry.1 cursor i left new → Kept style all (found ++ (i ∷ [])) left ts new
-  start_at true e i left new k =
-      let c = comment_text entry.0 e in
-      let s = starts_comment style entry.0 entry.1 cursor i left new c.0 c.1 k in (
-        s.2 ∙ h.0 ∙ ap solid is ∙ solid_dropped entry.0 entry.1 ts e ∙ ap (λ m. drop m (solid ts)) (sym s.1),
-        whole ∙ ap (λ u. with_items found (started style max_nesting u entry.1 ts (λ m. file_from style max_nesting m ts))) c.1 ∙ ap (λ j. with_items found (with_item j (file_from style max_nesting zero ts))) (sym s.0)
-            ∙ with_one_more found i (file_from style max_nesting zero ts) ∙ ap (λ m. with_items (found ++ (i ∷ [])) (file_from style max_nesting m ts)) (sym s.1),
-      )
-  start_at false e i left new k =
-      let s = starts_item style entry.0 entry.1 cursor i left new e k in
-      let at : item style max_nesting entry.1 (entry.0 ∷ solid ts) ≡ Ok (i, new) = ap (item style max_nesting entry.1) (sym (cursor_is e)) ∙ s.0 in
-      let size : length (solid ts) - length new ≡ left = omega (arith, s.1, ap length (cursor_is e)) in
-      let takes = item_takes style max_nesting entry.1 i entry.0 (solid ts) new at in (
-        takes.1 ∙ ap (λ m. drop m (solid ts)) size,
-        whole ∙ ap (with_items found) (from_item style entry.0 entry.1 ts e) ∙ ap (λ o. with_items found (followed o (λ m. file_from style max_nesting m ts) (length (solid ts)))) at
-            ∙ ap (λ m. with_items found (with_item i (file_from style max_nesting m ts))) size ∙ with_one_more found i (file_from style max_nesting left ts),
-      )
+  start_at : (b : Bool) → is_comment t ≡ b → (i : Item) (new : List Placed) → a_code.Starts style t place ts i new → Kept style all (found ++ (i ∷ [])) new
+  start_at true e i new k =
+      let c = comment_text t e in
+      let s : (i ≡ it.Comment c.0) × (new ≡ ts) = subst (λ u. a_code.Starts style u place ts i new) c.1 k in
+      let one : file style max_nesting ((t, place) ∷ ts) ≡ with_item i (file style max_nesting ts) =
+      ap (λ u. file style max_nesting ((u, place) ∷ ts)) c.1 ∙ started_comment style max_nesting c.0 place ts ∙ ap (λ j. with_item j (file style max_nesting ts)) (sym s.0) in
+      subst (Kept style all (found ++ (i ∷ []))) (sym s.1) (goes_on i [] ts refl one)
+  start_at false e i new k =
+      let (last, left, read) = starts_item style t place ts i new e k in
+      let (front, text) = behind_split ts in
+      subst (Kept style all (found ++ (i ∷ []))) (sym last) (goes_on i front (behind_dot ts) text (read_through style max_nesting t place ts e i left read))
 
   -- between items
-  pub kept_start : (i : Item) (left : ℕ) (new : List Token) → a_code.Starts style max_nesting entry.0 entry.1 cursor i left new → Kept style all (found ++ (i ∷ [])) left ts new
-  kept_start i left new k = start_at (is_comment entry.0) refl i left new k
+  pub kept_start : (i : Item) (new : List Placed) → a_code.Starts style t place ts i new → Kept style all (found ++ (i ∷ [])) new
+  kept_start i new k = start_at (is_comment t) refl i new k
 
-  stopped_by : (s : Stop) (left : ℕ) (new : List Token) → is_comment entry.0 ≡ false → Fails (item style max_nesting entry.1 (entry.0 ∷ solid ts)) s new → left ≡ length new → a_code.Stopped (file style max_nesting all) s left
-  stopped_by stop.Memory left new e k n = tt
-  stopped_by stop.Unexpected left new e k n = (new, sym n, whole ∙ ap (with_items found) (from_item style entry.0 entry.1 ts e) ∙ ap (λ o. with_items found (followed o (λ m. file_from style max_nesting m ts) (length (solid ts)))) k)
-  stopped_by stop.TooDeep left new e k n = (new, sym n, whole ∙ ap (with_items found) (from_item style entry.0 entry.1 ts e) ∙ ap (λ o. with_items found (followed o (λ m. file_from style max_nesting m ts) (length (solid ts)))) k)
-
-  no_memory : (s : Stop) (left : ℕ) → s ≡ stop.Memory → a_code.Stopped (file style max_nesting all) s left
-  no_memory s left e = subst (λ q. a_code.Stopped (file style max_nesting all) q left) (sym e) tt
-
-  stop_at : (b : Bool) → is_comment entry.0 ≡ b → (s : Stop) (left : ℕ) (new : List Token) → a_code.StartFails style max_nesting entry.0 entry.1 cursor s left new → a_code.Stopped (file style max_nesting all) s left
-  stop_at true e s left new k = let c = comment_text entry.0 e in no_memory s left (fails_comment style entry.0 entry.1 cursor s left new c.0 c.1 k)
-  stop_at false e s left new k =
-      let f = fails_item style entry.0 entry.1 cursor s left new e k in stopped_by s left new e (subst (λ l. Fails (item style max_nesting entry.1 l) s new) (cursor_is e) f.0) f.1
-
-  pub stops : (s : Stop) (left : ℕ) (new : List Token) → a_code.StartFails style max_nesting entry.0 entry.1 cursor s left new → a_code.Stopped (file style max_nesting all) s left
-  stops s left new k = stop_at (is_comment entry.0) refl s left new k
-
-pub out_of_memory : (style : Style) (all : List Placed) (s : Stop) (left : ℕ) → s ≡ stop.Memory → a_code.Stopped (file style max_nesting all) s left
-out_of_memory style all s left e = subst (λ q. a_code.Stopped (file style max_nesting all) q left) (sym e) tt
+-- what a reader says that stops among the tokens that it was given
+module _ (style : Style) (t : Token) (place : Place) (ts : List Placed) (left : List Token) (given size taken : ℕ) (all : given ≡ length (t ∷ through_dot ts)) (rest : size ≡ length left) (count : taken ≡ given - size) where
+  pub refuses : (reason : Stop) → Fails (item style max_nesting place (t ∷ through_dot ts)) reason left → a_code.Refuses style t place ts reason taken
+  refuses stop.Memory k = inl refl
+  refuses stop.Unexpected k = let fits = left_fits style max_nesting t place ts Unexpected left k in inr (record { left = left; fails = k; count = omega (arith, fits, count, all, rest) })
+  refuses stop.TooDeep k = let fits = left_fits style max_nesting t place ts TooDeep left k in inr (record { left = left; fails = k; count = omega (arith, fits, count, all, rest) })
 
 -- ---- where the fault stands
 
-entry_by : (b : Bool) (left : ℕ) (entry : Placed) (rest : List Placed) → not (is_remark entry) && (length (solid (entry ∷ rest)) == left) ≡ b → a_code.entry_at left (entry ∷ rest) ≡ (if b then Some entry else a_code.entry_at left rest)
-entry_by b left entry rest e = ap (λ c. if c then Some entry else a_code.entry_at left rest) e
+entry_dropped : (count : ℕ) (entry : Placed) (rest : List Placed) → is_remark entry ≡ true → entry_behind count (entry ∷ rest) ≡ entry_behind count rest
+entry_dropped zero entry rest e = ap (λ b. if b then entry_behind zero rest else Some entry) e
+entry_dropped (suc count) entry rest e = ap (λ b. entry_behind (if b then suc count else count) rest) e
 
-longer_at : (b : Bool) (c : Placed) (us : List Token) (n : ℕ) → n ≤ length us → n ≤ length (if b then us else c.0 ∷ us)
-longer_at true c us n le = le
-longer_at false c us n le = omega arith
+entry_passed : (count : ℕ) (entry : Placed) (rest : List Placed) → is_remark entry ≡ false → entry_behind (suc count) (entry ∷ rest) ≡ entry_behind count rest
+entry_passed count entry rest e = ap (λ b. entry_behind (if b then suc count else count) rest) e
+
+entry_here : (rest : List Placed) → BeginsSolid rest → entry_behind zero rest ≡ next rest
+entry_here [] h = refl
+entry_here (entry ∷ rest) h = ap (λ b. if b then entry_behind zero rest else Some entry) h
+
+-- behind more tokens
+later_at : (b : Bool) (entry : Placed) (front rest : List Placed) (count : ℕ) → is_remark entry ≡ b → entry_behind (length (solid front) + count) (front ++ rest) ≡ entry_behind count rest
+    → entry_behind (length (solid (entry ∷ front)) + count) (entry ∷ (front ++ rest)) ≡ entry_behind count rest
+later_at true entry front rest count e h =
+    ap (λ n. entry_behind (n + count) (entry ∷ (front ++ rest))) (ap length (solid_dropped entry.0 entry.1 front e)) ∙ entry_dropped (length (solid front) + count) entry (front ++ rest) e ∙ h
+later_at false entry front rest count e h =
+    let more : length (solid (entry ∷ front)) + count ≡ suc (length (solid front) + count) = omega (arith, ap length (solid_kept entry.0 entry.1 front e)) in
+    ap (λ n. entry_behind n (entry ∷ (front ++ rest))) more ∙ entry_passed (length (solid front) + count) entry (front ++ rest) e ∙ h
+
+entry_later : (front rest : List Placed) (count : ℕ) → entry_behind (length (solid front) + count) (front ++ rest) ≡ entry_behind count rest
+entry_later [] rest count = let none : 0 + count ≡ count = omega arith in ap (λ n. entry_behind n rest) none
+entry_later (entry ∷ front) rest count = later_at (is_remark entry) entry front rest count refl (entry_later front rest count)
+
+both_at : (b : Bool) (entry : Placed) (front rest : List Placed) → is_remark entry ≡ b → solid (front ++ rest) ≡ solid front ++ solid rest → solid (entry ∷ (front ++ rest)) ≡ solid (entry ∷ front) ++ solid rest
+both_at true entry front rest e h = solid_dropped entry.0 entry.1 (front ++ rest) e ∙ h ∙ ap (λ l. l ++ solid rest) (sym (solid_dropped entry.0 entry.1 front e))
+both_at false entry front rest e h = solid_kept entry.0 entry.1 (front ++ rest) e ∙ ap (λ l. entry.0 ∷ l) h ∙ ap (λ l. l ++ solid rest) (sym (solid_kept entry.0 entry.1 front e))
+
+solid_both : (front rest : List Placed) → solid (front ++ rest) ≡ solid front ++ solid rest
+solid_both [] rest = refl
+solid_both (entry ∷ front) rest = both_at (is_remark entry) entry front rest refl (solid_both front rest)
+
+solid_length : (front rest : List Placed) → length (solid (front ++ rest)) ≡ length (solid front) + length (solid rest)
+solid_length front rest = ap length (solid_both front rest) ∙ length-append (solid front) (solid rest)
 
 pub solid_longer : (front rest : List Placed) → length (solid rest) ≤ length (solid (front ++ rest))
-solid_longer [] rest = omega arith
-solid_longer (c ∷ front) rest = longer_at (is_remark c) c (solid (front ++ rest)) (length (solid rest)) (solid_longer front rest)
-
-same_number : (a b : ℕ) → a ≡ b → (a == b) ≡ true
-same_number a b e = grind (arith, nat_tests, e)
-
-other_number : (a b : ℕ) → b < a → (a == b) ≡ false
-other_number a b lt = grind (arith, nat_tests, lt)
-
--- a token before the rest isn't the one
-not_here : (b : Bool) (c : Placed) (rest : List Placed) (left : ℕ) → is_remark c ≡ b → left ≤ length (solid rest) → (not (is_remark c) && (length (solid (c ∷ rest)) == left)) ≡ false
-not_here true c rest left e le = rw e refl
-not_here false c rest left e le =
-    let size : length (solid (c ∷ rest)) ≡ suc (length (solid rest)) = ap length (solid_kept c.0 c.1 rest e) in
-    let other : (length (solid (c ∷ rest)) == left) ≡ false = other_number (length (solid (c ∷ rest))) left (omega (arith, size)) in
-    ap (λ k. not k && (length (solid (c ∷ rest)) == left)) e ∙ other
-
-is_here : (c : Placed) (rest : List Placed) (left : ℕ) → is_remark c ≡ false → length (solid (c ∷ rest)) ≡ left → (not (is_remark c) && (length (solid (c ∷ rest)) == left)) ≡ true
-is_here c rest left e k = ap (λ b. not b && (length (solid (c ∷ rest)) == left)) e ∙ same_number (length (solid (c ∷ rest))) left k
-
-pub entry_found : (front rest : List Placed) (left : ℕ) → BeginsSolid rest → length (solid rest) ≡ left → a_code.entry_at left (front ++ rest) ≡ next rest
-entry_found [] [] left h e = refl
-entry_found [] (c ∷ rest) left h e = entry_by true left c rest (is_here c rest left h e)
-entry_found (c ∷ front) rest left h e = entry_by false left c (front ++ rest) (not_here (is_remark c) c (front ++ rest) left refl (omega (arith, e, solid_longer front rest))) ∙ entry_found front rest left h e
+solid_longer front rest = omega (arith, solid_length front rest)
 
 -- ---- what the answers say
+
+-- all tokens are not read, and these are left, unless memory runs out
+abbrev pub Stopped : FileOutcome → Stop → List Token → Type 0
+Stopped outcome stop.Memory left = Unit {0}
+Stopped outcome stop.Unexpected left = outcome ≡ Err (Unexpected, left)
+Stopped outcome stop.TooDeep left = outcome ≡ Err (TooDeep, left)
 
 abbrev pub cause_of : FileOutcome → Cause
 cause_of (Ok items) = Unexpected
@@ -206,10 +155,6 @@ cause_of (Err f) = f.0
 abbrev pub items_of : FileOutcome → List Item
 items_of (Ok items) = items
 items_of (Err f) = []
-
-not_over : {limit : ℕ} {ts over : Tokens} → FirstOver limit ts over → Within limit ts → ⊥
-not_over (here lt) h = let le = h.0 in omega arith
-not_over (behind le k) h = not_over k h.1
 
 module _ (style : Style) (room : ℕ) (items : List Item) (raw : List Placed) (us : Tokens) (d : IsFile style items raw us) where
   spelled_not_unexpected : (rest : List Token) → file style room raw ≡ Err (Unexpected, rest) → ⊥
@@ -274,17 +219,57 @@ module _ (style : Style) (raw : List Placed) (end : Place) where
       } in
       subst (λ r. a.FaultIs style raw end (a_code.depth_at (next r) end)) (sym o.rest_is) deep
 
-  entry_is : (cause : Cause) (left : List Token) (n : ℕ) → length left ≡ n → (h : FileFault style max_nesting raw cause left) → a_code.entry_at n raw ≡ next h.rest
-  entry_is cause left n e h = ap (a_code.entry_at n) h.text ∙ entry_found h.front h.rest n h.begins (ap length h.left_is ∙ e)
+  -- where a part of the tokens leads to the fault
+  entry_is : (cause : Cause) (left : List Token) (before ts : List Placed) (taken : ℕ) → raw ≡ before ++ ts → taken + length left ≡ length (solid ts) → (h : FileFault style max_nesting raw cause left) → entry_behind taken ts ≡ next h.rest
+  entry_is cause left before ts taken text count h =
+      let both : length (solid before) + length (solid ts) ≡ length (solid h.front) + length (solid h.rest) = sym (solid_length before ts) ∙ ap (λ l. length (solid l)) (sym text ∙ h.text) ∙ solid_length h.front h.rest in
+      let same : length (solid before) + taken ≡ length (solid h.front) + 0 = omega (arith, both, count, ap length h.left_is) in
+      sym (entry_later before ts taken) ∙ ap (entry_behind (length (solid before) + taken)) (sym text ∙ h.text) ∙ ap (λ n. entry_behind n (h.front ++ h.rest)) same ∙ entry_later h.front h.rest 0 ∙ entry_here h.rest h.begins
 
-  pub fault_says : (s : Stop) (n : ℕ) → a_code.Stopped (file style max_nesting raw) s n → a.FaultIs style raw end (a_code.fault_of s (a_code.entry_at n raw) end)
-  fault_says stop.Memory n h = tt
-  fault_says stop.Unexpected n (left, k, e) =
+  pub fault_says : (s : Stop) (left : List Token) (before ts : List Placed) (taken : ℕ) → raw ≡ before ++ ts → taken + length left ≡ length (solid ts) → Stopped (file style max_nesting raw) s left
+      → a.FaultIs style raw end (a_code.fault_of s (entry_behind taken ts) end)
+  fault_says stop.Memory left before ts taken text count h = tt
+  fault_says stop.Unexpected left before ts taken text count e =
       let f : FileFault style max_nesting raw Unexpected left = subst (FileSays style max_nesting raw) e (file_says style max_nesting raw) in
-      subst (λ o. a.FaultIs style raw end (a_code.refusal_at o end)) (sym (entry_is Unexpected left n k f)) (unexpected_by left e f f.rest refl)
-  fault_says stop.TooDeep n (left, k, e) =
+      subst (λ o. a.FaultIs style raw end (a_code.refusal_at o end)) (sym (entry_is Unexpected left before ts taken text count f)) (unexpected_by left e f f.rest refl)
+  fault_says stop.TooDeep left before ts taken text count e =
       let f : FileFault style max_nesting raw TooDeep left = subst (FileSays style max_nesting raw) e (file_says style max_nesting raw) in
-      subst (λ o. a.FaultIs style raw end (a_code.depth_at o end)) (sym (entry_is TooDeep left n k f)) (deep_by left f)
+      subst (λ o. a.FaultIs style raw end (a_code.depth_at o end)) (sym (entry_is TooDeep left before ts taken text count f)) (deep_by left f)
+
+  -- no more tokens are left than there are
+  pub left_within : (cause : Cause) (left : List Token) → file style max_nesting raw ≡ Err (cause, left) → length left ≤ length (solid raw)
+  left_within cause left e =
+      let f : FileFault style max_nesting raw cause left = subst (FileSays style max_nesting raw) e (file_says style max_nesting raw) in
+      omega (arith, ap length f.left_is, ap (λ l. length (solid l)) f.text, solid_length f.front f.rest)
+
+module _ (style : Style) (all : List Placed) (end : Place) (found : List Item) (t : Token) (place : Place) (ts us : List Placed) (is : us ≡ (t, place) ∷ ts) (h : Kept style all found us) where
+  file_stops : is_comment t ≡ false → (s : Stop) (left : List Token) → Fails (item style max_nesting place (t ∷ through_dot ts)) s left → Stopped (file style max_nesting all) s (left ++ solid (behind_dot ts))
+  file_stops e stop.Memory left k = tt
+  file_stops e stop.Unexpected left k = whole style all found t place ts us is h ∙ ap (with_items found) (item_fails style max_nesting t place ts (Unexpected, left ++ solid (behind_dot ts)) e (fails_through style max_nesting t place ts Unexpected left k))
+  file_stops e stop.TooDeep left k = whole style all found t place ts us is h ∙ ap (with_items found) (item_fails style max_nesting t place ts (TooDeep, left ++ solid (behind_dot ts)) e (fails_through style max_nesting t place ts TooDeep left k))
+
+  item_stops : is_comment t ≡ false → (s : Stop) (taken : ℕ) → a_code.ItemFails style t place ts s taken → a.FaultIs style all end (a_code.fault_of s (entry_behind taken us) end)
+  item_stops e s taken k =
+      let whole_item : solid us ≡ t ∷ (through_dot ts ++ solid (behind_dot ts)) = ap solid is ∙ solid_kept t place ts e ∙ ap (λ l. t ∷ l) (solid_split ts) in
+      let count = k.count in
+      fault_says style all end s (k.left ++ solid (behind_dot ts)) h.before us taken h.text
+      (omega (arith, count, ap length whole_item, length-append (through_dot ts) (solid (behind_dot ts)), length-append k.left (solid (behind_dot ts))))
+      (file_stops e s k.left k.fails)
+
+  no_memory : (s : Stop) (o : Option Placed) → s ≡ stop.Memory → a.FaultIs style all end (a_code.fault_of s o end)
+  no_memory s o e = subst (λ q. a.FaultIs style all end (a_code.fault_of q o end)) (sym e) tt
+
+  refused_at : is_comment t ≡ false → (s : Stop) (taken : ℕ) → a_code.Refuses style t place ts s taken → a.FaultIs style all end (a_code.fault_of s (entry_behind taken us) end)
+  refused_at e s taken (inl k) = no_memory s (entry_behind taken us) k
+  refused_at e s taken (inr k) = item_stops e s taken k
+
+  stop_at : (b : Bool) → is_comment t ≡ b → (s : Stop) (taken : ℕ) → a_code.StartFails style t place ts s taken → a.FaultIs style all end (a_code.fault_of s (entry_behind taken us) end)
+  stop_at true e s taken k = let c = comment_text t e in no_memory s (entry_behind taken us) (subst (λ u. a_code.StartFails style u place ts s taken) c.1 k)
+  stop_at false e s taken k = refused_at e s taken (fails_item style t place ts s taken e k)
+
+  -- the fault of an item that is not read is the fault of the whole
+  pub stops : (s : Stop) (taken : ℕ) → a_code.StartFails style t place ts s taken → a.FaultIs style all end (a_code.fault_of s (entry_behind taken us) end)
+  stops s taken k = stop_at (is_comment t) refl s taken k
 
 -- ---- the tokens spell at most one list
 

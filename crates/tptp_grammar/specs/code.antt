@@ -1,12 +1,11 @@
 -- What private contracts alone say of the code. Nothing public rests on this.
 pub mod Answers
+pub mod Dots
 pub mod Outcomes
 pub mod ReadClauses
-pub mod ReadFile
 pub mod ReadFormulas
 pub mod ReadGeneral
 pub mod ReadItems
 pub mod ReadTerms
 pub mod ReadTypedClauses
 pub mod ReadTypes
-pub mod Solid

@@ -23,9 +23,9 @@ fn atom_open(alloc: Global, tokens: &mut Cursor<'_>, room: usize) -> Result<Surf
         return Err(Stop::TooDeep);
     }
     tokens.skip();
-    let found = Boxed::new(alloc, atom(alloc, tokens, room - 1)?)?;
+    let found = atom(alloc, tokens, room - 1)?;
     tokens.expect(Mark::Close)?;
-    Ok(found.into_inner())
+    Ok(found)
 }
 
 // What follows the sign of a negative literal.
@@ -80,14 +80,14 @@ fn disjunction(
     alloc: Global,
     tokens: &mut Cursor<'_>,
     room: usize,
-    first: Boxed<Surface>,
+    first: Surface,
 ) -> Result<Surface, Stop>
     ensures { Reads (mapped (λ fs. fm.Or (first
         ∷ fs)) (separated (is_mark Mark.Bar) (spec.literal room) (tail tokens.old))) result tokens.new }
 {
     tokens.skip();
     let others = literal_list(alloc, tokens, room)?;
-    Ok(Surface::Or(in_front(alloc, first.into_inner(), others)?))
+    Ok(Surface::Or(in_front(alloc, first, others)?))
 }
 
 // What follows the first literal.
@@ -96,13 +96,13 @@ fn literals(
     alloc: Global,
     tokens: &mut Cursor<'_>,
     room: usize,
-    first: Boxed<Surface>,
+    first: Surface,
 ) -> Result<Surface, Stop>
     ensures { Reads (spec.literals room first tokens.old) result tokens.new }
 {
     match tokens.peek() {
         Some(Token::Mark(Mark::Bar)) => disjunction(alloc, tokens, room, first),
-        _ => Ok(first.into_inner()),
+        _ => Ok(first),
     }
 }
 
@@ -115,7 +115,7 @@ pub fn clause(alloc: Global, tokens: &mut Cursor<'_>, room: usize) -> Result<Sur
     match tokens.peek() {
         Some(Token::Mark(Mark::Open)) => clause_open(alloc, tokens, room),
         _ => {
-            let first = Boxed::new(alloc, literal(alloc, tokens, room)?)?;
+            let first = literal(alloc, tokens, room)?;
             literals(alloc, tokens, room, first)
         }
     }
@@ -131,7 +131,7 @@ fn clause_open(alloc: Global, tokens: &mut Cursor<'_>, room: usize) -> Result<Su
         return Err(Stop::TooDeep);
     }
     tokens.skip();
-    let found = Boxed::new(alloc, clause(alloc, tokens, room - 1)?)?;
+    let found = clause(alloc, tokens, room - 1)?;
     tokens.expect(Mark::Close)?;
-    Ok(found.into_inner())
+    Ok(found)
 }

@@ -1,5 +1,8 @@
+ghost use Rattle.std.specs.Prelude.{◌≡◌};
+ghost use Rattle.tptp_grammar.specs.declared.fault.GrammarFault.TheVariants.{Memory};
+
 use thiserror::Error;
-use tptp_base::Place;
+use tptp_base::{Memory, Place};
 
 /// Why tokens spell no items.
 #[derive(Clone, Copy, Debug, PartialEq, Eq, Error)]
@@ -19,4 +22,12 @@ pub enum GrammarFault {
     Deep(Place),
     #[error("out of memory")]
     Memory,
+}
+
+impl From<Memory> for GrammarFault {
+    ghost from_gives = { λ _ e. e ≡ Memory };
+
+    fn from(_: Memory) -> GrammarFault {
+        GrammarFault::Memory
+    }
 }

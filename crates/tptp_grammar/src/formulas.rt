@@ -145,9 +145,9 @@ fn parenthesis(
 fn inner(alloc: Global, tokens: &mut Cursor<'_>, typed: bool, room: usize) -> Result<Surface, Stop>
     ensures { Reads (closed (is_mark Mark.Close) (spec.formula typed room) tokens.old) result tokens.new }
 {
-    let found = Boxed::new(alloc, formula(alloc, tokens, typed, room)?)?;
+    let found = formula(alloc, tokens, typed, room)?;
     tokens.expect(Mark::Close)?;
-    Ok(found.into_inner())
+    Ok(found)
 }
 
 // What follows the bound variables.
@@ -251,10 +251,11 @@ fn operated(
     typed: bool,
     room: usize,
     operator: BinOp,
-    first: Boxed<Surface>,
+    first: Surface,
 ) -> Result<Surface, Stop>
     ensures { Reads (mapped (fm.Binary operator first) (spec.unit typed room (tail tokens.old))) result tokens.new }
 {
+    let first = Boxed::new(alloc, first)?;
     tokens.skip();
     let second = Boxed::new(alloc, unit(alloc, tokens, typed, room)?)?;
     Ok(Surface::Binary(operator, first, second))
@@ -267,14 +268,14 @@ fn disjunction(
     tokens: &mut Cursor<'_>,
     typed: bool,
     room: usize,
-    first: Boxed<Surface>,
+    first: Surface,
 ) -> Result<Surface, Stop>
     ensures { Reads (mapped (λ fs. fm.Or (first
         ∷ fs)) (separated (is_mark Mark.Bar) (spec.unit typed room) (tail tokens.old))) result tokens.new }
 {
     tokens.skip();
     let others = units(alloc, tokens, typed, room, Mark::Bar)?;
-    Ok(Surface::Or(in_front(alloc, first.into_inner(), others)?))
+    Ok(Surface::Or(in_front(alloc, first, others)?))
 }
 
 // The further units of a formula with ampersands.
@@ -284,14 +285,14 @@ fn conjunction(
     tokens: &mut Cursor<'_>,
     typed: bool,
     room: usize,
-    first: Boxed<Surface>,
+    first: Surface,
 ) -> Result<Surface, Stop>
     ensures { Reads (mapped (λ fs. fm.And (first
         ∷ fs)) (separated (is_mark Mark.Ampersand) (spec.unit typed room) (tail tokens.old))) result tokens.new }
 {
     tokens.skip();
     let others = units(alloc, tokens, typed, room, Mark::Ampersand)?;
-    Ok(Surface::And(in_front(alloc, first.into_inner(), others)?))
+    Ok(Surface::And(in_front(alloc, first, others)?))
 }
 
 // What follows the first unit of a formula.
@@ -302,7 +303,7 @@ fn joined(
     tokens: &mut Cursor<'_>,
     typed: bool,
     room: usize,
-    first: Boxed<Surface>,
+    first: Surface,
 ) -> Result<Surface, Stop>
     ensures { Reads (spec.joined (spec.unit typed room) first tokens.old) result tokens.new }
 {
@@ -317,7 +318,7 @@ fn joined(
         Some(Token::Mark(Mark::Nand)) => operated(alloc, tokens, typed, room, BinOp::Nand, first),
         Some(Token::Mark(Mark::Bar)) => disjunction(alloc, tokens, typed, room, first),
         Some(Token::Mark(Mark::Ampersand)) => conjunction(alloc, tokens, typed, room, first),
-        _ => Ok(first.into_inner()),
+        _ => Ok(first),
     }
 }
 
@@ -332,6 +333,6 @@ pub fn formula(
 ) -> Result<Surface, Stop>
     ensures { Reads (spec.formula typed room tokens.old) result tokens.new }
 {
-    let first = Boxed::new(alloc, unit(alloc, tokens, typed, room)?)?;
+    let first = unit(alloc, tokens, typed, room)?;
     joined(alloc, tokens, typed, room, first)
 }

@@ -48,9 +48,9 @@ fn formula_open(
         return Err(Stop::TooDeep);
     }
     tokens.skip();
-    let found = Boxed::new(alloc, formula_of(alloc, tokens, lang, room - 1)?)?;
+    let found = formula_of(alloc, tokens, lang, room - 1)?;
     tokens.expect(Mark::Close)?;
-    Ok(found.into_inner())
+    Ok(found)
 }
 
 #[tactic(auto, unfolding(crate::specs::code::ReadGeneral::formula_in))]
@@ -214,12 +214,7 @@ pub fn bracketed(alloc: Global, tokens: &mut Cursor<'_>, room: usize) -> Result<
 
 // The right side of a pair from its colon on.
 #[cycle(general)]
-fn pair(
-    alloc: Global,
-    tokens: &mut Cursor<'_>,
-    room: usize,
-    left: Boxed<GTerm>,
-) -> Result<GTerm, Stop>
+fn pair(alloc: Global, tokens: &mut Cursor<'_>, room: usize, left: GTerm) -> Result<GTerm, Stop>
     ensures { Reads (spec.general_pair room left tokens.old) result tokens.new }
 {
     if room == 0 {
@@ -235,10 +230,11 @@ fn right_side(
     alloc: Global,
     tokens: &mut Cursor<'_>,
     room: usize,
-    left: Boxed<GTerm>,
+    left: GTerm,
 ) -> Result<GTerm, Stop>
     ensures { Reads (mapped (gt.Pair left) (spec.general room tokens.old)) result tokens.new }
 {
+    let left = Boxed::new(alloc, left)?;
     let right = Boxed::new(alloc, general(alloc, tokens, room)?)?;
     Ok(GTerm::Pair(left, right))
 }
@@ -298,17 +294,12 @@ fn data_term(alloc: Global, tokens: &mut Cursor<'_>, room: usize) -> Result<GTer
 // What follows a general term that may be the left side of a pair.
 #[cycle(general)]
 #[tactic(auto, unfolding(crate::specs::code::ReadGeneral::paired))]
-fn paired(
-    alloc: Global,
-    tokens: &mut Cursor<'_>,
-    room: usize,
-    left: Boxed<GTerm>,
-) -> Result<GTerm, Stop>
+fn paired(alloc: Global, tokens: &mut Cursor<'_>, room: usize, left: GTerm) -> Result<GTerm, Stop>
     ensures { Reads (spec.paired (spec.nesting room) left tokens.old) result tokens.new }
 {
     match tokens.peek() {
         Some(Token::Mark(Mark::Colon)) => pair(alloc, tokens, room, left),
-        _ => Ok(left.into_inner()),
+        _ => Ok(left),
     }
 }
 
@@ -321,7 +312,7 @@ pub fn general(alloc: Global, tokens: &mut Cursor<'_>, room: usize) -> Result<GT
     match tokens.peek() {
         Some(Token::Mark(Mark::OpenList)) => Ok(GTerm::List(bracketed(alloc, tokens, room)?)),
         _ => {
-            let left = Boxed::new(alloc, data_term(alloc, tokens, room)?)?;
+            let left = data_term(alloc, tokens, room)?;
             paired(alloc, tokens, room, left)
         }
     }

@@ -1,57 +1,34 @@
 // All tokens of a text.
-ghost use Rattle.std.specs.Prelude.{◌≡◌, ◌<◌, ◌+◌, ◌-◌, suc, List, ◌∷◌, ◌++◌, length, IfOk, IfErr, OnOk, if◌then◌else◌};
+ghost use Rattle.std.specs.Prelude.{◌≡◌, ◌++◌, [], ◌∷◌, List, if◌then◌else◌, IfOk, IfErr, OnOk};
 ghost use Rattle.std.specs.List.{flat_map};
 ghost use Rattle.first_fault.specs.Nesting.{FirstOver};
 ghost use Rattle.tptp_base.specs.declared.item.Item.{Item};
 ghost use Rattle.tptp_grammar.specs.Tokens.{Tokens as NestedTokens};
 ghost use Rattle.tptp_grammar.specs.Files.{IsFile, Spells, SpellsWithin};
 ghost use Rattle.tptp_grammar.specs.Faults as faults;
-ghost use Rattle.tptp_grammar.specs.Solid.{Placed, is_remark};
-ghost use Rattle.tptp_grammar.specs.code.Outcomes.{Fails};
-ghost use Rattle.tptp_grammar.specs.code.ReadItems as items;
-ghost use Rattle.tptp_grammar.specs.code.ReadFile as spec;
+ghost use Rattle.tptp_grammar.specs.Solid as solids;
+ghost use Rattle.tptp_grammar.specs.code.Dots as dots;
 ghost use Rattle.tptp_grammar.specs.Answers as answers;
 ghost use Rattle.tptp_grammar.specs.Texts.{IsParsed};
 ghost use Rattle.tptp_grammar.specs.code.Answers as answers_code;
 
-use crate::cursor::{Cursor, count_solid, is_comment};
+use crate::cursor::Cursor;
 use crate::fault::GrammarFault;
 use crate::items::item;
 use crate::stop::Stop;
 use crate::taker::Taker;
-use std::alloc::{AllocError, Global};
-use tptp_base::{Item, List, Memory, Place};
-use tptp_lexer::{Rest, Style, Token, TokenList, Tokens, Word};
+use std::alloc::{AllocError, AllocFailed, Global};
+use tptp_base::{Item, List, Place};
+use tptp_lexer::{Mark, Rest, Style, Token, Tokens};
 
 // How deep a text may nest.
 const MAX_NESTING: usize = 250;
 
-/// Why a list of tokens is not read, and how many tokens are left there, comments left out.
+/// Why an item is not read, and behind how many of its tokens.
 #[derive(Clone, Copy, PartialEq, Eq)]
 struct Refusal {
     stop: Stop,
-    left: usize,
-}
-
-/// What stands between items, and how many of its tokens are left behind the first one.
-#[derive(Drop)]
-struct Turn {
-    item: Item,
-    left: usize,
-}
-
-impl From<Memory> for Refusal {
-    ghost use Rattle.std.specs.Prelude.{◌≡◌};
-    ghost use Rattle.tptp_grammar.specs.declared.stop.Stop.TheVariants.{Memory};
-
-    ghost from_gives = { λ _ e. e.stop ≡ Memory };
-
-    fn from(_: Memory) -> Refusal {
-        Refusal {
-            stop: Stop::Memory,
-            left: 0,
-        }
-    }
+    taken: usize,
 }
 
 impl From<AllocError> for Refusal {
@@ -63,119 +40,119 @@ impl From<AllocError> for Refusal {
     fn from(_: AllocError) -> Refusal {
         Refusal {
             stop: Stop::Memory,
-            left: 0,
+            taken: 0,
         }
     }
 }
 
-// A comment.
-fn comment(alloc: Global, text: &Word<'_>) -> Result<Turn, Refusal>
-    ensures ok { IfOk result (λ s. (s.item ≡ Item.Comment text.now) × (s.left ≡ 0)) }
-    ensures err { IfErr result (λ r. r.stop ≡ Stop.Memory) }
-{
-    let text = text.to_text(alloc)?;
-    Ok(Turn {
-        item: Item::Comment(text),
-        left: 0,
-    })
-}
+impl<T: Drop> From<AllocFailed<T>> for Refusal {
+    ghost use Rattle.std.specs.Prelude.{◌≡◌};
+    ghost use Rattle.tptp_grammar.specs.declared.stop.Stop.TheVariants.{Memory};
 
-// An annotated formula or an include.
-#[tactic(auto, using(crate::proofs::Whole::item_moves))]
-fn input(
-    alloc: Global,
-    tokens: &mut Cursor<'_>,
-    style: Style,
-    place: Place,
-) -> Result<Turn, Refusal>
-    ensures ok { IfOk result (λ s. (items.item style faults.max_nesting place tokens.old ≡ Ok (s.item, tokens.new))
-        × (suc (s.left + length tokens.new) ≡ length tokens.old)) }
-    ensures err { IfErr result (λ r. Fails (items.item style faults.max_nesting place tokens.old) r.stop tokens.new
-        × (r.left ≡ length tokens.new)) }
-{
-    let before = tokens.left();
-    match item(alloc, tokens, style, MAX_NESTING, place) {
-        Ok(item) => Ok(Turn {
-            item,
-            left: before - tokens.left() - 1,
-        }),
-        Err(stop) => Err(Refusal {
-            stop,
-            left: tokens.left(),
-        }),
+    ghost from_gives = { λ _ e. e.stop ≡ Memory };
+
+    fn from(_: AllocFailed<T>) -> Refusal {
+        Refusal {
+            stop: Stop::Memory,
+            taken: 0,
+        }
     }
 }
 
-// A comment or an item, from its first token on.
-fn take_turn(
-    alloc: Global,
-    tokens: &mut Cursor<'_>,
-    style: Style,
-    first: &Token<'_>,
-    place: Place,
-) -> Result<Turn, Refusal>
-    ensures ok { IfOk result (λ s.
-        answers_code.Starts style faults.max_nesting first.now place tokens.old s.item s.left tokens.new) }
-    ensures err { IfErr result (λ r.
-        answers_code.StartFails style faults.max_nesting first.now place tokens.old r.stop r.left tokens.new) }
+fn is_comment(token: &Token<'_>) -> bool
+    ensures { result ≡ solids.is_comment token.now }
 {
-    match first {
-        Token::Comment(text) => comment(alloc, text),
-        _ => input(alloc, tokens, style, place),
-    }
+    matches!(token, Token::Comment(_))
 }
 
-// Gives away the items, and the comments between them.
-#[tactic(auto, using(crate::proofs::Taking::turn_refused))]
-fn read_items<T: Taker>(
-    alloc: Global,
-    tokens: &TokenList<'_>,
-    style: Style,
-    into: &mut T,
-) -> Result<(), Refusal>
-    ensures ok { OnOk result ((found : List Item) × (spec.file style faults.max_nesting tokens.now ≡ Ok found)
-        × (T.kept into.new ≡ T.kept into.old ++ flat_map T.parts found)) }
-    ensures err { IfErr result (λ r. answers_code.Stopped (spec.file style faults.max_nesting tokens.now) r.stop r.left) }
+fn is_dot(token: &Token<'_>) -> bool
+    ensures { result ≡ dots.is_dot token.now }
 {
-    let mut cursor = Cursor::new(tokens);
-    let mut rest = tokens.rest();
-    let mut left = 0;
-    'tokens: while !rest.is_empty() {
-        if left > 0 {
-            left = pass(&mut rest, left);
-        } else if let Some((token, place)) = rest.next_placed() {
-            let next = take_turn(alloc, &mut cursor, style, &token, place)?;
-            left = next.left;
-            into.take(next.item)?;
+    matches!(token, Token::Mark(Mark::Dot))
+}
+
+// Keeps the token, where it is no comment.
+fn keep<'a>(token: Token<'a>, tokens: &mut Vec<Token<'a>>) -> Result<(), AllocError>
+    ensures { OnOk result (tokens.new.items
+        ≡ (if solids.is_comment token.entry then tokens.old.items else tokens.old.items ++ token.entry ∷ [])) }
+{
+    if !is_comment(&token) {
+        tokens.push(token)?;
+    }
+    Ok(())
+}
+
+// Takes the tokens through the next dot, comments left out.
+fn gather<'a>(rest: &mut Rest<'a>, tokens: &mut Vec<Token<'a>>) -> Result<(), AllocError>
+    ensures ok { OnOk result (tokens.new.items ≡ tokens.old.items ++ dots.through_dot rest.old) }
+    ensures rest { OnOk result (rest.new ≡ dots.behind_dot rest.old) }
+{
+    'tokens: while let Some(token) = rest.next() {
+        let last = is_dot(&token);
+        keep(token, tokens)?;
+        if last {
+            return Ok(());
         }
     }
     Ok(())
 }
 
-// How many tokens are left of an item behind the next one, comments left out, where so many are left before it.
-fn pass(rest: &mut Rest<'_>, left: usize) -> usize
-    requires { 0 < left }
-    ensures { (entry : Placed) (others : List Placed) → rest.old ≡ entry ∷ others
-        → (rest.new ≡ others) × (result ≡ (if is_remark entry then left else left - 1)) }
+// An annotated formula or an include, from its first token on. The list has room for its tokens.
+fn input<'a>(
+    alloc: Global,
+    style: Style,
+    first: Token<'a>,
+    place: Place,
+    rest: &mut Rest<'a>,
+    tokens: &mut Vec<Token<'a>>,
+) -> Result<Item, Refusal>
+    ensures ok { IfOk result (λ i. answers_code.ItemRead style first.entry place rest.old i rest.new) }
+    ensures err { IfErr result (λ r. answers_code.Refuses style first.entry place rest.old r.stop r.taken) }
 {
-    match rest.next() {
-        Some(token) => { if is_comment(&token) { left } else { left - 1 } }
-        None => left,
+    tokens.clear();
+    tokens.push(first)?;
+    gather(rest, tokens)?;
+    let given = tokens.len();
+    let mut cursor = Cursor::new(tokens.as_slice());
+    match item(alloc, &mut cursor, style, MAX_NESTING, place) {
+        Ok(item) => Ok(item),
+        Err(stop) => {
+            let taken = given.saturating_sub(cursor.left());
+            Err(Refusal { stop, taken })
+        }
     }
 }
 
-// The first token with as many from it on, comments left out.
-fn entry_at<'a>(tokens: &'a TokenList<'_>, left: usize) -> Option<(Token<'a>, Place)>
-    ensures { result ≡ answers_code.entry_at left tokens.now }
+// A comment or an item, from its first token on.
+fn take_turn<'a>(
+    alloc: Global,
+    style: Style,
+    first: Token<'a>,
+    place: Place,
+    rest: &mut Rest<'a>,
+    tokens: &mut Vec<Token<'a>>,
+) -> Result<Item, Refusal>
+    ensures ok { IfOk result (λ i. answers_code.Starts style first.entry place rest.old i rest.new) }
+    ensures err { IfErr result (λ r. answers_code.StartFails style first.entry place rest.old r.stop r.taken) }
 {
-    let mut now = count_solid(tokens);
-    let mut rest = tokens.rest();
+    match first {
+        Token::Comment(text) => Ok(Item::Comment(text.to_text(alloc)?)),
+        first => input(alloc, style, first, place, rest, tokens),
+    }
+}
+
+// The first token behind so many, comments left out.
+fn entry_behind<'a>(rest: Rest<'a>, count: usize) -> Option<(Token<'a>, Place)>
+    ensures { result ≡ dots.entry_behind count rest.entry }
+{
+    let mut rest = rest;
+    let mut left = count;
     'tokens: while let Some(entry) = rest.next_placed() {
         if !is_comment(&entry.0) {
-            if now == left {
+            if left == 0 {
                 return Some(entry);
             }
-            now -= 1;
+            left -= 1;
         }
     }
     None
@@ -261,13 +238,21 @@ pub fn parse_into<T: Taker>(
     // Each fault is the first one.
     ensures fault { IfErr result (λ fault. IsParsed tokens.now (Err fault)) }
 {
-    match read_items(alloc, &tokens.items, tokens.style, into) {
-        Ok(()) => Ok(()),
-        Err(refusal) => {
-            let entry = entry_at(&tokens.items, refusal.left);
-            Err(fault_of(refusal.stop, entry, tokens.end))
+    let mut rest = tokens.items.rest();
+    let mut room = Vec::new(alloc);
+    'tokens: while !rest.is_empty() {
+        let start = rest.again();
+        if let Some((first, place)) = rest.next_placed() {
+            match take_turn(alloc, tokens.style, first, place, &mut rest, &mut room) {
+                Ok(item) => into.take(item)?,
+                Err(refusal) => {
+                    let entry = entry_behind(start, refusal.taken);
+                    return Err(fault_of(refusal.stop, entry, tokens.end));
+                }
+            }
         }
     }
+    Ok(())
 }
 
 /// The one list of items that the tokens spell.

@@ -3,7 +3,7 @@ use Rattle.std.proofs.Common.{◌≡◌, ℕ, zero, suc, ◌+◌, ◌<◌, Bool,
 use Rattle.std.proofs.lemmas.Bool.{and_parts, and_from, and_right, eqb-true, cases_Bool}
 use Rattle.tptp_lexer.specs.Bytes.{Text}
 use Rattle.tptp_lexer.specs.Comments.{HasNoEnd}
-use Rattle.tptp_lexer.specs.code.Scan.{comment_end}
+use Rattle.tptp_lexer.specs.Scan.{comment_end}
 use Rattle.memchr.specs.Find.{FindsNeedle, OccursAt}
 
 -- `*/` begins the text

@@ -9,7 +9,7 @@ use Rattle.tptp_lexer.specs.declared.token.Token.{Token}
 use Rattle.tptp_lexer.specs.Answer.{IsOpen, BeginsBlank, BeginsNothing}
 use Rattle.tptp_lexer.specs.Bytes.{Text, is_blank}
 use Rattle.tptp_lexer.specs.Lexemes.{token_of}
-use Rattle.tptp_lexer.specs.code.Scan.{front_of}
+use Rattle.tptp_lexer.specs.Scan.{front_of}
 use Rattle.tptp_lexer.specs.Spelled.{Spelled, IsLongest, BeginsToken}
 use Rattle.tptp_lexer.specs.Tokenized.{Cut, here, after_blank, after_token}
 use Rattle.tptp_lexer.proofs.Runs.{same_front}

@@ -1,6 +1,6 @@
 -- Tokens that follow one another.
-use Rattle.std.proofs.Common.{◌≡◌, ℕ, ◌+◌, ◌-◌, ◌≤◌, Bool, true, false, List, [], ◌∷◌, ◌++◌, length, take, drop, get_or, refl, ap, subst, ◌∙◌, sym, arith}
-use Rattle.std.proofs.lemmas.List.{map-append, take_all}
+use Rattle.std.proofs.Common.{◌≡◌, ℕ, ◌+◌, ◌≤◌, Bool, true, false, List, [], ◌∷◌, ◌++◌, length, Option, Some, refl, ap, subst, ◌∙◌, sym, arith}
+use Rattle.std.proofs.lemmas.List.{map-append}
 use Rattle.tptp_base.specs.declared.place.Place.{Place}
 use Rattle.tptp_base.specs.Place.{place_of}
 use Rattle.tptp_lexer.specs.declared.lexeme.Lexeme.{Lexeme}
@@ -8,7 +8,7 @@ use Rattle.tptp_lexer.specs.declared.token.Token.{Token}
 use Rattle.tptp_lexer.specs.declared.token.Token.TheVariants as t
 use Rattle.tptp_lexer.specs.Bytes.{Text}
 use Rattle.tptp_lexer.specs.Words.{as_word, as_words}
-use Rattle.tptp_lexer.specs.Lexemes.{Follow, IsPlaced, spelling, taken, item_of, items_of, token_of}
+use Rattle.tptp_lexer.specs.Lexemes.{Follow, IsPlaced, ahead, spelling, taken, item_of, items_of, token_of}
 use Rattle.tptp_lexer.specs.code.Step.{found}
 
 -- from an earlier offset
@@ -32,27 +32,23 @@ follow_within from to (lexeme ∷ list) h = let k = follow_within (lexeme.at + l
 
 -- ---- the first of them, and the others
 
-pub first_later : (from to : ℕ) (list : List Lexeme) (fallback : Lexeme) → 1 ≤ length list → Follow from list to → from ≤ (get_or list 0 fallback).at
-first_later from to [] fallback some h = absurd (omega arith)
-first_later from to (lexeme ∷ list) fallback some h = h.0
+module _ (text : Text) (start : Place) (lexeme : Lexeme) (list : List Lexeme) (h : IsPlaced text start (lexeme ∷ list)) where
+  pub first_later : start.offset ≤ lexeme.at
+  first_later = h.follow.0
 
-pub first_within : (from to : ℕ) (list : List Lexeme) (fallback : Lexeme) → 1 ≤ length list → Follow from list to → (get_or list 0 fallback).at + (get_or list 0 fallback).len ≤ to
-first_within from to [] fallback some h = absurd (omega arith)
-first_within from to (lexeme ∷ list) fallback some h = follow_within (lexeme.at + lexeme.len) to list h.1
+  pub first_within : lexeme.at + lexeme.len ≤ length text
+  first_within = follow_within (lexeme.at + lexeme.len) (length text) list h.follow.1
 
--- the others follow an offset up to which the first one goes
-others_follow : (from to : ℕ) (lexeme : Lexeme) (list : List Lexeme) → from ≤ lexeme.at → Follow (lexeme.at + lexeme.len) list to → Follow from (take (length (lexeme ∷ list) - 1) list) to
-others_follow from to lexeme list earlier h =
-    let all : take (length (lexeme ∷ list) - 1) list ≡ list = take_all (length (lexeme ∷ list) - 1) list (omega arith) in
-    subst (λ (x : List Lexeme). Follow from x to) (sym all) (follow_from from (lexeme.at + lexeme.len) to list (omega arith) h)
+  -- the others, behind the same place
+  pub rest_placed : (new : List Lexeme) → list ≡ new → IsPlaced text start new
+  rest_placed new same = let later = h.follow.0 in record {
+    is_place = h.is_place;
+    follow = subst (λ (x : List Lexeme). Follow start.offset x (length text)) same (follow_from start.offset (lexeme.at + lexeme.len) (length text) list (omega arith) h.follow.1);
+  }
 
-pub rest_follow : (from to : ℕ) (list : List Lexeme) → 1 ≤ length list → Follow from list to → Follow from (take (length list - 1) (drop 1 list)) to
-rest_follow from to [] some h = absurd (omega arith)
-rest_follow from to (lexeme ∷ list) some h = others_follow from to lexeme list h.0 h.1
-
-pub rest_follow_first : (from to : ℕ) (list : List Lexeme) (fallback : Lexeme) → 1 ≤ length list → Follow from list to → Follow (get_or list 0 fallback).at (take (length list - 1) (drop 1 list)) to
-rest_follow_first from to [] fallback some h = absurd (omega arith)
-rest_follow_first from to (lexeme ∷ list) fallback some h = others_follow lexeme.at to lexeme list (omega arith) h.1
+-- the next one, where there is one
+pub next_within : (text : Text) (start : Place) (next : Option Lexeme) (lexeme : Lexeme) (list : List Lexeme) → next ≡ Some lexeme → IsPlaced text start (ahead next list) → lexeme.at + lexeme.len ≤ length text
+next_within text start next lexeme list is h = first_within text start lexeme list (subst (λ n. IsPlaced text start (ahead n list)) is h)
 
 -- tokens behind a place of the text
 pub placed_on : (file : ℕ) (text : Text) (place : Place) (at : ℕ) (list : List Lexeme) → place ≡ place_of file text at → Follow at list (length text) → IsPlaced text place list
@@ -63,6 +59,11 @@ placed_on file text place at list is h =
       is_place = subst (λ f. place ≡ place_of f text place.offset) (sym same) (is ∙ ap (place_of file text) (sym offset));
       follow = subst (λ n. Follow n list (length text)) (sym offset) h;
     }
+
+-- and those behind the first one, behind its place
+pub placed_first : (text : Text) (start place : Place) (lexeme : Lexeme) (list new : List Lexeme) → IsPlaced text start (lexeme ∷ list) → place ≡ place_of start.file text lexeme.at → list ≡ new → IsPlaced text place new
+placed_first text start place lexeme list new h is same =
+    placed_on start.file text place lexeme.at new is (subst (λ (x : List Lexeme). Follow lexeme.at x (length text)) same (follow_from lexeme.at (lexeme.at + lexeme.len) (length text) list (omega arith) h.follow.1))
 
 -- ---- tokens that are taken as words
 

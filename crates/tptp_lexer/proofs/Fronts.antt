@@ -22,7 +22,7 @@ use Rattle.tptp_lexer.specs.Marks.{mark_text}
 use Rattle.tptp_lexer.specs.Numbers.{is_sign, IsNumber}
 use Rattle.tptp_lexer.specs.Quotes.{IsWritten, plain, escaped}
 use Rattle.tptp_lexer.specs.Lexemes.{unescaped, inside, token_of}
-use Rattle.tptp_lexer.specs.code.Scan.{FoundMark, number_len, quote_end, counted, marked, quoted, commented, dollar, block, behind_words, front_of}
+use Rattle.tptp_lexer.specs.Scan.{FoundMark, number_len, quote_end, counted, marked, quoted, commented, dollar, block, behind_words, front_of}
 use Rattle.tptp_lexer.specs.Spelled.{Spelled, lower_word, upper_word, dollar_word, dollar_dollar_word, single_quoted, distinct_object, number, comment_line, comment_block, mark}
 use Rattle.tptp_lexer.proofs.Runs.{passes_most}
 use Rattle.tptp_lexer.proofs.QuoteEnds.{written_closes, written_unescaped}

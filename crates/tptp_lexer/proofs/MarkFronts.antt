@@ -5,7 +5,7 @@ use Rattle.tptp_lexer.specs.declared.token.Mark.{Mark}
 use Rattle.tptp_lexer.specs.declared.token.Mark.TheVariants as m
 use Rattle.tptp_lexer.specs.Bytes.{Text}
 use Rattle.tptp_lexer.specs.Marks.{mark_text}
-use Rattle.tptp_lexer.specs.code.Scan.{FoundMark, mark_at, single, short, behind_tilde, behind_less}
+use Rattle.tptp_lexer.specs.Scan.{FoundMark, mark_at, single, short, behind_tilde, behind_less}
 
 -- what is found by the first bytes of a text
 abbrev pub mark_of : Text → FoundMark

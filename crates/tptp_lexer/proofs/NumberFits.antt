@@ -3,7 +3,7 @@ use Rattle.std.proofs.Common.{ℕ, ◌+◌, ◌≤◌, Bool, true, false, ◌==�
 use Rattle.std.proofs.lemmas.List.Sums.{prefix_len-le-length}
 use Rattle.tptp_lexer.specs.Bytes.{Text, is_numeric}
 use Rattle.tptp_lexer.specs.Numbers.{is_sign, is_exponent}
-use Rattle.tptp_lexer.specs.code.Scan.{digits_len, sign_len, behind, digits_behind, fraction_len, exponent_len, tail_len, number_len}
+use Rattle.tptp_lexer.specs.Scan.{digits_len, sign_len, behind, digits_behind, fraction_len, exponent_len, tail_len, number_len}
 
 digits_fit : (text : Text) → digits_len text ≤ length text
 digits_fit text = prefix_len-le-length is_numeric text

@@ -7,7 +7,7 @@ use Rattle.std.proofs.lemmas.List.{drop-drop, drop_at}
 use Rattle.std.specs.List.{list_all}
 use Rattle.tptp_lexer.specs.Bytes.{Text, is_numeric}
 use Rattle.tptp_lexer.specs.Numbers.{is_sign, is_exponent, AreDigits, IsSign, no_sign, one_sign, IsFraction, no_fraction, dot_decimal, IsExponent, no_exponent, exponent, IsNumber, rational, decimal}
-use Rattle.tptp_lexer.specs.code.Scan.{digits_len, sign_len, behind, digits_behind, fraction_len, exponent_len, tail_len, number_behind, number_len}
+use Rattle.tptp_lexer.specs.Scan.{digits_len, sign_len, behind, digits_behind, fraction_len, exponent_len, tail_len, number_behind, number_len}
 use Rattle.tptp_lexer.proofs.Runs.{Stops, prefix_passes, passes_most, passes_all}
 
 some_is : (len : ℕ) → 1 ≤ len → len == 0 ≡ false

@@ -8,7 +8,7 @@ use Rattle.tptp_lexer.specs.declared.quotes.Turn.TheVariants.{Goes, Closes, Brea
 use Rattle.tptp_lexer.specs.Bytes.{Text}
 use Rattle.tptp_lexer.specs.Quotes.{is_plain, is_escaped, IsWritten, nothing, plain, escaped}
 use Rattle.tptp_lexer.specs.Lexemes.{unescaped, unescaped_from}
-use Rattle.tptp_lexer.specs.code.Scan.{turn_of, quote_by, quote_end}
+use Rattle.tptp_lexer.specs.Scan.{turn_of, quote_by, quote_end}
 
 -- a character that stands for itself is neither the quote nor `\`
 plain_parts : (quote byte : ℕ) → is_plain quote byte ≡ true → (byte == quote ≡ false) × (byte == 92 ≡ false)

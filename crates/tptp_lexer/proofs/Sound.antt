@@ -24,7 +24,7 @@ use Rattle.tptp_lexer.specs.Marks.{mark_text}
 use Rattle.tptp_lexer.specs.Numbers.{is_sign}
 use Rattle.tptp_lexer.specs.Quotes.{IsWritten, nothing, plain, escaped, IsOpenQuote}
 use Rattle.tptp_lexer.specs.Lexemes.{unescaped, inside, token_of}
-use Rattle.tptp_lexer.specs.code.Scan.{FoundMark, number_len, quote_end, comment_end, counted, marked, quoted, commented, dollar, block, behind_words, front_of}
+use Rattle.tptp_lexer.specs.Scan.{FoundMark, number_len, quote_end, comment_end, counted, marked, quoted, commented, dollar, block, behind_words, front_of}
 use Rattle.tptp_lexer.specs.Spelled.{Spelled, lower_word, upper_word, dollar_word, dollar_dollar_word, single_quoted, distinct_object, number, comment_line, comment_block, mark}
 use Rattle.tptp_lexer.proofs.Runs.{prefix_passes}
 use Rattle.tptp_lexer.proofs.QuoteEnds.{end_says, SaysEnd, written_unescaped, written_unclosed}

@@ -1,14 +1,18 @@
--- How a list of tokens is kept: of each, where it is spelled, and the tokens that are meant by that.
-use Rattle.std.specs.Prelude.{◌≡◌, ◌==◌, ◌+◌, ◌-◌, ◌≤◌, ℕ, Bool, true, false, if◌then◌else◌, List, [], ◌∷◌, length, map}
-use Rattle.std.specs.Prelude.{take, drop, slice_range}
+-- How tokens are found in turn: of each, where it is spelled, and the tokens that are meant by that.
+use Rattle.std.specs.Prelude.{◌≡◌, ◌==◌, ◌+◌, ◌-◌, ◌≤◌, ℕ, zero, suc, Bool, true, false, if◌then◌else◌, List, [], ◌∷◌}
+use Rattle.std.specs.Prelude.{length, map, take, drop, slice_range, Option, Some, None}
 use Rattle.tptp_base.specs.declared.place.Place.{Place}
 use Rattle.tptp_base.specs.Place.{place_of}
 use Rattle.tptp_lexer.specs.declared.lexeme.Lexeme.{Lexeme}
+use Rattle.tptp_lexer.specs.declared.scan.Front.{Front}
+use Rattle.tptp_lexer.specs.declared.scan.Front.TheVariants.{Blanks, Token as Found, Open, Nothing}
 use Rattle.tptp_lexer.specs.declared.scan.Kind.{Kind}
+use Rattle.tptp_lexer.specs.declared.style.Style.{Style}
 use Rattle.tptp_lexer.specs.declared.token.Token.{Token}
 use Rattle.tptp_lexer.specs.declared.scan.Kind.TheVariants as k
 use Rattle.tptp_lexer.specs.declared.token.Token.TheVariants as t
 use Rattle.tptp_lexer.specs.Bytes.{Text}
+use Rattle.tptp_lexer.specs.Scan.{front_of}
 
 -- the characters that are written so, without the `\` before some
 abbrev pub unescaped_from : Bool → Text → Text
@@ -71,3 +75,27 @@ Follow from (lexeme ∷ rest) to = (from ≤ lexeme.at) × Follow (lexeme.at + l
 pub record IsPlaced (text : Text) (start : Place) (list : List Lexeme) : Type 0 where
   pub is_place : start ≡ place_of start.file text start.offset
   pub follow : Follow start.offset list (length text)
+
+-- ---- what is found in a text
+
+-- what is found at an offset, and further on
+abbrev pub go_by : ℕ → Front → (ℕ → List Lexeme) → List Lexeme
+go_by at (Blanks len) again = again len
+go_by at (Found kind len) again = record { kind = kind; len = len; at = at } ∷ again len
+go_by at Open again = []
+go_by at Nothing again = []
+
+-- what is found in a text that stands at an offset, in so many steps
+abbrev pub found_in : Style → ℕ → ℕ → Text → List Lexeme
+found_in style zero at text = []
+found_in style (suc steps) at [] = []
+found_in style (suc steps) at (byte ∷ text) = go_by at (front_of style (byte ∷ text)) (λ len. found_in style steps (at + len) (drop len (byte ∷ text)))
+
+-- what is found from one offset on, up to another
+unfoldable pub lexemes : Style → Text → ℕ → ℕ → List Lexeme
+lexemes style text end at = found_in style (length (slice_range text at end)) at (slice_range text at end)
+
+-- the next one, if there is one, and those behind it
+abbrev pub ahead : Option Lexeme → List Lexeme → List Lexeme
+ahead None list = []
+ahead (Some lexeme) list = lexeme ∷ list

@@ -5,6 +5,7 @@ pub mod Lexemes
 pub mod Marks
 pub mod Numbers
 pub mod Quotes
+pub mod Scan
 pub mod Spelled
 pub mod Tokenized
 pub mod Words

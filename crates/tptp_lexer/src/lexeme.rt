@@ -5,7 +5,7 @@ use crate::scan::Kind;
 pub struct Lexeme {
     pub kind: Kind,
     /// The bytes of its spelling.
-    pub len: u32,
+    pub len: usize,
     /// The bytes of the text before it.
     pub at: u64,
 }

@@ -1,5 +1,5 @@
 //! The tokens of a part of a text.
-ghost use Rattle.std.specs.Prelude.{◌≡◌, ◌<◌, ◌≤◌, ◌-◌, ◌^◌, [], List, Result, length, IfOk};
+ghost use Rattle.std.specs.Prelude.{◌≡◌, ◌<◌, ◌≤◌, ◌-◌, List, Result, length, IfOk};
 ghost use Rattle.tptp_lexer.specs.declared.fault.LexFault.{LexFault};
 ghost use Rattle.tptp_lexer.specs.declared.token.Token.{Token};
 ghost use Rattle.tptp_lexer.specs.declared.token.Tokens.{Tokens};
@@ -8,19 +8,18 @@ ghost use Rattle.tptp_lexer.specs.code.Step.{Stepped};
 ghost use Rattle.tptp_lexer.specs.Tokenized.{Tokenized, bare_items};
 
 use crate::advance::place_behind;
-use crate::lexeme::Lexeme;
 use crate::scan::{Front, front_of};
 use crate::{LexFault, Style, TokenList, Tokens};
 use std::alloc::Global;
-use tptp_base::{FILE_SIZE, LimitName, List, Region, place_at};
+use tptp_base::{FILE_SIZE, LimitName, Region, place_at};
 
 /// The tokens of a region of a text, with their places in the whole text.
 ///
 /// `Limit` comes where the region has more bytes than a file may have, `Byte` at the first place where no token,
 /// blank or comment begins, and `Unfinished` where the quote or block comment that begins there is open at the
-/// region's end.
+/// region's end. The text is gone through for its faults, and no token is kept: `TokenList` finds them once more.
 pub fn tokens(
-    alloc: Global,
+    _alloc: Global,
     file: u32,
     text: &[u8],
     region: Region,
@@ -40,52 +39,28 @@ pub fn tokens(
     if region.end - region.start > FILE_SIZE {
         return Err(LexFault::Limit(LimitName::FileSize));
     }
-    let mut list = room_for(alloc, region.end - region.start);
     let mut at = region.start;
     while at < region.end {
-        at = step(file, text, region.end, style, at, &mut list)?;
+        at = step(file, text, region.end, style, at)?;
     }
     let start = place_at(file, text, region.start);
     Ok(Tokens {
-        items: TokenList::new(text, start, list),
+        items: TokenList::new(text, start, region.end, style),
         end: place_behind(text, start, at),
         style,
     })
 }
 
-// An empty list. Where memory allows, it has room for a token in every second byte, so that the list of a usual text
-// does not grow. The room that is not used is never touched.
-fn room_for(alloc: Global, bytes: u64) -> List<Lexeme>
-    ensures { result ≡ [] }
-{
-    match Vec::with_capacity(alloc, bytes as usize / 2) {
-        Ok(list) => List::from_vec(list),
-        Err(_) => List::new(alloc),
-    }
-}
-
-// Passes over the blanks at an offset, or takes the token there, and gives the offset behind.
-fn step(
-    file: u32,
-    text: &[u8],
-    end: u64,
-    style: Style,
-    at: u64,
-    list: &mut List<Lexeme>,
-) -> Result<u64, LexFault>
+// Passes over the blanks or the token at an offset, and gives the offset behind.
+fn step(file: u32, text: &[u8], end: u64, style: Style, at: u64) -> Result<u64, LexFault>
     requires before { at < end }
     requires within { end ≤ length text.now }
-    requires small { end - at < 2 ^ 32 }
-    ensures { Stepped style file text.now end at list.old list.new result }
+    ensures { Stepped style file text.now end at result }
 {
     let rest = &text[at as usize..end as usize];
     match front_of(style, rest) {
         Front::Blanks(len) => Ok(at + len as u64),
-        Front::Token(kind, len) => {
-            let len = len as u32;
-            list.push(Lexeme { kind, len, at })?;
-            Ok(at + len as u64)
-        }
+        Front::Token(_, len) => Ok(at + len as u64),
         Front::Open => Err(LexFault::Unfinished(place_at(file, text, at))),
         Front::Nothing => Err(LexFault::Byte(place_at(file, text, at))),
     }

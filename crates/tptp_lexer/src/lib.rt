@@ -2,6 +2,7 @@
 #![tactic(auto)]
 
 mod advance;
+mod ahead;
 mod bytes;
 mod fault;
 mod law;

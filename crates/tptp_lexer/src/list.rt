@@ -1,69 +1,72 @@
-//! The tokens of a part of a text in turn. A list of them keeps where each is spelled, and makes a token, or its place,
-//! where it is asked for it.
+//! The tokens of a part of a text in turn. They are found in the text one by one, as they are asked for, and none is
+//! kept.
 ghost use Rattle.std.specs.Prelude.{◌≡◌, ◌↔◌, ◌+◌, ◌≤◌, ◌∷◌, [], false, length, IsTrue, MatchOption};
 ghost use Rattle.tptp_base.specs.declared.place.Place.{Place};
 ghost use Rattle.tptp_lexer.specs.Words.{as_words};
 ghost use Rattle.tptp_lexer.specs.Lexemes as spec;
 
-use crate::Token;
 use crate::advance::place_behind;
+use crate::ahead::ahead_of;
 use crate::lexeme::Lexeme;
 use crate::make::token_of;
+use crate::{Style, Token};
 use std::marker::Model;
-use tptp_base::{List, Place};
+use tptp_base::Place;
 
 /// Tokens in turn, each with the place where it begins.
 #[derive(Drop)]
 pub struct TokenList<'a> {
     text: &'a [u8],
     start: Place,
-    list: List<Lexeme>,
+    end: u64,
+    style: Style,
     words: bool,
 }
 
 impl<'a> Model for TokenList<'a> {
-    ghost use Rattle.std.specs.Prelude.{List};
+    ghost use Rattle.std.specs.Prelude.{◌≤◌, List, length};
     ghost use Rattle.tptp_base.specs.declared.place.Place.{Place};
     ghost use Rattle.tptp_lexer.specs.declared.token.Token.{Token};
 
     ghost Value = { List (Token × Place) };
 
-    ghost use Rattle.tptp_lexer.specs.Lexemes.{IsPlaced, items_of};
+    ghost use Rattle.tptp_lexer.specs.Lexemes.{IsPlaced, items_of, lexemes};
 
-    ghost view = { λ it. items_of it.words it.start.file it.text.now it.list };
+    ghost view = { λ it. items_of it.words it.start.file it.text.now (lexemes it.style it.text.now it.end it.start.offset) };
 
-    ghost invariant = { λ it. IsPlaced it.text.now it.start it.list };
+    ghost invariant = { λ it. (it.end ≤ length it.text.now)
+        × IsPlaced it.text.now it.start (lexemes it.style it.text.now it.end it.start.offset) };
 }
 
 impl<'a> TokenList<'a> {
-    // The tokens that are spelled so behind a place of the text.
-    pub(crate) fn new(text: &'a [u8], start: Place, list: List<Lexeme>) -> TokenList<'a>
-        requires { spec.IsPlaced text.now start list }
-        ensures { result ≡ spec.items_of false start.file text.now list }
+    // The tokens from a place of the text on, up to an offset.
+    pub(crate) fn new(text: &'a [u8], start: Place, end: u64, style: Style) -> TokenList<'a>
+        requires within { end ≤ length text.now }
+        requires placed { spec.IsPlaced text.now start (spec.lexemes style text.now end start.offset) }
+        ensures { result
+            ≡ spec.items_of false start.file text.now (spec.lexemes style text.now end start.offset) }
     {
         TokenList {
             text,
             start,
-            list,
+            end,
+            style,
             words: false,
         }
-    }
-
-    /// How many tokens there are.
-    pub fn len(&self) -> usize
-        ensures { result ≡ length self.now }
-    {
-        self.list.len()
     }
 
     /// The tokens from the first one on.
     pub fn rest(&self) -> Rest<'_>
         ensures { result ≡ self.now }
     {
+        let ahead = ahead_of(self.style, self.text, self.start.offset, self.end);
         Rest {
             text: self.text,
             known: self.start,
-            list: self.list.as_slice(),
+            next: ahead.next,
+            at: ahead.at,
+            end: self.end,
+            style: self.style,
             words: self.words,
         }
     }
@@ -75,7 +78,8 @@ impl<'a> TokenList<'a> {
         TokenList {
             text: self.text,
             start: self.start,
-            list: self.list,
+            end: self.end,
+            style: self.style,
             words: true,
         }
     }
@@ -86,30 +90,50 @@ impl<'a> TokenList<'a> {
 pub struct Rest<'a> {
     text: &'a [u8],
     known: Place,
-    list: &'a [Lexeme],
+    next: Option<Lexeme>,
+    at: u64,
+    end: u64,
+    style: Style,
     words: bool,
 }
 
 impl<'a> Model for Rest<'a> {
-    ghost use Rattle.std.specs.Prelude.{List};
+    ghost use Rattle.std.specs.Prelude.{◌≤◌, List, length};
     ghost use Rattle.tptp_base.specs.declared.place.Place.{Place};
     ghost use Rattle.tptp_lexer.specs.declared.token.Token.{Token};
 
     ghost Value = { List (Token × Place) };
 
-    ghost use Rattle.tptp_lexer.specs.Lexemes.{IsPlaced, items_of};
+    ghost use Rattle.tptp_lexer.specs.Lexemes.{IsPlaced, ahead, items_of, lexemes};
 
-    ghost view = { λ it. items_of it.words it.known.file it.text.now it.list.now };
+    ghost view = { λ it.
+        items_of it.words it.known.file it.text.now (ahead it.next (lexemes it.style it.text.now it.end it.at)) };
 
-    ghost invariant = { λ it. IsPlaced it.text.now it.known it.list.now };
+    ghost invariant = { λ it. (it.end ≤ length it.text.now)
+        × IsPlaced it.text.now it.known (ahead it.next (lexemes it.style it.text.now it.end it.at)) };
 }
 
 impl<'a> Rest<'a> {
+    /// The same tokens once more.
+    pub fn again(&self) -> Rest<'a>
+        ensures { result ≡ self.now }
+    {
+        Rest {
+            text: self.text,
+            known: self.known,
+            next: self.next,
+            at: self.at,
+            end: self.end,
+            style: self.style,
+            words: self.words,
+        }
+    }
+
     /// Whether no token is left.
     pub fn is_empty(&self) -> bool
         ensures { IsTrue result ↔ (self.now ≡ []) }
     {
-        self.list.is_empty()
+        self.next.is_none()
     }
 
     /// The next token, which is passed.
@@ -117,13 +141,15 @@ impl<'a> Rest<'a> {
         ensures { MatchOption result ((self.old ≡ []) × (self.new ≡ []))
             (λ token. (place : Place) × (self.old ≡ (token, place) ∷ self.new)) }
     {
-        match self.list {
-            [lexeme, rest @ ..] => {
-                let token = token_at(self.text, *lexeme, self.words);
-                self.list = rest;
+        match self.next {
+            Some(lexeme) => {
+                let token = token_at(self.text, lexeme, self.words);
+                let ahead = ahead_of(self.style, self.text, self.at, self.end);
+                self.next = ahead.next;
+                self.at = ahead.at;
                 Some(token)
             }
-            [] => None,
+            None => None,
         }
     }
 
@@ -132,15 +158,17 @@ impl<'a> Rest<'a> {
     pub fn next_placed(&mut self) -> Option<(Token<'a>, Place)>
         ensures { MatchOption result ((self.old ≡ []) × (self.new ≡ [])) (λ item. self.old ≡ item ∷ self.new) }
     {
-        match self.list {
-            [lexeme, rest @ ..] => {
-                let token = token_at(self.text, *lexeme, self.words);
+        match self.next {
+            Some(lexeme) => {
+                let token = token_at(self.text, lexeme, self.words);
                 let place = place_behind(self.text, self.known, lexeme.at);
-                self.list = rest;
+                let ahead = ahead_of(self.style, self.text, self.at, self.end);
                 self.known = place;
+                self.next = ahead.next;
+                self.at = ahead.at;
                 Some((token, place))
             }
-            [] => None,
+            None => None,
         }
     }
 }
@@ -151,5 +179,5 @@ fn token_at<'a>(text: &'a [u8], lexeme: Lexeme, words: bool) -> Token<'a>
     ensures { result ≡ spec.taken words (spec.token_of lexeme.kind (spec.spelling text.now lexeme)) }
 {
     let from = lexeme.at as usize;
-    token_of(lexeme.kind, &text[from..from + lexeme.len as usize], words)
+    token_of(lexeme.kind, &text[from..from + lexeme.len], words)
 }

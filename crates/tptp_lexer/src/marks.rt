@@ -1,6 +1,6 @@
 //! The longest mark at the front of a text, by its first three bytes.
 ghost use Rattle.std.specs.Prelude.{◌≡◌};
-ghost use Rattle.tptp_lexer.specs.code.Scan as spec;
+ghost use Rattle.tptp_lexer.specs.Scan as spec;
 
 use crate::Mark;
 

@@ -1,7 +1,7 @@
 //! The longest number at the front of a text.
 ghost use Rattle.std.specs.Prelude.{◌≡◌, ◌<◌, ◌≤◌, ◌+◌, length, slice_index};
 ghost use Rattle.tptp_lexer.specs.Numbers.{is_sign, is_exponent};
-ghost use Rattle.tptp_lexer.specs.code.Scan as spec;
+ghost use Rattle.tptp_lexer.specs.Scan as spec;
 
 use crate::bytes::{byte, digits_len};
 

@@ -2,7 +2,8 @@
 ghost use Rattle.std.specs.Prelude.{◌≡◌, ◌≤◌, ◌<◌, length, IfOk, false};
 ghost use Rattle.tptp_lexer.specs.Quotes as written;
 ghost use Rattle.tptp_lexer.specs.Lexemes as lexemes;
-ghost use Rattle.tptp_lexer.specs.code.Scan as spec;
+ghost use Rattle.tptp_lexer.specs.Scan as spec;
+ghost use Rattle.tptp_lexer.specs.code.Scan.{EndsIn};
 
 use memchr::memchr;
 use std::alloc::{AllocError, Global};
@@ -64,7 +65,7 @@ fn turn_of(quote: u8, escaped: bool, byte: u8) -> Turn
 /// How a quote ends, from the text behind the opening quote on.
 pub fn quote_end(quote: u8, text: &[u8]) -> Quote
     ensures value { result ≡ spec.quote_end quote false 0 text.now }
-    ensures within { spec.EndsIn (length text.now) result }
+    ensures within { EndsIn (length text.now) result }
 {
     let mut escaped = false;
     for (at, byte) in text.iter().enumerate() {

@@ -1,7 +1,7 @@
 //! What a text begins with: the longest token at its front, found from the bytes there alone.
 ghost use Rattle.std.specs.Prelude.{◌≡◌, ◌<◌, ◌≤◌, ◌+◌, ◌^◌, length, IfSome, false};
 ghost use Rattle.tptp_lexer.specs.Comments as comments;
-ghost use Rattle.tptp_lexer.specs.code.Scan as spec;
+ghost use Rattle.tptp_lexer.specs.Scan as spec;
 
 use crate::bytes::{blanks_len, byte, is_blank, line_len, word_len};
 use crate::marks::mark_at;
@@ -38,7 +38,7 @@ pub enum Front {
 }
 
 /// What a text begins with.
-#[tactic(auto, unfolding(crate::specs::code::Scan::front_of))]
+#[tactic(auto, unfolding(crate::specs::Scan::front_of))]
 pub fn front_of(style: Style, text: &[u8]) -> Front
     requires { 0 < length text.now }
     ensures { result ≡ spec.front_of style text.now }
@@ -58,7 +58,7 @@ pub fn front_of(style: Style, text: &[u8]) -> Front
 }
 
 // What a text begins with that begins with no letter, blank, digit or sign.
-#[tactic(auto, unfolding(crate::specs::code::Scan::behind_words))]
+#[tactic(auto, unfolding(crate::specs::Scan::behind_words))]
 fn behind_words(style: Style, text: &[u8]) -> Front
     requires { 0 < length text.now }
     ensures { result ≡ spec.behind_words style text.now }

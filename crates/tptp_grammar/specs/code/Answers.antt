@@ -1,7 +1,5 @@
 -- What private contracts say, beside the definitions of specs/Answers.
-use Rattle.std.specs.Prelude.{◌≡◌, ◌==◌, ◌&&◌, not, if◌then◌else◌, ℕ, suc, ◌+◌, List, [], ◌∷◌, length, Option, Some}
-use Rattle.std.specs.Prelude.{None, Ok, Err}
-use Rattle.first_fault.specs.code.Reading.{Unexpected, TooDeep}
+use Rattle.std.specs.Prelude.{◌≡◌, ◌⊎◌, if◌then◌else◌, ℕ, ◌+◌, List, [], ◌∷◌, length, Option, Some, None, Ok}
 use Rattle.tptp_lexer.specs.declared.style.Style.{Style}
 use Rattle.tptp_lexer.specs.declared.token.Token.{Token}
 use Rattle.tptp_lexer.specs.declared.token.Token.TheVariants.{Comment}
@@ -9,35 +7,39 @@ use Rattle.tptp_base.specs.declared.place.Place.{Place}
 use Rattle.tptp_base.specs.declared.item.Item.{Item}
 use Rattle.tptp_grammar.specs.declared.stop.Stop.{Stop}
 use Rattle.tptp_grammar.specs.declared.fault.GrammarFault.{GrammarFault}
-use Rattle.tptp_grammar.specs.Solid.{Placed, is_remark, solid}
-use Rattle.tptp_grammar.specs.Faults.{is_outside}
+use Rattle.tptp_grammar.specs.Solid.{Placed}
+use Rattle.tptp_grammar.specs.Faults.{max_nesting, is_outside}
+use Rattle.tptp_grammar.specs.code.Dots.{through_dot, behind_dot}
 use Rattle.tptp_grammar.specs.code.Outcomes.{Fails}
 use Rattle.tptp_grammar.specs.code.ReadItems.{item}
-use Rattle.tptp_grammar.specs.code.ReadFile.{FileOutcome}
 use Rattle.tptp_base.specs.declared.item.Item.TheVariants as it
 use Rattle.tptp_grammar.specs.declared.stop.Stop.TheVariants as stop
 use Rattle.tptp_grammar.specs.declared.fault.GrammarFault.TheVariants as fault
 
 -- ---- what the parser's own functions answer
 
-abbrev pub Stopped : FileOutcome → Stop → ℕ → Type 0
-Stopped outcome stop.Memory left = Unit {0}
-Stopped outcome stop.Unexpected left = (rest : List Token) × (length rest ≡ left) × (outcome ≡ Err (Unexpected, rest))
-Stopped outcome stop.TooDeep left = (rest : List Token) × (length rest ≡ left) × (outcome ≡ Err (TooDeep, rest))
+-- An item is read from the tokens through the first dot.
+abbrev pub ItemRead : Style → Token → Place → List Placed → Item → List Placed → Type 0
+ItemRead style t place rest i new = (new ≡ behind_dot rest) × (left : List Token) × (item style max_nesting place (t ∷ through_dot rest) ≡ Ok (i, left))
 
--- an item between items, and how many of its tokens are left, or the comment that stands there
-abbrev pub Starts : Style → ℕ → Token → Place → List Token → Item → ℕ → List Token → Type 0
-Starts style room (Comment text) place old i left new = (i ≡ it.Comment text) × (left ≡ 0) × (new ≡ old)
-Starts style room t place old i left new = (item style room place old ≡ Ok (i, new)) × (suc (left + length new) ≡ length old)
+-- No item is read from these tokens. The reader stops behind so many of them.
+pub record ItemFails (style : Style) (t : Token) (place : Place) (rest : List Placed) (reason : Stop) (taken : ℕ) : Type 0 where
+  pub left : List Token
+  pub fails : Fails (item style max_nesting place (t ∷ through_dot rest)) reason left
+  pub count : taken + length left ≡ length (t ∷ through_dot rest)
 
-abbrev pub StartFails : Style → ℕ → Token → Place → List Token → Stop → ℕ → List Token → Type 0
-StartFails style room (Comment text) place old e left new = e ≡ stop.Memory
-StartFails style room t place old e left new = Fails (item style room place old) e new × (left ≡ length new)
+-- memory is wanting, or an item's reader stops
+abbrev pub Refuses : Style → Token → Place → List Placed → Stop → ℕ → Type 0
+Refuses style t place rest reason taken = (reason ≡ stop.Memory) ⊎ ItemFails style t place rest reason taken
 
--- the first token with as many from it on, comments left out
-abbrev pub entry_at : ℕ → List Placed → Option Placed
-entry_at left [] = None
-entry_at left (entry ∷ rest) = if not (is_remark entry) && (length (solid (entry ∷ rest)) == left) then Some entry else entry_at left rest
+-- a comment, or an item, from its first token on
+abbrev pub Starts : Style → Token → Place → List Placed → Item → List Placed → Type 0
+Starts style (Comment text) place rest i new = (i ≡ it.Comment text) × (new ≡ rest)
+Starts style t place rest i new = ItemRead style t place rest i new
+
+abbrev pub StartFails : Style → Token → Place → List Placed → Stop → ℕ → Type 0
+StartFails style (Comment text) place rest reason taken = reason ≡ stop.Memory
+StartFails style t place rest reason taken = Refuses style t place rest reason taken
 
 abbrev pub refusal_at : Option Placed → Place → GrammarFault
 refusal_at (Some entry) end = if is_outside entry.0 then fault.Profile entry.1 else fault.Token entry.1

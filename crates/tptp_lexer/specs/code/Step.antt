@@ -10,25 +10,25 @@ use Rattle.tptp_lexer.specs.declared.token.Token.{Token}
 use Rattle.tptp_lexer.specs.Answer.{BeginsNothing, IsOpen}
 use Rattle.tptp_lexer.specs.Bytes.{Text}
 use Rattle.tptp_lexer.specs.Tokenized.{Cut, placed}
-use Rattle.tptp_lexer.specs.Lexemes.{items_of, Follow}
+use Rattle.tptp_lexer.specs.Lexemes.{items_of, Follow, lexemes}
 
 -- the tokens that are found there
 abbrev pub found : ℕ → Text → List Lexeme → List (Token × Place)
 found file text list = items_of false file text list
 
--- The step led from one offset to the next, and added what was taken.
-pub record Takes (style : Style) (file : ℕ) (text : Text) (end at next : ℕ) (old new : List Lexeme) : Type 0 where
+-- The step led from one offset to the next.
+pub record Takes (style : Style) (file : ℕ) (text : Text) (end at next : ℕ) : Type 0 where
   pub more : List Lexeme
-  pub added : new ≡ old ++ more
+  pub scanned : lexemes style text end at ≡ more ++ lexemes style text end next
   pub cut : Cut style (placed file text) at (slice_range text at end) (found file text more) next (slice_range text next end)
   pub follow : Follow at more next
   pub moves : at < next
   pub within : next ≤ end
 
 -- what the answer of a step says
-abbrev pub Stepped : Style → ℕ → Text → ℕ → ℕ → List Lexeme → List Lexeme → Result ℕ LexFault → Type 0
-Stepped style file text end at old new (Ok next) = Takes style file text end at next old new
-Stepped style file text end at old new (Err (Byte place)) = (place ≡ place_of file text at) × BeginsNothing style (slice_range text at end)
-Stepped style file text end at old new (Err (Unfinished place)) = (place ≡ place_of file text at) × IsOpen (slice_range text at end)
-Stepped style file text end at old new (Err (Limit limit)) = ⊥
-Stepped style file text end at old new (Err Memory) = Unit {0}
+abbrev pub Stepped : Style → ℕ → Text → ℕ → ℕ → Result ℕ LexFault → Type 0
+Stepped style file text end at (Ok next) = Takes style file text end at next
+Stepped style file text end at (Err (Byte place)) = (place ≡ place_of file text at) × BeginsNothing style (slice_range text at end)
+Stepped style file text end at (Err (Unfinished place)) = (place ≡ place_of file text at) × IsOpen (slice_range text at end)
+Stepped style file text end at (Err (Limit limit)) = ⊥
+Stepped style file text end at (Err Memory) = Unit {0}

@@ -1,4 +1,4 @@
-use Rattle.std.proofs.Common.{◌+◌, ◌≤◌, refl, sym, arith}
+use Rattle.std.proofs.Common.{◌+◌, ◌≤◌, sym, arith}
 use Rattle.tptp_lexer.proofs.Stepping.{opens, begins_none, blanks_within, token_within, blanks_taken, token_taken}
 use Rattle.tptp_lexer.proofs.lexer.step.Goals as goal
 
@@ -7,25 +7,19 @@ blanks_fit : (c : goal.In-Blanks) → c.args.at + c.in-Blanks.len ≤ c.args.end
 blanks_fit c = blanks_within c.args.style c.args.file c.args.text.now c.args.end c.args.at c.requires.before c.requires.within c.in-Blanks.len (sym c.in-Blanks.ensures)
 
 token_fits : (c : goal.In-Token) → c.args.at + c.in-Token.len ≤ c.args.end
-token_fits c = token_within c.args.style c.args.file c.args.text.now c.args.end c.args.at c.requires.before c.requires.within c.in-Token.kind c.in-Token.len (sym c.in-Token.ensures)
+token_fits c = token_within c.args.style c.args.file c.args.text.now c.args.end c.args.at c.requires.before c.requires.within _ c.in-Token.len (sym c.in-Token.ensures)
 
 pub overflow_add-result : goal.overflow_add-result
 overflow_add-result c = let fits = blanks_fit c in grind (arith, fits)
 
-pub overflow_cast-len : goal.overflow_cast-len
-overflow_cast-len c = let fits = token_fits c in let small = c.requires.small in grind (arith, fits, small)
-
 pub overflow_add-result-in-Token : goal.overflow_add-result-in-Token
-overflow_add-result-in-Token c =
-    let fits = token_within c.args.style c.args.file c.args.text.now c.args.end c.args.at c.requires.before c.requires.within c.in-Token.kind c.in-Token.len (sym c.in-Token.ensures) in
-    grind (arith, fits)
+overflow_add-result-in-Token c = let fits = token_fits c in grind (arith, fits)
 
 pub returns-in-Blanks : goal.returns-in-Blanks
-returns-in-Blanks c = blanks_taken c.args.style c.args.file c.args.text.now c.args.end c.args.at c.requires.before c.requires.within c.in-Blanks.len c.args.list.now _ (sym c.in-Blanks.ensures) refl
+returns-in-Blanks c = blanks_taken c.args.style c.args.file c.args.text.now c.args.end c.args.at c.requires.before c.requires.within c.in-Blanks.len (sym c.in-Blanks.ensures)
 
-pub returns-in_ok-push-in-Token : goal.returns-in_ok-push-in-Token
-returns-in_ok-push-in-Token c =
-    token_taken c.args.style c.args.file c.args.text.now c.args.end c.args.at c.requires.before c.requires.within c.in-Token.kind c.in-Token.len c.args.list.now _ (sym c.in-Token.ensures) c.in_ok-push-in-Token.ensures.ok
+pub returns-in-Token : goal.returns-in-Token
+returns-in-Token c = token_taken c.args.style c.args.file c.args.text.now c.args.end c.args.at c.requires.before c.requires.within _ c.in-Token.len (sym c.in-Token.ensures)
 
 pub returns-in-Open : goal.returns-in-Open
 returns-in-Open c = (c.place_at.ensures, opens c.args.style c.args.file c.args.text.now c.args.end c.args.at c.requires.before c.requires.within (sym c.in-Open.ensures))

@@ -1,5 +1,5 @@
 use Rattle.std.proofs.Common.{◌≡◌, false, drop}
-use Rattle.tptp_lexer.specs.code.Scan.{quote_end}
+use Rattle.tptp_lexer.specs.Scan.{quote_end}
 use Rattle.tptp_lexer.proofs.quotes.quote_end.Given as goal
 
 abbrev pub invariant-loop-at : goal.invariant-loop-at

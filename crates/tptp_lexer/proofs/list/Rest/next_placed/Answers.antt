@@ -1,19 +1,9 @@
-use Rattle.std.proofs.Common.{length, arith}
-use Rattle.tptp_lexer.specs.declared.lexeme.Lexeme.{Lexeme}
-use Rattle.tptp_lexer.specs.declared.scan.Kind.TheVariants.{Lower}
-use Rattle.tptp_lexer.proofs.Following.{first_within, rest_follow_first, placed_on}
+use Rattle.std.proofs.Common.{arith}
+use Rattle.tptp_lexer.proofs.Following.{next_within}
 use Rattle.tptp_lexer.proofs.list.Rest.next_placed.Goals as goal
 
 pub token_at-token-requires : goal.token_at-token-requires
-token_at-token-requires c = first_within c.self.inside.known.offset (length c.self.inside.text.now) c.self.inside.list.now _ c.in-len1-up.len_at_least c.self.invariant.follow
+token_at-token-requires c = next_within c.self.inside.text.now c.self.inside.known c.self.inside.next c.in-Some.lexeme _ c.in-Some.is c.self.invariant.1
 
 pub place_behind-place-requires-clause-within : goal.place_behind-place-requires-clause-within
-place_behind-place-requires-clause-within c =
-    let fallback : Lexeme = record { kind = Lower; len = 0; at = 0 } in
-    let within = first_within c.self.inside.known.offset (length c.self.inside.text.now) c.self.inside.list.now fallback c.in-len1-up.len_at_least c.self.invariant.follow in
-    omega (arith, within)
-
-pub invariant_of-self : goal.invariant_of-self
-invariant_of-self c =
-    placed_on c.self.inside.known.file c.self.inside.text.now c.place_behind-place.result _ _ c.place_behind-place.ensures
-    (rest_follow_first c.self.inside.known.offset (length c.self.inside.text.now) c.self.inside.list.now _ c.in-len1-up.len_at_least c.self.invariant.follow)
+place_behind-place-requires-clause-within c = let within = next_within c.self.inside.text.now c.self.inside.known c.self.inside.next c.in-Some.lexeme _ c.in-Some.is c.self.invariant.1 in omega (arith, within)

@@ -1,5 +1,6 @@
--- What the parser computes of all tokens of a text of the style. The first number is the nesting that is left.
-use Rattle.std.specs.Prelude.{ℕ, zero, suc, ◌-◌, if◌then◌else◌, List, [], ◌∷◌, length, Result, Ok, Err}
+-- What all tokens of a text of the style are read as, as one reader answers it. The first number is the nesting that is
+-- left.
+use Rattle.std.proofs.Common.{ℕ, zero, suc, ◌-◌, if◌then◌else◌, List, [], ◌∷◌, length, Result, Ok, Err}
 use Rattle.first_fault.specs.code.Reading.{Cause, Outcome}
 use Rattle.tptp_lexer.specs.declared.style.Style.{Style}
 use Rattle.tptp_lexer.specs.declared.token.Token.{Token}
