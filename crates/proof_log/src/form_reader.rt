@@ -92,7 +92,7 @@ fn equation(alloc: Global, text: &mut Cursor<'_>, room: usize) -> Result<Boxed<F
 {
     let left = term(alloc, text, room)?;
     let right = term(alloc, text, room)?;
-    Ok(Boxed::new(alloc, Form::Eq(left.into_inner(), right.into_inner()))?)
+    Ok(Boxed::new(alloc, Form::Eq(left, right))?)
 }
 
 #[inline(never)]

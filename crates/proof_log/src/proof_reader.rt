@@ -260,7 +260,7 @@ fn all_elim(alloc: Global, text: &mut Cursor<'_>, room: usize) -> Result<Boxed<P
     ensures { Reads (spec.proof_by (spec.term room) (spec.form room)
         (spec.proof room) ProofName.AllE text.old) result text.new }
 {
-    let term = term(alloc, text, room)?;
+    let term = Boxed::new(alloc, term(alloc, text, room)?)?;
     let part = proof(alloc, text, room)?;
     Ok(Boxed::new(alloc, Proof::AllE(term, part))?)
 }
@@ -273,7 +273,7 @@ fn exists_intro(alloc: Global, text: &mut Cursor<'_>, room: usize) -> Result<Box
 {
     let sort = small(text)?;
     let form = form(alloc, text, room)?;
-    let term = term(alloc, text, room)?;
+    let term = Boxed::new(alloc, term(alloc, text, room)?)?;
     let part = proof(alloc, text, room)?;
     Ok(Boxed::new(alloc, Proof::ExI(sort, form, term, part))?)
 }
@@ -295,7 +295,7 @@ fn reflexivity(alloc: Global, text: &mut Cursor<'_>, room: usize) -> Result<Boxe
     ensures { Reads (spec.proof_by (spec.term room) (spec.form room)
         (spec.proof room) ProofName.Refl text.old) result text.new }
 {
-    let term = term(alloc, text, room)?;
+    let term = Boxed::new(alloc, term(alloc, text, room)?)?;
     Ok(Boxed::new(alloc, Proof::Refl(term))?)
 }
 

@@ -8,17 +8,17 @@ ghost use Rattle.proof_log.specs.code.Outcomes.{Reads};
 
 use crate::cursor::Cursor;
 use crate::name::{TERM_NAMES, TermName};
-use crate::room::{add, list_for};
+use crate::room::list_for;
 use crate::stop::Stop;
 use crate::words::{deep_head, head, large, small};
 use fof_terms::Term;
 use std::alloc::Global;
-use tptp_base::{Boxed, List};
+use tptp_base::List;
 
 /// A term.
 #[cycle(term)]
 #[tactic(auto, unfolding(crate::specs::code::ReadTrees::term))]
-pub fn term(alloc: Global, text: &mut Cursor<'_>, room: usize) -> Result<Boxed<Term>, Stop>
+pub fn term(alloc: Global, text: &mut Cursor<'_>, room: usize) -> Result<Term, Stop>
     ensures { Reads (spec.term room text.old) result text.new }
 {
     if room == 0 {
@@ -30,31 +30,31 @@ pub fn term(alloc: Global, text: &mut Cursor<'_>, room: usize) -> Result<Boxed<T
 
 // A term whose parts have this room.
 #[cycle(term)]
-fn term_within(alloc: Global, text: &mut Cursor<'_>, room: usize) -> Result<Boxed<Term>, Stop>
+fn term_within(alloc: Global, text: &mut Cursor<'_>, room: usize) -> Result<Term, Stop>
     ensures { Reads (spec.behind (head term_name term_names) (spec.term_by (spec.term room)) text.old) result text.new }
 {
     match head(text, &TERM_NAMES)? {
-        TermName::Var => variable(alloc, text),
+        TermName::Var => variable(text),
         TermName::App => application(alloc, text, room),
     }
 }
 
 // A variable, behind its name.
-fn variable(alloc: Global, text: &mut Cursor<'_>) -> Result<Boxed<Term>, Stop>
+fn variable(text: &mut Cursor<'_>) -> Result<Term, Stop>
     ensures { Reads (mapped (λ k. Term.Var k) (number 4294967295 text.old)) result text.new }
 {
     let number = small(text)?;
-    Ok(Boxed::new(alloc, Term::Var(number))?)
+    Ok(Term::Var(number))
 }
 
 // An application, behind its name.
 #[cycle(term)]
-fn application(alloc: Global, text: &mut Cursor<'_>, room: usize) -> Result<Boxed<Term>, Stop>
+fn application(alloc: Global, text: &mut Cursor<'_>, room: usize) -> Result<Term, Stop>
     ensures { Reads (spec.term_by (spec.term room) TermName.App text.old) result text.new }
 {
     let symbol = small(text)?;
     let args = terms(alloc, text, room)?;
-    Ok(Boxed::new(alloc, Term::App(symbol, args))?)
+    Ok(Term::App(symbol, args))
 }
 
 /// How many terms there are, and the terms.
@@ -68,7 +68,7 @@ pub fn terms(alloc: Global, text: &mut Cursor<'_>, room: usize) -> Result<List<T
     let mut found = list_for(alloc, count)?;
     for _ in 0..count {
         let next = term(alloc, text, room)?;
-        add(&mut found, next)?;
+        found.push(next)?;
     }
     Ok(found)
 }

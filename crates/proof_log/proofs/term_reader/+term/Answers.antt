@@ -17,7 +17,7 @@ terms-returns-in_err-next t c =
 
 pub terms-loop-preserved : goal.terms-loop-preserved
 terms-loop-preserved t c =
-    subst (λ xs. Kept (spec.term c.args.room) c.in_ok-count.count c.large.new.text xs (c.loop.counter + 1) c.term.new.text) (sym c.in_ok-add.ensures)
+    subst (λ xs. Kept (spec.term c.args.room) c.in_ok-count.count c.large.new.text xs (c.loop.counter + 1) c.term.new.text) (sym c.in_ok-push.ensures.ok)
     (kept_more (spec.term c.args.room) c.in_ok-count.count c.large.new.text c.loop.found c.loop.counter c.loop.text c.in_ok-next.next c.term.new.text c.loop-test.true c.loop.invariant c.in_ok-next.ensures)
 
 pub terms-returns : goal.terms-returns
