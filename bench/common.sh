@@ -24,9 +24,14 @@ seconds() {
 
 # The processor's seconds that $program takes on these words. What it prints is left in the file answer.
 processor() {
-    /usr/bin/time -f "%U %S" -o "$folder/processor" "$program" "$@" > "$folder/answer"
+    /usr/bin/time -f "%U %S %M" -o "$folder/processor" "$program" "$@" > "$folder/answer"
     # A status other than 0 has a line of its own before.
     tail -n 1 "$folder/processor" | awk '{ printf "%.2f", $1 + $2 }'
+}
+
+# The most memory that the last of these took, in megabytes.
+memory_taken() {
+    tail -n 1 "$folder/processor" | awk '{ printf "%d", $3 / 1000 }'
 }
 
 # The most memory that a command takes, in bytes.

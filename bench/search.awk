@@ -5,6 +5,7 @@
 #   deep     p holds of a constant, of f of what it holds of, and not where f stands so many times
 #   sets     an element of a union of so many sets that is in none but the first one, and not in that
 #   lattice  two operations absorb each other, and so many constants are not their own joins
+#   laws     two operations commute, associate and absorb each other, and do not distribute over so many constants
 #   group    a group by left laws, and so many products of an element and its inverse that are not the neutral one
 function clause(text) {
     if (!derivation) printf "cnf(a%d,axiom,%s).\n", count, text
@@ -46,6 +47,17 @@ BEGIN {
         clause("meet(X,join(X,Y))=X")
         line = ""
         for (i = 0; i < size; i++) line = line (i ? "|" : "") "join(c" i ",c" i ")!=c" i
+        clause(line)
+    } else if (input == "laws") {
+        clause("join(X,meet(X,Y))=X")
+        clause("meet(X,join(X,Y))=X")
+        clause("join(X,Y)=join(Y,X)")
+        clause("meet(X,Y)=meet(Y,X)")
+        clause("join(join(X,Y),Z)=join(X,join(Y,Z))")
+        clause("meet(meet(X,Y),Z)=meet(X,meet(Y,Z))")
+        line = ""
+        for (i = 0; i < size; i++)
+            line = line (i ? "|" : "") "join(a" i ",meet(b" i ",c" i "))!=meet(join(a" i ",b" i "),join(a" i ",c" i "))"
         clause(line)
     } else if (input == "group") {
         clause("times(one,X)=X")

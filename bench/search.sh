@@ -1,7 +1,7 @@
 #!/bin/sh
 # Measures lines that a search or a decision shows: for each input (search.awk says which) and size what is said of the line, the
-# processor's seconds of `verify`, and how they grow from half the size; the entries of the log, its bytes, and the
-# processor's seconds of `check`.
+# processor's seconds of `verify`, how they grow from half the size, and its peak memory; the entries of the log, its bytes,
+# and the processor's seconds of `check`.
 #
 #     bench/search.sh [PROGRAM]
 #
@@ -27,11 +27,12 @@ while read -r input size limit; do
     half=$(verifying)
     write "$input" "$size"
     time=$(verifying)
+    memory=$(memory_taken)
     said=$(head -n 1 answer)
     checked=-
     case "$said" in "l ok "*) checked=$(processor check x.p x.log) ;; esac
-    printf '%-8s %5d  %-22s %7.2f s  x%4.1f  %7d entries %9d bytes  check %s s\n' "$input" "$size" "$said" "$time" \
-        "$(calculate "$time / ($half + 0.01)")" $(($(wc -l < x.log) - 1)) "$(wc -c < x.log)" "$checked"
+    printf '%-8s %5d  %-22s %7.2f s  x%4.1f  %5d MB  %7d entries %9d bytes  check %s s\n' "$input" "$size" "$said" "$time" \
+        "$(calculate "$time / ($half + 0.01)")" "$memory" $(($(wc -l < x.log) - 1)) "$(wc -c < x.log)" "$checked"
 done << END
 chain 500 10000
 chain 1000 10000
@@ -43,5 +44,6 @@ sets 40 1000
 pigeons 2 1000
 pigeons 3 1000
 lattice 2 200
+laws 2 1000
 group 2 1000
 END
