@@ -1,0 +1,17 @@
+pub mod Along
+pub mod Carrying
+pub mod Given
+pub mod Inferring
+pub mod Kept
+pub mod Lines
+pub mod ListEnds
+pub mod Norming
+pub mod Occurring
+pub mod Owning
+pub mod Plain
+pub mod Reaching
+pub mod Renumbering
+pub mod Sorting
+pub mod Terms
+pub mod Through
+pub mod Trimming

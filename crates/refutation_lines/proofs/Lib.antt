@@ -1,0 +1,3 @@
+pub mod NeedFacts
+pub mod PlaceFacts
+pub mod PlanFacts
