@@ -1,9 +1,9 @@
 -- The clauses of a step are well-sorted over the vocabulary with the functions, and there is room for these.
 use Rattle.std.specs.Prelude.{ℕ, ◌≡◌, ◌+◌, ◌≤◌, ◌<◌, nat_lt, ◌||◌, Bool, true, false, if◌then◌else◌, List, [], ◌∷◌, ◌++◌, length, map, sum, reverse, slice_get, Some, refl}
-use Rattle.std.specs.List.{All as Each, AllByRecursion, list_all, list_any}
-use Rattle.std.proofs.Common.{ap, sym, subst, ◌∙◌, arith, zero, suc, append_assoc}
+use Rattle.std.specs.List.{All as Each, AllByRecursion, list_any}
+use Rattle.std.proofs.Common.{ap, sym, subst, ◌∙◌, arith, append_assoc}
 use Rattle.std.proofs.lemmas.Bool.Decides.{nat_tests}
-use Rattle.std.proofs.lemmas.List.{append-nil, length-map, reverse-append}
+use Rattle.std.proofs.lemmas.List.{append-nil, reverse-append}
 use Rattle.std.proofs.lemmas.List.Elements.{All-from_recursion, recursion_from_All}
 use Rattle.fof_terms.proofs.LiftingLaws.{each_true}
 use Rattle.fof_terms.proofs.SortLawsFacts.{grown_fits}
@@ -12,7 +12,6 @@ use Rattle.fof_terms.specs.SortLaws.{Grows}
 use Rattle.fof_terms.specs.Sorts.{SortedTo, is_sorted}
 use Rattle.fof_terms.specs.Vocabulary.{Vocabulary, IsDeclared}
 use Rattle.fof_terms.specs.declared.form.Form.{Form, Not}
-use Rattle.fof_terms.specs.declared.signature.Symbol.{Symbol}
 use Rattle.fof_terms.specs.declared.term.Term.{Var}
 use Rattle.fof_terms.proofs.SortsFacts.{sort_of_term-Var}
 use Rattle.fof_terms.specs.Sorts.{sort_of_term}

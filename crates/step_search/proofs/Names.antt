@@ -20,7 +20,7 @@ use Rattle.kernel.specs.declared.entry.Decl.TheVariants as decl
 use Rattle.kernel.specs.declared.entry.Entry.{Entry}
 use Rattle.kernel.specs.declared.entry.Entry.TheVariants.{Declare}
 use Rattle.input_proofs.specs.Functions.{functions_of}
-use Rattle.step_clauses.specs.Existentials.{existentials, ex_count}
+use Rattle.step_clauses.specs.Existentials.{existentials}
 use Rattle.step_clauses.specs.Inputs.{next_behind, new_symbols_from, search_symbols, step_forms}
 use Rattle.step_clauses.specs.Skolems.{skolems_from, skolems_of}
 use Rattle.step_clauses.specs.declared.existentials.Existential.{Existential}

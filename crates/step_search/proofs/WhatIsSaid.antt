@@ -1,5 +1,5 @@
 -- What a search says of a step, from what its parts ensure.
-use Rattle.std.specs.Prelude.{ℕ, ◌≡◌, ◌+◌, ◌≤◌, ◌++◌, true, false, List, [], length, map}
+use Rattle.std.specs.Prelude.{ℕ, ◌≡◌, ◌+◌, ◌≤◌, ◌++◌, true, false, List, [], length}
 use Rattle.std.specs.List.{All as Each}
 use Rattle.std.proofs.Common.{ap, sym, subst, ◌∙◌, arith}
 use Rattle.fof_terms.specs.Vocabulary.{Vocabulary, IsDeclared}

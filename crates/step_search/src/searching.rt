@@ -2,6 +2,7 @@ ghost use Rattle.std.specs.Prelude.{◌≡◌, false, length, IfOk};
 ghost use Rattle.clause_form.specs.Paths.{forms_of};
 ghost use Rattle.clause_rules.specs.Steps.{AreReady, IsReady};
 ghost use Rattle.derive_kit.specs.Derived.{AreOfTheory};
+ghost use Rattle.input_proofs.specs.Functions.{searched_clauses, searched_vocabulary};
 ghost use Rattle.kernel.specs.Statements.{AreClosed};
 ghost use Rattle.step_clauses.specs.Inputs.{search_input as input_of, search_symbols};
 ghost use Rattle.step_clauses.specs.Room.{HasRoom};
@@ -10,8 +11,8 @@ ghost use Rattle.step_search.specs.Search.{IsSearched};
 
 use crate::grown::with_functions;
 use crate::outcome::Searched;
-use clause_form::{FormFault, Parent};
-use fof_terms::Form;
+use clause_form::{Clause, FormFault, Parent};
+use fof_terms::{Form, Signature};
 use proof_check::Theory;
 use saturation::{Outcome, search};
 use search_proofs::refutation_entries;
@@ -65,22 +66,47 @@ fn search_clauses(
     ensures { IfOk result (IsSearched theory.now parents.now line.now limit) }
 {
     let signature = with_functions(alloc, theory.signature(), input.skolems.as_slice())?;
-    match search(alloc, &signature, input.clauses.as_slice(), limit)? {
+    let clauses = input.clauses.as_slice();
+    search_over(alloc, theory, &signature, parents, line, limit, clauses)
+}
+
+// The same over the signature of the theory with the functions of the step.
+fn search_over(
+    alloc: Global,
+    theory: &Theory,
+    signature: &Signature,
+    parents: &[Parent],
+    line: &Form,
+    limit: u32,
+    clauses: &[Clause],
+) -> Result<Searched, Memory>
+    requires closed { AreClosed theory.now }
+    requires parents { AreOfTheory theory.now parents.now }
+    requires ready { AreReady theory.now.vocabulary parents.now }
+    requires line { IsReady theory.now.vocabulary line.now }
+    requires room { HasRoom (length theory.now.vocabulary.symbols) (forms_of parents.now) line.now }
+    requires narrow { is_wide (length theory.now.vocabulary.symbols) (forms_of parents.now) line.now ≡ false }
+    requires signature { signature.now ≡ searched_vocabulary theory.now.vocabulary parents.now line.now }
+    requires clauses { clauses.now ≡ searched_clauses theory.now.vocabulary parents.now line.now }
+    ensures { IfOk result (IsSearched theory.now parents.now line.now limit) }
+{
+    let outcome = search(alloc, signature, clauses, limit)?;
+    match &outcome {
         Outcome::Refuted(members, empty) => {
             let entries = refutation_entries(
                 alloc,
                 theory,
-                &signature,
+                signature,
                 parents,
                 line,
-                input.clauses.as_slice(),
+                clauses,
                 members.as_slice(),
-                &empty,
+                empty,
             )?;
             Ok(Searched::Refuted(entries))
         }
-        Outcome::Dry(_members) => Ok(Searched::Dry),
-        Outcome::Full(_members) => Ok(Searched::Full),
-        Outcome::Heavy(_members) => Ok(Searched::Heavy),
+        Outcome::Dry(_) => Ok(Searched::Dry),
+        Outcome::Full(_) => Ok(Searched::Full),
+        Outcome::Heavy(_) => Ok(Searched::Heavy),
     }
 }

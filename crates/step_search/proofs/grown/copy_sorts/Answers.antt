@@ -1,6 +1,6 @@
 use Rattle.std.proofs.Common.{sym, ◌∙◌}
 use Rattle.step_search.proofs.Growing.{sort_added}
-use Rattle.step_search.proofs.grown.sorts_of.Goals as goal
+use Rattle.step_search.proofs.grown.copy_sorts.Goals as goal
 
 pub loop-number-preserved : goal.loop-number-preserved
 loop-number-preserved c =

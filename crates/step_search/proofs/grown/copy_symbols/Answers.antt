@@ -1,6 +1,6 @@
 use Rattle.std.proofs.Common.{sym}
-use Rattle.step_search.proofs.Growing.{all_symbols, symbol_added, symbol_declared, symbol_room}
-use Rattle.step_search.proofs.grown.copy_of.Goals as goal
+use Rattle.step_search.proofs.Growing.{symbol_added, symbol_declared}
+use Rattle.step_search.proofs.grown.copy_symbols.Goals as goal
 
 pub add-requires-clause-declared : goal.add-requires-clause-declared
 add-requires-clause-declared c =

@@ -1,6 +1,0 @@
-use Rattle.std.proofs.Common.{◌≡◌, ◌++◌, take}
-use Rattle.step_search.proofs.Growing.{symbols_in, with_symbols}
-use Rattle.step_search.proofs.grown.with_functions.Given as goal
-
-abbrev pub invariant-loop-skolem : goal.invariant-loop-skolem
-invariant-loop-skolem l = l.grown ≡ with_symbols l.signature (l.signature.symbols ++ symbols_in (take l.skolem-index l.skolems))
