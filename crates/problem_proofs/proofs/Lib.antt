@@ -1,0 +1,5 @@
+pub mod Finding
+pub mod FunctionFacts
+pub mod GrowingFacts
+pub mod PosedFacts
+pub mod Searching

@@ -1,0 +1,3 @@
+pub mod Posed
+pub mod Found
+pub mod Proved
