@@ -4,6 +4,8 @@ pub mod ConcludedLists
 pub mod Chains
 pub mod Added
 pub mod Marked
+pub mod MarksFacts
+pub mod InVocabulary
 pub mod HypothesesFacts
 pub mod JointFacts
 pub mod Lifts

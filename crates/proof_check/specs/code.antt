@@ -4,4 +4,5 @@ pub mod Concludes
 pub mod Findings
 pub mod Hypotheses
 pub mod JointInstance
+pub mod Marking
 pub mod Reaching

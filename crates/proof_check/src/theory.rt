@@ -17,24 +17,21 @@ use crate::closing::{choice_of, naming_of};
 use crate::context::Context;
 use crate::deduction::conclude;
 use crate::fault::AdmitFault;
-use crate::marks::mark;
-use fof_terms::{
-    Form, Kind, Signature, SymId, Symbol, occurs, symbols_of, symbols_of_all, well_sorted,
-};
-use indexmap::IndexSet;
+use crate::marks::{has, mark_at, mark_forms, widen};
+use fof_terms::{Form, Kind, Signature, SymId, Symbol, occurs, well_sorted};
 use kernel::{Decl, Entry, Proof};
 use std::alloc::Global;
 use std::marker::Model;
 use tptp_base::{List, Memory, Text};
 
-/// A signature, and the formulas that hold over it. Each formula is closed and well-sorted. A set keeps the symbols
-/// that they use.
+/// A signature, and the formulas that hold over it. Each formula is closed and well-sorted. The symbols that they use
+/// are marked, each at its number.
 #[derive(Drop)]
 pub struct Theory {
     alloc: Global,
     signature: Signature,
     formulas: List<Form>,
-    used: IndexSet<SymId>,
+    used: List<bool>,
 }
 
 impl Model for Theory {
@@ -58,11 +55,9 @@ impl Theory {
         requires { Each (Sorted signature []) given }
         ensures { IfOk result (λ theory. theory ≡ record { vocabulary = signature; formulas = given }) }
     {
-        let mut symbols = List::new(alloc);
-        symbols_of_all(given.as_slice(), &mut symbols)?;
-        let mut used = IndexSet::new(alloc);
-        used.reserve(symbols.len())?;
-        mark(&mut used, symbols.as_slice());
+        let mut used = List::new(alloc);
+        widen(&mut used, signature.symbol_count() as usize)?;
+        mark_forms(given.as_slice(), &mut used);
         Ok(Theory {
             alloc,
             signature,
@@ -108,7 +103,7 @@ impl Theory {
     pub fn uses(&self, symbol: SymId) -> bool
         ensures { result ≡ list_any (occurs_in symbol) self.now.formulas }
     {
-        self.used.contains(&symbol)
+        has(self.used.as_slice(), symbol)
     }
 
     /// The formula of that number, counted from 0; None exactly where the number isn't there.
@@ -179,11 +174,10 @@ impl Theory {
     {
         match form {
             Some(form) => {
-                let mut symbols = List::new(self.alloc);
-                symbols_of(&form, &mut symbols)?;
-                self.used.reserve(symbols.len())?;
+                widen(&mut self.used, self.signature.symbol_count() as usize)?;
+                let place = self.formulas.len();
                 self.formulas.push(form)?;
-                mark(&mut self.used, symbols.as_slice());
+                mark_at(self.formulas.as_slice(), place, &mut self.used);
                 Ok(())
             }
             None => Err(AdmitFault::Illegal),
