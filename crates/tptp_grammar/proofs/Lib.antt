@@ -12,6 +12,7 @@ pub mod ExactEmbedded
 pub mod ExactGeneral
 pub mod Solids
 pub mod Loops
+pub mod Adding
 pub mod ExactNames
 pub mod ExactAnnotations
 pub mod ExactItems

@@ -1,4 +1,5 @@
 -- What private contracts alone say of the code. Nothing public rests on this.
+pub mod Adding
 pub mod Answers
 pub mod Dots
 pub mod Outcomes

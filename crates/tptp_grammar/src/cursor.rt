@@ -4,6 +4,7 @@ ghost use Rattle.std.specs.Option.{option_copied};
 ghost use Rattle.first_fault.specs.code.Reading.{next, tail, expect, sees, after_seen};
 ghost use Rattle.tptp_grammar.specs.code.ReadTerms as spec;
 ghost use Rattle.tptp_grammar.specs.code.Outcomes.{Reads};
+ghost use Rattle.tptp_grammar.specs.code.Adding.{IsClosed};
 
 use crate::stop::Stop;
 use std::marker::Model;
@@ -89,6 +90,15 @@ impl<'a> Cursor<'a> {
         } else {
             Err(Stop::Unexpected)
         }
+    }
+
+    /// What was read, if it was and this mark follows. The cursor then stands behind the mark.
+    pub fn closed<T: Drop>(&mut self, read: Result<T, Stop>, mark: Mark) -> Result<T, Stop>
+        ensures { IsClosed mark read self.old result self.new }
+    {
+        let read = read?;
+        self.expect(mark)?;
+        Ok(read)
     }
 }
 

@@ -1,6 +1,6 @@
 // The productions of formulas, one function for each. `room` is the nesting that is left; bound variables may have
 // sorts where the formula is `typed`.
-ghost use Rattle.std.specs.Prelude.{◌≤◌, ◌-◌, ◌∷◌, length, Some, None, if◌then◌else◌};
+ghost use Rattle.std.specs.Prelude.{◌≡◌, ◌≤◌, ◌-◌, ◌∷◌, length, IfOk, Some, None, if◌then◌else◌};
 ghost use Rattle.first_fault.specs.code.Reading.{separated, closed, mapped, tail};
 ghost use Rattle.tptp_base.specs.declared.surface.Surface.TheVariants as fm;
 ghost use Rattle.tptp_grammar.specs.code.ReadTerms.{is_mark};
@@ -8,11 +8,11 @@ ghost use Rattle.tptp_grammar.specs.code.ReadFormulas as spec;
 ghost use Rattle.tptp_grammar.specs.code.Outcomes.{Reads};
 
 use crate::cursor::Cursor;
-use crate::lists::{in_front, short_list};
+use crate::lists::{push_read, short_list};
 use crate::sorts::argument_sort;
 use crate::stop::Stop;
 use crate::terms::basic;
-use std::alloc::Global;
+use std::alloc::{AllocError, Global};
 use tptp_base::{BinOp, BoundVar, Boxed, List, Quant, Surface, Text};
 use tptp_lexer::{Mark, Token};
 
@@ -145,9 +145,20 @@ fn parenthesis(
 fn inner(alloc: Global, tokens: &mut Cursor<'_>, typed: bool, room: usize) -> Result<Surface, Stop>
     ensures { Reads (closed (is_mark Mark.Close) (spec.formula typed room) tokens.old) result tokens.new }
 {
-    let found = formula(alloc, tokens, typed, room)?;
-    tokens.expect(Mark::Close)?;
-    Ok(found)
+    let found = formula(alloc, tokens, typed, room);
+    tokens.closed(found, Mark::Close)
+}
+
+// A formula behind its bound variables.
+fn bound(
+    alloc: Global,
+    quant: Quant,
+    names: List<BoundVar>,
+    body: Surface,
+) -> Result<Surface, AllocError>
+    ensures { IfOk result (λ whole. whole ≡ fm.Bind quant names body) }
+{
+    Ok(Surface::Bind(quant, names, Boxed::new(alloc, body)?))
 }
 
 // What follows the bound variables.
@@ -167,7 +178,7 @@ fn scope(
     match tokens.peek() {
         Some(Token::Mark(Mark::Colon)) => {
             let body = nested(alloc, tokens, typed, room, names.len())?;
-            Ok(Surface::Bind(quant, names, Boxed::new(alloc, body)?))
+            Ok(bound(alloc, quant, names, body)?)
         }
         _ => Err(Stop::Unexpected),
     }
@@ -224,7 +235,7 @@ fn unit(alloc: Global, tokens: &mut Cursor<'_>, typed: bool, room: usize) -> Res
     }
 }
 
-// One or more units with the mark between them.
+// The first unit and the further ones, with the mark before each of them. The cursor stands at the first mark.
 #[cycle(formula)]
 fn units(
     alloc: Global,
@@ -232,15 +243,31 @@ fn units(
     typed: bool,
     room: usize,
     mark: Mark,
+    first: Surface,
 ) -> Result<List<Surface>, Stop>
-    ensures { Reads (separated (is_mark mark) (spec.unit typed room) tokens.old) result tokens.new }
+    ensures { Reads (mapped (λ fs. first
+        ∷ fs) (separated (is_mark mark) (spec.unit typed room) (tail tokens.old))) result tokens.new }
 {
+    tokens.skip();
     let mut found = short_list(alloc);
-    found.push(unit(alloc, tokens, typed, room)?)?;
+    found.push(first)?;
+    push_read(&mut found, unit(alloc, tokens, typed, room))?;
     'members: while tokens.eat(mark) {
-        found.push(unit(alloc, tokens, typed, room)?)?;
+        push_read(&mut found, unit(alloc, tokens, typed, room))?;
     }
     Ok(found)
+}
+
+// Two formulas with the operator between them.
+fn binary(
+    alloc: Global,
+    operator: BinOp,
+    first: Boxed<Surface>,
+    second: Surface,
+) -> Result<Surface, AllocError>
+    ensures { IfOk result (λ whole. whole ≡ fm.Binary operator first second) }
+{
+    Ok(Surface::Binary(operator, first, Boxed::new(alloc, second)?))
 }
 
 // The second unit of a formula with this operator.
@@ -257,8 +284,8 @@ fn operated(
 {
     let first = Boxed::new(alloc, first)?;
     tokens.skip();
-    let second = Boxed::new(alloc, unit(alloc, tokens, typed, room)?)?;
-    Ok(Surface::Binary(operator, first, second))
+    let second = unit(alloc, tokens, typed, room)?;
+    Ok(binary(alloc, operator, first, second)?)
 }
 
 // The further units of a formula with bars.
@@ -273,9 +300,8 @@ fn disjunction(
     ensures { Reads (mapped (λ fs. fm.Or (first
         ∷ fs)) (separated (is_mark Mark.Bar) (spec.unit typed room) (tail tokens.old))) result tokens.new }
 {
-    tokens.skip();
-    let others = units(alloc, tokens, typed, room, Mark::Bar)?;
-    Ok(Surface::Or(in_front(alloc, first, others)?))
+    let all = units(alloc, tokens, typed, room, Mark::Bar, first)?;
+    Ok(Surface::Or(all))
 }
 
 // The further units of a formula with ampersands.
@@ -290,9 +316,8 @@ fn conjunction(
     ensures { Reads (mapped (λ fs. fm.And (first
         ∷ fs)) (separated (is_mark Mark.Ampersand) (spec.unit typed room) (tail tokens.old))) result tokens.new }
 {
-    tokens.skip();
-    let others = units(alloc, tokens, typed, room, Mark::Ampersand)?;
-    Ok(Surface::And(in_front(alloc, first, others)?))
+    let all = units(alloc, tokens, typed, room, Mark::Ampersand, first)?;
+    Ok(Surface::And(all))
 }
 
 // What follows the first unit of a formula.

@@ -1,5 +1,5 @@
 // The productions of general terms, one function for each. `room` is the nesting that is left.
-ghost use Rattle.std.specs.Prelude.{◌≡◌};
+ghost use Rattle.std.specs.Prelude.{◌≡◌, IfOk};
 ghost use Rattle.first_fault.specs.code.Reading.{separated, closed, mapped};
 ghost use Rattle.tptp_base.specs.declared.item.GTerm.TheVariants as gt;
 ghost use Rattle.tptp_grammar.specs.code.ReadTerms.{is_mark};
@@ -9,11 +9,11 @@ ghost use Rattle.tptp_grammar.specs.code.Outcomes.{Reads};
 use crate::clauses::clause;
 use crate::cursor::Cursor;
 use crate::formulas::formula;
-use crate::lists::short_list;
+use crate::lists::{push_read, short_list};
 use crate::stop::Stop;
 use crate::terms::term;
 use crate::typed_clauses::typed_clause;
-use std::alloc::Global;
+use std::alloc::{AllocError, Global};
 use tptp_base::{Boxed, GTerm, Lang, List, STerm, Surface, Text};
 use tptp_lexer::{Mark, Token};
 
@@ -154,18 +154,22 @@ fn arguments(alloc: Global, tokens: &mut Cursor<'_>, room: usize) -> Result<List
         return Err(Stop::TooDeep);
     }
     tokens.skip();
-    closed_list(alloc, tokens, room - 1)
+    closed_list(alloc, tokens, room - 1, Mark::Close)
 }
 
-// General terms up to their closing parenthesis.
+// General terms up to the mark that closes them.
 #[cycle(general)]
-fn closed_list(alloc: Global, tokens: &mut Cursor<'_>, room: usize) -> Result<List<GTerm>, Stop>
-    ensures { Reads (closed (is_mark Mark.Close)
+fn closed_list(
+    alloc: Global,
+    tokens: &mut Cursor<'_>,
+    room: usize,
+    mark: Mark,
+) -> Result<List<GTerm>, Stop>
+    ensures { Reads (closed (is_mark mark)
         (separated (is_mark Mark.Comma) (spec.general room)) tokens.old) result tokens.new }
 {
-    let found = general_list(alloc, tokens, room)?;
-    tokens.expect(Mark::Close)?;
-    Ok(found)
+    let found = general_list(alloc, tokens, room);
+    tokens.closed(found, mark)
 }
 
 // One or more general terms with commas between them.
@@ -174,9 +178,9 @@ fn general_list(alloc: Global, tokens: &mut Cursor<'_>, room: usize) -> Result<L
     ensures { Reads (separated (is_mark Mark.Comma) (spec.general room) tokens.old) result tokens.new }
 {
     let mut found = short_list(alloc);
-    found.push(general(alloc, tokens, room)?)?;
+    push_read(&mut found, general(alloc, tokens, room))?;
     'members: while tokens.eat(Mark::Comma) {
-        found.push(general(alloc, tokens, room)?)?;
+        push_read(&mut found, general(alloc, tokens, room))?;
     }
     Ok(found)
 }
@@ -192,11 +196,7 @@ fn listed(alloc: Global, tokens: &mut Cursor<'_>, room: usize) -> Result<List<GT
             tokens.skip();
             Ok(List::new(alloc))
         }
-        _ => {
-            let found = general_list(alloc, tokens, room)?;
-            tokens.expect(Mark::CloseList)?;
-            Ok(found)
-        }
+        _ => closed_list(alloc, tokens, room, Mark::CloseList),
     }
 }
 
@@ -224,6 +224,13 @@ fn pair(alloc: Global, tokens: &mut Cursor<'_>, room: usize, left: GTerm) -> Res
     right_side(alloc, tokens, room - 1, left)
 }
 
+// The pair of the two.
+fn pair_of(alloc: Global, left: Boxed<GTerm>, right: GTerm) -> Result<GTerm, AllocError>
+    ensures { IfOk result (λ whole. whole ≡ gt.Pair left right) }
+{
+    Ok(GTerm::Pair(left, Boxed::new(alloc, right)?))
+}
+
 // A pair from its right side on.
 #[cycle(general)]
 fn right_side(
@@ -235,8 +242,8 @@ fn right_side(
     ensures { Reads (mapped (gt.Pair left) (spec.general room tokens.old)) result tokens.new }
 {
     let left = Boxed::new(alloc, left)?;
-    let right = Boxed::new(alloc, general(alloc, tokens, room)?)?;
-    Ok(GTerm::Pair(left, right))
+    let right = general(alloc, tokens, room)?;
+    Ok(pair_of(alloc, left, right)?)
 }
 
 // What follows a word.

@@ -1,6 +1,8 @@
 // Lists that are made of parts.
 ghost use Rattle.std.specs.Prelude.{◌≡◌, [], ◌∷◌, IfOk};
+ghost use Rattle.tptp_grammar.specs.code.Adding.{IsAdded};
 
+use crate::stop::Stop;
 use std::alloc::{AllocError, Global};
 use tptp_base::List;
 
@@ -12,6 +14,14 @@ pub fn short_list<T: Drop>(alloc: Global) -> List<T>
         Ok(members) => List::from_vec(members),
         Err(_) => List::new(alloc),
     }
+}
+
+/// Adds what was read behind what was found, if it was read.
+pub fn push_read<T: Drop>(found: &mut List<T>, read: Result<T, Stop>) -> Result<(), Stop>
+    ensures { IsAdded read found.old result found.new }
+{
+    found.push(read?)?;
+    Ok(())
 }
 
 /// The list of the first and the others.

@@ -1,7 +1,6 @@
-use Rattle.std.proofs.Common.{◌≡◌, ◌+◌, ◌*◌, length}
-use Rattle.first_fault.specs.code.Reading.{separated}
-use Rattle.first_fault.proofs.Loops.{members}
-use Rattle.tptp_grammar.specs.code.ReadTerms.{is_mark}
+use Rattle.std.proofs.Common.{◌+◌, ◌*◌, length}
+use Rattle.first_fault.specs.code.Reading.{tail}
+use Rattle.tptp_grammar.proofs.Adding.{InFront}
 use Rattle.tptp_grammar.specs.code.ReadFormulas as spec
 use Rattle.tptp_grammar.proofs.formulas.+formula.Given as goal
 
@@ -45,7 +44,7 @@ abbrev pub decreases-inner : goal.decreases-inner
 decreases-inner l = 12 * l.room + 10
 
 abbrev pub invariant-units-members : goal.invariant-units-members
-invariant-units-members l = separated (is_mark l.mark) (spec.unit l.typed l.room) l.fn.tokens ≡ members (is_mark l.mark) (spec.unit l.typed l.room) l.found l.tokens
+invariant-units-members l = InFront l.mark (spec.unit l.typed l.room) l.fn.first (tail l.fn.tokens) l.found l.tokens
 
 abbrev pub decreases-units-members : goal.decreases-units-members
 decreases-units-members l = length l.tokens
