@@ -8,7 +8,6 @@ use Rattle.tptp_base.specs.declared.limit.LimitName.TheVariants.{Symbols}
 use Rattle.tptp_base.specs.declared.surface.STerm.{STerm}
 use Rattle.tptp_base.specs.declared.surface.STerm.TheVariants as tm
 use Rattle.tptp_base.specs.declared.surface.Surface.{Surface}
-use Rattle.tptp_base.specs.declared.surface.Surface.TheVariants as fm
 use Rattle.fof_terms.specs.Vocabulary.{Vocabulary, is_symbol, found_symbol}
 use Rattle.fof_terms.specs.Sorts.{is_sort}
 use Rattle.fof_terms.specs.declared.signature.Kind.{Kind}

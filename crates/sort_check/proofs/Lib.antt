@@ -25,3 +25,4 @@ pub mod TermSorts
 pub mod Equations
 pub mod VariableEquations
 pub mod SameVariables
+pub mod Turning

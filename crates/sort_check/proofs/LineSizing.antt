@@ -1,5 +1,5 @@
 -- The formulas that the lines of a text denote are no larger than its items.
-use Rattle.std.proofs.Common.{◌≡◌, ◌≤◌, ℕ, ◌+◌, ◌||◌, ◌&&◌, Bool, true, false, cond, List, [], ◌∷◌, length, map, Option, Some, None, Ok, Err, refl, ap, subst, arith}
+use Rattle.std.proofs.Common.{◌≡◌, ◌≤◌, ℕ, ◌+◌, ◌||◌, ◌&&◌, Bool, true, false, cond, List, [], ◌∷◌, length, map, Option, Some, None, Ok, Err, ap, subst, arith}
 use Rattle.std.specs.Prelude.{max}
 use Rattle.std.proofs.lemmas.List.{length-map}
 use Rattle.tptp_base.specs.declared.surface.Surface.{Surface}
@@ -11,17 +11,16 @@ use Rattle.tptp_base.specs.declared.item.Body.TheVariants as body
 use Rattle.tptp_base.specs.declared.item.Annotated.{Annotated}
 use Rattle.tptp_base.specs.declared.item.Item.{Item}
 use Rattle.tptp_base.specs.declared.item.Item.TheVariants as it
-use Rattle.tptp_base.specs.Sizes.{Size, small, all_of, size_of_form, size_of_body, size_of_item, size_of_items}
+use Rattle.tptp_base.specs.Sizes.{Size, small, all_of, size_of_form, size_of_body, size_of_item}
 use Rattle.fof_terms.specs.Vocabulary.{Vocabulary}
 use Rattle.fof_terms.specs.Sizes.{form_size}
 use Rattle.fof_terms.specs.declared.form.Form.{Form}
-use Rattle.sort_check.specs.declared.fault.SortRule.{SortRule}
 use Rattle.sort_check.specs.declared.fault.SortRule.TheVariants.{FreeVariable, Variables, TwoConjectures}
 use Rattle.sort_check.specs.declared.fault.SortFault.{SortFault}
 use Rattle.sort_check.specs.declared.line.Line.{Line}
 use Rattle.sort_check.specs.declared.line.TextKind.{TextKind}
 use Rattle.sort_check.specs.Laws.{size_of_line, AreNoLarger}
-use Rattle.sort_check.specs.Outcomes.{Outcome, and_then, mapped}
+use Rattle.sort_check.specs.Outcomes.{Outcome, mapped}
 use Rattle.sort_check.specs.Symbols.{Text}
 use Rattle.sort_check.specs.Denotation.{State, denoted_form, closed, clause_scope, without_count, outermost, sentence, clause, formula}
 use Rattle.sort_check.specs.Texts.{Declared, at_line, type_lines, Reading, is_conjecture, is_single, line_of, reading, is_by_place, body_form, line_form, line, line_item, with_line, lines_from, only_vocabulary, denoted}

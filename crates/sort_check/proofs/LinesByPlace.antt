@@ -23,7 +23,7 @@ use Rattle.sort_check.specs.Symbols.{Text}
 use Rattle.sort_check.specs.Denotation.{State, denoted_form, closed, clause_scope, without_count, outermost, sentence, clause, formula}
 use Rattle.sort_check.specs.Texts.{Declared, Reading, is_conjecture, is_single, line_of, reading, body_form, line_form, at_line, line, line_item, with_line, lines_from, only_vocabulary, type_lines, denoted}
 use Rattle.sort_check.proofs.Stepping.{then_ok, mapped_ok}
-use Rattle.sort_check.proofs.LineSorts.{counted_ok, reading_ok, at_line_ok, only_ok}
+use Rattle.sort_check.proofs.LineSorts.{counted_ok, at_line_ok, only_ok}
 use Rattle.sort_check.proofs.ByPlace.{forms_same}
 
 -- ---- whole formulas

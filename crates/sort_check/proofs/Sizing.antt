@@ -18,8 +18,8 @@ use Rattle.fof_terms.specs.Vocabulary.{Vocabulary}
 use Rattle.fof_terms.specs.Sorts.{is_sort}
 use Rattle.fof_terms.specs.Sizes.{term_size, form_size}
 use Rattle.fof_terms.specs.declared.signature.Kind.TheVariants.{Function, Predicate}
-use Rattle.fof_terms.specs.declared.term.Term.{Term, Var, App}
-use Rattle.fof_terms.specs.declared.form.Form.{Form, Atom, Eq, Not, And, Or, Imp, Iff}
+use Rattle.fof_terms.specs.declared.term.Term.{Term, Var}
+use Rattle.fof_terms.specs.declared.form.Form.{Form, Atom, Eq, Not, And, Or}
 use Rattle.fof_terms.proofs.SizeFacts.{term_size-Var, term_size-App, form_size-Atom, form_size-Eq, form_size-Not, form_size-And, form_size-Or, form_size-Imp, form_size-Iff, form_size-All, form_size-Ex}
 use Rattle.sort_check.specs.declared.fault.SortRule.{SortRule}
 use Rattle.sort_check.specs.declared.fault.SortRule.TheVariants.{WrongSort}

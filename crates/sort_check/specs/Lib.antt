@@ -1,9 +1,10 @@
-pub mod Outcomes
-pub mod Symbols
 pub mod Bringing
 pub mod Denotation
-pub mod Texts
 pub mod Given
-pub mod Sorting
 pub mod Laws
+pub mod Outcomes
+pub mod Sorting
+pub mod Symbols
+pub mod Texts
+pub mod Turns
 pub mod code

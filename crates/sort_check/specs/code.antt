@@ -4,4 +4,5 @@ pub mod Namesakes
 pub mod Outcomes
 pub mod Reach
 pub mod Texts
+pub mod Turns
 pub mod Variables

@@ -76,8 +76,8 @@ fn take_types(
     Ok(())
 }
 
-// Takes an item, if it is a type line.
-fn take_type(
+/// Takes an item, if it is a type line.
+pub fn take_type(
     alloc: Global,
     item: &Item,
     signature: &mut Signature,
@@ -182,8 +182,8 @@ fn take_lines(
     Ok(lines)
 }
 
-// The line of an item, if it has one.
-fn take_line(
+/// The line of an item, if it has one.
+pub fn take_line(
     alloc: Global,
     item: &Item,
     number: u32,
@@ -283,7 +283,8 @@ fn fault_at(alloc: Global, line: &Annotated, stop: Stop) -> SortFault
     }
 }
 
-fn is_type(role: Role) -> bool
+/// Whether the role is that of type lines.
+pub fn is_type(role: Role) -> bool
     ensures { result ≡ is_typing role }
 {
     matches!(role, Role::Typing)
