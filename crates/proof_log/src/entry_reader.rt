@@ -7,7 +7,7 @@ ghost use Rattle.proof_log.specs.code.Outcomes.{Reads};
 
 use crate::cursor::Cursor;
 use crate::form_reader::form;
-use crate::name::{DECL_NAMES, DeclName, ENTRY_NAMES, EntryName};
+use crate::name::{DeclName, EntryName};
 use crate::proof_reader::proof;
 use crate::quoted::quoted;
 use crate::room::list_for;
@@ -36,7 +36,7 @@ fn numbers(alloc: Global, text: &mut Cursor<'_>) -> Result<List<u32>, Stop>
 fn declaration(alloc: Global, text: &mut Cursor<'_>) -> Result<Decl, Stop>
     ensures { Reads (spec.declaration text.old) result text.new }
 {
-    match head(text, &DECL_NAMES)? {
+    match head(text)? {
         DeclName::Sort => Ok(Decl::Sort(quoted(alloc, text)?)),
         DeclName::Function => {
             let name = quoted(alloc, text)?;
@@ -66,21 +66,18 @@ fn declaration(alloc: Global, text: &mut Cursor<'_>) -> Result<Decl, Stop>
 fn entry_before(alloc: Global, text: &mut Cursor<'_>, room: usize) -> Result<Entry, Stop>
     ensures { Reads (behind (a_name entry_name entry_names) (spec.entry_by room) text.old) result text.new }
 {
-    match name(text, &ENTRY_NAMES)? {
+    match name(text)? {
         EntryName::Declare => Ok(Entry::Declare(declaration(alloc, text)?)),
-        EntryName::Lemma => {
-            let found = proof(alloc, text, room)?;
-            Ok(Entry::Lemma(found.into_inner()))
-        }
+        EntryName::Lemma => Ok(Entry::Lemma(proof(alloc, text, room)?)),
         EntryName::Name => {
             let symbol = small(text)?;
             let body = form(alloc, text, room)?;
-            Ok(Entry::Name(symbol, body.into_inner()))
+            Ok(Entry::Name(symbol, body))
         }
         EntryName::Choice => {
             let symbol = small(text)?;
             let body = form(alloc, text, room)?;
-            Ok(Entry::Choice(symbol, body.into_inner()))
+            Ok(Entry::Choice(symbol, body))
         }
     }
 }

@@ -10,7 +10,7 @@ ghost use Rattle.proof_log.specs.code.Answers as code;
 
 use crate::cursor::Cursor;
 use crate::entry_reader::entry;
-use crate::name::VERSIONS;
+use crate::name::LogVersion;
 use crate::reader::{LogFault, MAX_NESTING};
 use crate::stop::Stop;
 use crate::words::name;
@@ -49,7 +49,7 @@ impl<'a> LogEntries<'a> {
             return Err(LogFault::Limit);
         }
         let mut rest = Cursor::new(text);
-        match name(&mut rest, &VERSIONS) {
+        match name::<LogVersion>(&mut rest) {
             Ok(_) => Ok(LogEntries {
                 text,
                 rest: rest.text(),

@@ -1,17 +1,29 @@
 // The names that begin the lines and the trees of a log.
-ghost use Rattle.std.specs.Prelude.{◌≡◌, ℕ, List};
-ghost use Rattle.proof_log.specs.code.Names as names;
+ghost use Rattle.std.specs.Prelude.{◌≡◌, ◌∷◌, ℕ, List};
+ghost use Rattle.proof_log.specs.code.Names as spec;
+ghost use Rattle.proof_log.specs.code.ReadWords.{find};
 
 use crate::write::HEADER;
 
 /// What is written by a name.
-pub trait Spelled {
+pub trait Spelled: Copy + 'static {
     /// The bytes of the name.
     ghost spell: { Self → List ℕ };
+
+    /// All names of the type.
+    ghost names: { List Self };
 
     /// The bytes of the name.
     fn spelling(&self) -> &'static [u8]
         ensures { result.now ≡ spell self.now };
+
+    /// All names of the type.
+    fn all() -> &'static [Self]
+        ensures { result.now ≡ names };
+
+    /// Names among which a text that begins with the byte finds what it finds among all.
+    fn beginning(byte: u8) -> &'static [Self]
+        ensures { (rest : List ℕ) → find spell result.now (byte ∷ rest) ≡ find spell names (byte ∷ rest) };
 }
 
 /// The terms.
@@ -21,16 +33,29 @@ pub enum TermName {
     App,
 }
 
-/// All of them.
-pub const TERM_NAMES: [TermName; 2] = [TermName::Var, TermName::App];
+const TERM_NAMES: [TermName; 2] = [TermName::Var, TermName::App];
 
 impl Spelled for TermName {
-    ghost spell = { names.term_name };
+    ghost spell = { spec.term_name };
+
+    ghost names = { spec.term_names };
 
     fn spelling(&self) -> &'static [u8] {
         match self {
             TermName::Var => b"v",
             TermName::App => b"f",
+        }
+    }
+
+    fn all() -> &'static [TermName] {
+        &TERM_NAMES
+    }
+
+    fn beginning(byte: u8) -> &'static [TermName] {
+        match byte {
+            b'v' => &[TermName::Var],
+            b'f' => &[TermName::App],
+            _ => &TERM_NAMES,
         }
     }
 }
@@ -49,8 +74,7 @@ pub enum FormName {
     Ex,
 }
 
-/// All of them.
-pub const FORM_NAMES: [FormName; 9] = [
+const FORM_NAMES: [FormName; 9] = [
     FormName::Atom,
     FormName::Eq,
     FormName::Not,
@@ -63,7 +87,9 @@ pub const FORM_NAMES: [FormName; 9] = [
 ];
 
 impl Spelled for FormName {
-    ghost spell = { names.form_name };
+    ghost spell = { spec.form_name };
+
+    ghost names = { spec.form_names };
 
     fn spelling(&self) -> &'static [u8] {
         match self {
@@ -76,6 +102,25 @@ impl Spelled for FormName {
             FormName::Iff => b"<>",
             FormName::All => b"!",
             FormName::Ex => b"?",
+        }
+    }
+
+    fn all() -> &'static [FormName] {
+        &FORM_NAMES
+    }
+
+    fn beginning(byte: u8) -> &'static [FormName] {
+        match byte {
+            b'a' => &[FormName::Atom],
+            b'=' => &[FormName::Eq],
+            b'~' => &[FormName::Not],
+            b'&' => &[FormName::And],
+            b'|' => &[FormName::Or],
+            b'>' => &[FormName::Imp],
+            b'<' => &[FormName::Iff],
+            b'!' => &[FormName::All],
+            b'?' => &[FormName::Ex],
+            _ => &FORM_NAMES,
         }
     }
 }
@@ -106,8 +151,7 @@ pub enum ProofName {
     Inhabit,
 }
 
-/// All of them.
-pub const PROOF_NAMES: [ProofName; 21] = [
+const PROOF_NAMES: [ProofName; 21] = [
     ProofName::Line,
     ProofName::Hyp,
     ProofName::AndI,
@@ -132,7 +176,9 @@ pub const PROOF_NAMES: [ProofName; 21] = [
 ];
 
 impl Spelled for ProofName {
-    ghost spell = { names.proof_name };
+    ghost spell = { spec.proof_name };
+
+    ghost names = { spec.proof_names };
 
     fn spelling(&self) -> &'static [u8] {
         match self {
@@ -159,6 +205,37 @@ impl Spelled for ProofName {
             ProofName::Inhabit => b"inhabit",
         }
     }
+
+    fn all() -> &'static [ProofName] {
+        &PROOF_NAMES
+    }
+
+    fn beginning(byte: u8) -> &'static [ProofName] {
+        match byte {
+            b'l' => &[ProofName::Line],
+            b'h' => &[ProofName::Hyp],
+            b'a' => &[
+                ProofName::AndI,
+                ProofName::AndE,
+                ProofName::AllI,
+                ProofName::AllE,
+            ],
+            b'o' => &[ProofName::OrI, ProofName::OrE],
+            b'i' => &[
+                ProofName::ImpI,
+                ProofName::ImpE,
+                ProofName::IffI,
+                ProofName::IffL,
+                ProofName::IffR,
+                ProofName::Inhabit,
+            ],
+            b'n' => &[ProofName::NotI, ProofName::NotE],
+            b'r' => &[ProofName::Raa, ProofName::Refl],
+            b'e' => &[ProofName::ExI, ProofName::ExE],
+            b's' => &[ProofName::Subst],
+            _ => &PROOF_NAMES,
+        }
+    }
 }
 
 /// What is declared.
@@ -169,11 +246,12 @@ pub enum DeclName {
     Predicate,
 }
 
-/// All of them.
-pub const DECL_NAMES: [DeclName; 3] = [DeclName::Sort, DeclName::Function, DeclName::Predicate];
+const DECL_NAMES: [DeclName; 3] = [DeclName::Sort, DeclName::Function, DeclName::Predicate];
 
 impl Spelled for DeclName {
-    ghost spell = { names.decl_name };
+    ghost spell = { spec.decl_name };
+
+    ghost names = { spec.decl_names };
 
     fn spelling(&self) -> &'static [u8] {
         match self {
@@ -181,6 +259,14 @@ impl Spelled for DeclName {
             DeclName::Function => b"f",
             DeclName::Predicate => b"p",
         }
+    }
+
+    fn all() -> &'static [DeclName] {
+        &DECL_NAMES
+    }
+
+    fn beginning(_byte: u8) -> &'static [DeclName] {
+        &DECL_NAMES
     }
 }
 
@@ -193,8 +279,7 @@ pub enum EntryName {
     Choice,
 }
 
-/// All of them.
-pub const ENTRY_NAMES: [EntryName; 4] = [
+const ENTRY_NAMES: [EntryName; 4] = [
     EntryName::Declare,
     EntryName::Lemma,
     EntryName::Name,
@@ -202,7 +287,9 @@ pub const ENTRY_NAMES: [EntryName; 4] = [
 ];
 
 impl Spelled for EntryName {
-    ghost spell = { names.entry_name };
+    ghost spell = { spec.entry_name };
+
+    ghost names = { spec.entry_names };
 
     fn spelling(&self) -> &'static [u8] {
         match self {
@@ -212,6 +299,14 @@ impl Spelled for EntryName {
             EntryName::Choice => b"C",
         }
     }
+
+    fn all() -> &'static [EntryName] {
+        &ENTRY_NAMES
+    }
+
+    fn beginning(_byte: u8) -> &'static [EntryName] {
+        &ENTRY_NAMES
+    }
 }
 
 /// The versions of logs.
@@ -220,15 +315,24 @@ pub enum LogVersion {
     One,
 }
 
-/// All of them.
-pub const VERSIONS: [LogVersion; 1] = [LogVersion::One];
+const VERSIONS: [LogVersion; 1] = [LogVersion::One];
 
 impl Spelled for LogVersion {
-    ghost spell = { names.version_line };
+    ghost spell = { spec.version_line };
+
+    ghost names = { spec.versions };
 
     fn spelling(&self) -> &'static [u8] {
         match self {
             LogVersion::One => HEADER,
         }
+    }
+
+    fn all() -> &'static [LogVersion] {
+        &VERSIONS
+    }
+
+    fn beginning(_byte: u8) -> &'static [LogVersion] {
+        &VERSIONS
     }
 }

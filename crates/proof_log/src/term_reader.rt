@@ -7,13 +7,13 @@ ghost use Rattle.proof_log.specs.code.ReadTrees as spec;
 ghost use Rattle.proof_log.specs.code.Outcomes.{Reads};
 
 use crate::cursor::Cursor;
-use crate::name::{TERM_NAMES, TermName};
+use crate::name::TermName;
 use crate::room::list_for;
 use crate::stop::Stop;
 use crate::words::{deep_head, head, large, small};
 use fof_terms::Term;
 use std::alloc::Global;
-use tptp_base::List;
+use tptp_base::{Boxed, List};
 
 /// A term.
 #[cycle(term)]
@@ -22,7 +22,7 @@ pub fn term(alloc: Global, text: &mut Cursor<'_>, room: usize) -> Result<Term, S
     ensures { Reads (spec.term room text.old) result text.new }
 {
     if room == 0 {
-        Err(deep_head(text, &TERM_NAMES))
+        Err(deep_head::<TermName>(text))
     } else {
         term_within(alloc, text, room - 1)
     }
@@ -33,7 +33,7 @@ pub fn term(alloc: Global, text: &mut Cursor<'_>, room: usize) -> Result<Term, S
 fn term_within(alloc: Global, text: &mut Cursor<'_>, room: usize) -> Result<Term, Stop>
     ensures { Reads (spec.behind (head term_name term_names) (spec.term_by (spec.term room)) text.old) result text.new }
 {
-    match head(text, &TERM_NAMES)? {
+    match head(text)? {
         TermName::Var => variable(text),
         TermName::App => application(alloc, text, room),
     }
@@ -71,4 +71,13 @@ pub fn terms(alloc: Global, text: &mut Cursor<'_>, room: usize) -> Result<List<T
         found.push(next)?;
     }
     Ok(found)
+}
+
+/// A term in a box.
+#[inline(never)]
+pub fn boxed_term(alloc: Global, text: &mut Cursor<'_>, room: usize) -> Result<Boxed<Term>, Stop>
+    ensures { Reads (spec.term room text.old) result text.new }
+{
+    let found = term(alloc, text, room)?;
+    Ok(Boxed::new(alloc, found)?)
 }

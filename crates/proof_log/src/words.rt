@@ -23,25 +23,53 @@ fn shared(text: &[u8], name: &[u8]) -> usize
     0
 }
 
-// The first name that the text begins with.
-fn find<N: Spelled + Copy>(all: &[N], text: &[u8]) -> Option<N>
-    ensures { result ≡ spec.find N.spell all.now text.now }
+// Whether the text begins with the name.
+fn begins(text: &[u8], name: &[u8]) -> bool
+    ensures { result ≡ spec.begins text.now name.now }
 {
-    for name in all {
-        let spelling = name.spelling();
-        if shared(text, spelling) == spelling.len() {
+    let mut left = text;
+    let mut wanted = name;
+    'bytes: while let [first, others @ ..] = wanted {
+        let [byte, rest @ ..] = left else {
+            return false;
+        };
+        if *byte != *first {
+            return false;
+        }
+        left = rest;
+        wanted = others;
+    }
+    true
+}
+
+// The first of these names that the text begins with.
+fn find_among<N: Spelled>(some: &[N], text: &[u8]) -> Option<N>
+    ensures { result ≡ spec.find N.spell some.now text.now }
+{
+    for name in some {
+        if begins(text, name.spelling()) {
             return Some(*name);
         }
     }
     None
 }
 
+// The first name that the text begins with. Its first byte tells which names to try.
+fn find<N: Spelled>(text: &[u8]) -> Option<N>
+    ensures { result ≡ spec.find N.spell N.names text.now }
+{
+    match text {
+        [byte, ..] => find_among(N::beginning(*byte), text),
+        [] => find_among(N::all(), text),
+    }
+}
+
 // How far the text begins as one of the names.
-fn reach<N: Spelled>(all: &[N], text: &[u8]) -> usize
-    ensures { result ≡ spec.reach N.spell all.now text.now }
+fn reach<N: Spelled>(text: &[u8]) -> usize
+    ensures { result ≡ spec.reach N.spell N.names text.now }
 {
     let mut most = 0;
-    for name in all {
+    for name in N::all() {
         let count = shared(text, name.spelling());
         if count > most {
             most = count;
@@ -53,16 +81,16 @@ fn reach<N: Spelled>(all: &[N], text: &[u8]) -> usize
 /// One of the names.
 #[inline(never)]
 #[tactic(auto, unfolding(crate::specs::code::ReadWords::name))]
-pub fn name<N: Spelled + Copy>(text: &mut Cursor<'_>, all: &[N]) -> Result<N, Stop>
-    ensures { Reads (spec.name N.spell all.now text.old) result text.new }
+pub fn name<N: Spelled>(text: &mut Cursor<'_>) -> Result<N, Stop>
+    ensures { Reads (spec.name N.spell N.names text.old) result text.new }
 {
-    match find(all, text.text()) {
+    match find::<N>(text.text()) {
         Some(found) => {
             text.advance(found.spelling().len());
             Ok(found)
         }
         None => {
-            let count = reach(all, text.text());
+            let count = reach::<N>(text.text());
             text.advance(count);
             Err(Stop::Unexpected)
         }
@@ -72,22 +100,22 @@ pub fn name<N: Spelled + Copy>(text: &mut Cursor<'_>, all: &[N]) -> Result<N, St
 /// One of the names, with a blank before it.
 #[inline(never)]
 #[tactic(auto, unfolding(crate::specs::code::ReadWords::head))]
-pub fn head<N: Spelled + Copy>(text: &mut Cursor<'_>, all: &[N]) -> Result<N, Stop>
-    ensures { Reads (spec.head N.spell all.now text.old) result text.new }
+pub fn head<N: Spelled>(text: &mut Cursor<'_>) -> Result<N, Stop>
+    ensures { Reads (spec.head N.spell N.names text.old) result text.new }
 {
     text.expect(b' ')?;
-    name(text, all)
+    name(text)
 }
 
 /// Why none of the names, with a blank before it, is read where it would be nested too deep.
 #[inline(never)]
 #[tactic(auto, unfolding(crate::specs::code::ReadWords::deep_head, crate::specs::code::ReadWords::deep_name))]
-pub fn deep_head<N: Spelled>(text: &mut Cursor<'_>, all: &[N]) -> Stop
-    ensures { Fails (spec.deep_head N.spell all.now text.old) result text.new }
+pub fn deep_head<N: Spelled>(text: &mut Cursor<'_>) -> Stop
+    ensures { Fails (spec.deep_head N.spell N.names text.old) result text.new }
 {
     match text.expect(b' ') {
         Ok(()) => {
-            if reach(all, text.text()) == 0 {
+            if reach::<N>(text.text()) == 0 {
                 Stop::Unexpected
             } else {
                 Stop::TooDeep

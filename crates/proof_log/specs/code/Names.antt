@@ -81,3 +81,6 @@ decl_names = decl.Sort ∷ decl.Function ∷ decl.Predicate ∷ []
 
 abbrev pub entry_names : List EntryName
 entry_names = entry.Declare ∷ entry.Lemma ∷ entry.Name ∷ entry.Choice ∷ []
+
+abbrev pub versions : List LogVersion
+versions = version.One ∷ []
