@@ -4,7 +4,7 @@ import os
 from reach import lines_of
 
 NOTHING_PUBLIC = 'Nothing public rests on this'
-MOST = {'headline': 1300, 'all': 4000}
+MOST = {'headline': 1300, 'all': 4600}
 HEADLINE = 'sound'
 
 

@@ -40,6 +40,7 @@ impl Asking for Control {
             Job::Parse(file) => Job::Parse(file),
             Job::Check(problem, log) => Job::Check(problem, log),
             Job::Make(count) => Job::Make(count),
+            Job::Prove(problem) => Job::Prove(problem),
             Job::Model(problem, model) => Job::Model(problem, model),
         };
         Some(Command { root, limit, job })

@@ -12,3 +12,4 @@ pub mod OneEnding
 pub mod OneFormat
 pub mod Parses
 pub mod Requests
+pub mod Sizes

@@ -4,7 +4,7 @@ use Rattle.std.specs.Prelude.{decimal}
 use Rattle.std.specs.Str.Parse.{ParsesUnsigned}
 use Rattle.std.proofs.lemmas.Fmt.{parse-decimal, decimal_injective}
 use Rattle.tptp_commands.specs.code.Options.{BeginOtherwise, NameRoot, NameNoRoot, NameLimit, NameNoLimit, NameNoTask}
-use Rattle.tptp_commands.specs.Words.{Task, Verify, Format, Parse, Check, Make, Model, Request, IsFileName, IsLimit, HasNames, IsForm, HaveNoForm, root_words, limit_words, limit_of, task_words}
+use Rattle.tptp_commands.specs.Words.{Task, Verify, Format, Parse, Check, Make, Prove, Model, Request, IsFileName, IsLimit, HasNames, IsForm, HaveNoForm, root_words, limit_words, limit_of, task_words}
 
 abbrev Words : Type 0
 Words = List (List ℕ)
@@ -13,6 +13,9 @@ Words = List (List ℕ)
 
 abbrev first_byte : Words → ℕ
 first_byte words = get_or (get_or words 0 []) 0 0
+
+abbrev second_byte : Words → ℕ
+second_byte words = get_or (get_or words 0 []) 1 0
 
 abbrev third_byte : Words → ℕ
 third_byte words = get_or (get_or words 0 []) 2 0
@@ -46,6 +49,7 @@ task_no_root (Format file) rest e = let bytes : 102 ≡ 45 = ap first_byte e in 
 task_no_root (Parse file) rest e = let bytes : 112 ≡ 45 = ap first_byte e in omega (arith, bytes)
 task_no_root (Check problem log) rest e = let bytes : 99 ≡ 45 = ap first_byte e in omega (arith, bytes)
 task_no_root (Make count) rest e = let bytes : 109 ≡ 45 = ap first_byte e in omega (arith, bytes)
+task_no_root (Prove problem) rest e = let bytes : 112 ≡ 45 = ap first_byte e in omega (arith, bytes)
 task_no_root (Model problem model) rest e = let bytes : 109 ≡ 45 = ap first_byte e in omega (arith, bytes)
 
 task_no_limit : (task : Task) → BeginOtherwise (codes "--limit") (task_words task)
@@ -55,6 +59,7 @@ task_no_limit (Format file) rest e = let bytes : 102 ≡ 45 = ap first_byte e in
 task_no_limit (Parse file) rest e = let bytes : 112 ≡ 45 = ap first_byte e in omega (arith, bytes)
 task_no_limit (Check problem log) rest e = let bytes : 99 ≡ 45 = ap first_byte e in omega (arith, bytes)
 task_no_limit (Make count) rest e = let bytes : 109 ≡ 45 = ap first_byte e in omega (arith, bytes)
+task_no_limit (Prove problem) rest e = let bytes : 112 ≡ 45 = ap first_byte e in omega (arith, bytes)
 task_no_limit (Model problem model) rest e = let bytes : 109 ≡ 45 = ap first_byte e in omega (arith, bytes)
 
 limit_no_root : (limit : Option ℕ) (task : Task) → BeginOtherwise (codes "--root") (limit_words limit ++ task_words task)
@@ -144,6 +149,21 @@ one_task_words (Make n) (Check a b) h k e = let lengths : 2 ≡ 3 = ap length e 
 one_task_words (Check a b) (Make n) h k e = let lengths : 3 ≡ 2 = ap length e in absurd (omega (arith, lengths))
 one_task_words (Make n) (Model a b) h k e = let lengths : 2 ≡ 3 = ap length e in absurd (omega (arith, lengths))
 one_task_words (Model a b) (Make n) h k e = let lengths : 3 ≡ 2 = ap length e in absurd (omega (arith, lengths))
+one_task_words (Prove a) (Prove b) h k e = ap (λ (ws : Words). Prove (second ws)) e
+one_task_words (Prove a) (Verify b c None) h k e = let lengths : 2 ≡ 3 = ap length e in absurd (omega (arith, lengths))
+one_task_words (Verify a b None) (Prove c) h k e = let lengths : 3 ≡ 2 = ap length e in absurd (omega (arith, lengths))
+one_task_words (Prove a) (Verify b c (Some m)) h k e = let lengths : 2 ≡ 4 = ap length e in absurd (omega (arith, lengths))
+one_task_words (Verify a b (Some l)) (Prove c) h k e = let lengths : 4 ≡ 2 = ap length e in absurd (omega (arith, lengths))
+one_task_words (Prove a) (Format b) h k e = let bytes : 112 ≡ 102 = ap first_byte e in absurd (omega (arith, bytes))
+one_task_words (Format a) (Prove b) h k e = let bytes : 102 ≡ 112 = ap first_byte e in absurd (omega (arith, bytes))
+one_task_words (Prove a) (Parse b) h k e = let bytes : 114 ≡ 97 = ap second_byte e in absurd (omega (arith, bytes))
+one_task_words (Parse a) (Prove b) h k e = let bytes : 97 ≡ 114 = ap second_byte e in absurd (omega (arith, bytes))
+one_task_words (Prove a) (Check b c) h k e = let lengths : 2 ≡ 3 = ap length e in absurd (omega (arith, lengths))
+one_task_words (Check a b) (Prove c) h k e = let lengths : 3 ≡ 2 = ap length e in absurd (omega (arith, lengths))
+one_task_words (Prove a) (Make n) h k e = let bytes : 112 ≡ 109 = ap first_byte e in absurd (omega (arith, bytes))
+one_task_words (Make n) (Prove a) h k e = let bytes : 109 ≡ 112 = ap first_byte e in absurd (omega (arith, bytes))
+one_task_words (Prove a) (Model b c) h k e = let lengths : 2 ≡ 3 = ap length e in absurd (omega (arith, lengths))
+one_task_words (Model a b) (Prove c) h k e = let lengths : 3 ≡ 2 = ap length e in absurd (omega (arith, lengths))
 one_task_words (Model a b) (Model c d) h k e = model_is a b c d (ap second e) (ap third e)
 one_task_words (Model a b) (Check c d) h k e = let bytes : 109 ≡ 99 = ap first_byte e in absurd (omega (arith, bytes))
 one_task_words (Model a b) (Verify c d None) h k e = let bytes : 109 ≡ 118 = ap first_byte e in absurd (omega (arith, bytes))

@@ -7,6 +7,7 @@ pub mod Modelled
 pub mod Modelling
 pub mod OtherFaults
 pub mod Parsed
+pub mod Presented
 pub mod Refuted
 pub mod Words
 pub mod code

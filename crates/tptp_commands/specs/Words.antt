@@ -14,13 +14,14 @@ texts words = map string_bytes words
 
 -- What the program can be asked to do: to verify a derivation against a problem, with a log where one is named, to
 -- format a file, to parse a problem, to check a log against a problem, to make a problem of so many implications and
--- verify its refutation, and to evaluate a problem in a model.
+-- verify its refutation, to search for a proof of a problem, and to evaluate a problem in a model.
 pub data Task : Type 0 where
   Verify : List ℕ → List ℕ → Option (List ℕ) → Task
   Format : List ℕ → Task
   Parse : List ℕ → Task
   Check : List ℕ → List ℕ → Task
   Make : ℕ → Task
+  Prove : List ℕ → Task
   Model : List ℕ → List ℕ → Task
 
 -- the words of each task
@@ -31,6 +32,7 @@ task_words (Format file) = codes "format" ∷ file ∷ []
 task_words (Parse file) = codes "parse" ∷ file ∷ []
 task_words (Check problem log) = codes "check" ∷ problem ∷ log ∷ []
 task_words (Make count) = codes "make" ∷ decimal count ∷ []
+task_words (Prove problem) = codes "prove" ∷ problem ∷ []
 task_words (Model problem model) = codes "model" ∷ problem ∷ model ∷ []
 
 -- a name has at least one byte
@@ -49,6 +51,7 @@ HasNames (Format file) = IsFileName file
 HasNames (Parse file) = IsFileName file
 HasNames (Check problem log) = IsFileName problem × IsFileName log
 HasNames (Make count) = IsLimit count
+HasNames (Prove problem) = IsFileName problem
 HasNames (Model problem model) = IsFileName problem × IsFileName model
 
 -- What is asked of the program: the folder in which included files are looked for too, the greatest number of clauses
@@ -92,6 +95,7 @@ task_of (job.Format file) = Format file.now
 task_of (job.Parse file) = Parse file.now
 task_of (job.Check problem log) = Check problem.now log.now
 task_of (job.Make count) = Make count
+task_of (job.Prove problem) = Prove problem.now
 task_of (job.Model problem model) = Model problem.now model.now
 
 -- the request of a command as the code holds it

@@ -10,6 +10,7 @@ mod model_text;
 mod modelled;
 mod named_log;
 mod parsed;
+mod presented;
 mod words;
 
 pub use checked::check;
@@ -19,4 +20,5 @@ pub use made::{derivation_text, problem_text, say_made};
 pub use modelled::model;
 pub use named_log::log_name;
 pub use parsed::parse;
+pub use presented::{not_proved, over_size, presented, say_over};
 pub use words::{Command, Job, read_words};

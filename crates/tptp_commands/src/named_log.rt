@@ -25,6 +25,7 @@ fn log_of(job: Job<'_>) -> Option<&str>
 {
     match job {
         Job::Verify(_, _, log) => log,
-        Job::Format(_) | Job::Parse(_) | Job::Check(_, _) | Job::Make(_) | Job::Model(_, _) => None,
+        Job::Format(_) | Job::Parse(_) | Job::Prove(_) => None,
+        Job::Check(_, _) | Job::Make(_) | Job::Model(_, _) => None,
     }
 }

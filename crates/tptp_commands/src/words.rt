@@ -25,6 +25,8 @@ pub enum Job<'a> {
     Check(&'a str, &'a str),
     /// Make a problem of so many implications and its refutation, and verify it.
     Make(u32),
+    /// Search for a proof of the problem in a file, with all that it includes: the name of the file.
+    Prove(&'a str),
     /// Evaluate a problem in a finite model: the name of the problem, and that of the model.
     Model(&'a str, &'a str),
 }
@@ -137,6 +139,7 @@ fn read_job(words: &[String]) -> Option<Job<'_>>
         "parse" => read_parse(names),
         "check" => read_check(names),
         "make" => read_count(names),
+        "prove" => read_prove(names),
         "model" => read_model_names(names),
         _ => None,
     }
@@ -212,6 +215,19 @@ fn read_count(names: &[String]) -> Option<Job<'_>>
 {
     match names {
         [count] => Some(Job::Make(read_number(count)?)),
+        _ => None,
+    }
+}
+
+// The name of the file of a problem that is to be proved.
+fn read_prove(names: &[String]) -> Option<Job<'_>>
+    ensures some { IfSome result (λ job. (task_words (task_of job) ≡ codes "prove" ∷ texts names.now)
+        × HasNames (task_of job)) }
+    ensures none { IfNone result ((task : Task) → task_words task ≡ codes "prove" ∷ texts names.now → HasNames task
+        → ⊥) }
+{
+    match names {
+        [problem] => Some(Job::Prove(read_name(problem)?)),
         _ => None,
     }
 }

@@ -19,7 +19,7 @@ use Rattle.tptp_commands.specs.OtherFaults.{SaysDerivedFault, SaysModelledFault}
 use Rattle.tptp_run.specs.OtherFaults.{SaysTaskFault, SaysOtherFault, TakesOtherFault}
 use Rattle.tptp_run.specs.Outcome.{LacksProblem, LacksOther, SaysMissing}
 use Rattle.read_problems.specs.Stop.{IfAnswer}
-use Rattle.tptp_commands.specs.Words.{Task, Verify, Format, Parse, Check, Make, Model, Request, IsForm}
+use Rattle.tptp_commands.specs.Words.{Task, Verify, Format, Parse, Check, Make, Prove, Model, Request, IsForm}
 use Rattle.read_problems.specs.declared.stop.Answer.{Answer}
 use Rattle.read_problems.specs.declared.stop.Halt.{Halt}
 use Rattle.read_problems.proofs.OneProblem.{one_include_fault, no_include_fault, one_problem, no_sort_fault}
@@ -75,6 +75,7 @@ no_task_fault files root (Format file) ending (text, has, refused) none = no_tex
 no_task_fault files root (Parse file) ending said lacks = no_problem_fault files root file ending said lacks
 no_task_fault files root (Check problem log) ending said lacks = no_fault_of_other files root problem ending log said lacks
 no_task_fault files root (Make count) ending said lacks = lacks
+no_task_fault files root (Prove problem) ending said lacks = no_problem_fault files root problem ending said lacks
 no_task_fault files root (Model problem model) ending (inl said) lacks = no_fault_of_other files root problem ending model said lacks
 no_task_fault files root (Model problem model) ending (inr said) lacks = no_modelled_fault files root problem model ending said lacks
 

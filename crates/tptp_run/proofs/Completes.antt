@@ -18,7 +18,7 @@ use Rattle.tptp_run.specs.Ends.{EndsTask, Ends}
 use Rattle.tptp_commands.specs.Formatted.{EndsFormat}
 use Rattle.tptp_commands.specs.Parsed.{EndsParse}
 use Rattle.tptp_commands.specs.Refuted.{HasRefutation}
-use Rattle.tptp_commands.specs.Words.{Task, Verify, Format, Parse, Check, Make, Model, Request, IsForm}
+use Rattle.tptp_commands.specs.Words.{Task, Verify, Format, Parse, Check, Make, Prove, Model, Request, IsForm}
 use Rattle.read_problems.specs.declared.refusals.TheConstants.{TOTAL_SIZE}
 use Rattle.read_problems.specs.declared.stop.Answer.{Answer}
 use Rattle.tptp_commands.proofs.Exact.{log_exact}
@@ -69,6 +69,7 @@ task_complete files root limit (Format file) ending h ends = format_complete fil
 task_complete files root limit (Parse file) ending h ends = parse_complete files root file ending h ends
 task_complete files root limit (Check problem log) ending h ends = check_complete files root problem log ending h ends
 task_complete files root limit (Make count) ending h ends = ends.status
+task_complete files root limit (Prove problem) ending h ends = absurd h
 task_complete files root limit (Model problem model) ending h ends = model_complete files root problem model ending h ends
 
 ends_complete : (files : Files) (words : List (List ℕ)) (request : Request) (ending : Ending) → Ends files words ending → IsForm words request → MeetsNoFault files request.root request.limit request.task → ending.status ≡ 0

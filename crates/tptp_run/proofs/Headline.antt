@@ -21,7 +21,7 @@ use Rattle.tptp_run.specs.Making.{EndsMake}
 use Rattle.tptp_run.specs.Outcome.{IsRefutation}
 use Rattle.read_problems.specs.Sources.{given_names, conjecture_marks, has_conjecture}
 use Rattle.tptp_run.specs.Verifying.{EndsChecked, EndsVerify, SaysDerivation, asked_by, status_of}
-use Rattle.tptp_commands.specs.Words.{Task, Verify, Format, Parse, Check, Make, Model, Request, IsForm}
+use Rattle.tptp_commands.specs.Words.{Task, Verify, Format, Parse, Check, Make, Prove, Model, Request, IsForm}
 use Rattle.read_problems.specs.declared.refusals.TheConstants.{TOTAL_SIZE}
 use Rattle.read_problems.specs.declared.stop.Answer.{Answer}
 use Rattle.tptp_commands.proofs.Requests.{one_request}
@@ -70,12 +70,16 @@ model_no_verify own other problem derivation log e = cc
 make_no_verify : (count : ℕ) (problem derivation : List ℕ) (log : Option (List ℕ)) → Make count ≡ Verify problem derivation log → ⊥
 make_no_verify count problem derivation log e = cc
 
+prove_no_verify : (own problem derivation : List ℕ) (log : Option (List ℕ)) → Prove own ≡ Verify problem derivation log → ⊥
+prove_no_verify own problem derivation log e = cc
+
 abbrev problem_of : Task → List ℕ
 problem_of (Verify problem derivation log) = problem
 problem_of (Format file) = file
 problem_of (Parse file) = file
 problem_of (Check problem log) = problem
 problem_of (Make count) = []
+problem_of (Prove problem) = problem
 problem_of (Model problem model) = problem
 
 task_refutes : (files : Files) (root : Option (List ℕ)) (limit : ℕ) (task : Task) (problem derivation : List ℕ) (named : Option (List ℕ)) (ending : Ending) (old new : Option (List ℕ)) → ending.status ≡ 0 → Takes old new ending.log → EndsTask files root limit task ending
@@ -86,6 +90,7 @@ task_refutes files root limit (Format file) problem derivation named ending old 
 task_refutes files root limit (Parse file) problem derivation named ending old new zero taken ends is = absurd (parse_no_verify file problem derivation named is)
 task_refutes files root limit (Check own other) problem derivation named ending old new zero taken ends is = absurd (check_no_verify own other problem derivation named is)
 task_refutes files root limit (Make count) problem derivation named ending old new zero taken ends is = absurd (make_no_verify count problem derivation named is)
+task_refutes files root limit (Prove own) problem derivation named ending old new zero taken ends is = absurd (prove_no_verify own problem derivation named is)
 task_refutes files root limit (Model own other) problem derivation named ending old new zero taken ends is = absurd (model_no_verify own other problem derivation named is)
 
 ends_refutes : (files : Files) (words : List (List ℕ)) (request : Request) (problem derivation : List ℕ) (named : Option (List ℕ)) (ending : Ending) (old new : Option (List ℕ)) → ending.status ≡ 0 → Takes old new ending.log → Ends files words ending

@@ -9,4 +9,6 @@ pub mod Headline
 pub mod Makes
 pub mod ModelExact
 pub mod OneVerify
+pub mod Proves
+pub mod ProvedTexts
 pub mod Verifies

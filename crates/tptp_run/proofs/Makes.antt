@@ -44,7 +44,7 @@ module _ (count limit : ℕ) (source : Source) (text : List ℕ) (report : Repor
   Counted d w log output marks conjecture t verified = (checks : Checks (asked_by problem_name output marks conjecture limit) t d w verified report.text log) × Counts report checks.answers
 
   -- all is verified, and this is said
-  pub made_ends : IsSource (Some (files count)) None problem_name source → text ≡ derivation count → IsReportOn text limit source.theory source.names source.signature source.marks source.has_conjecture report old new
+  pub made_ends : IsSource (Some (files count)) None problem_name source → text ≡ derivation count → IsReportOn problem_name text limit source.theory source.names source.signature source.marks source.has_conjecture report old new
       → IsWhole report count → ending_of answer ≡ says 0 (summary count) → IsAnswerWithLog (EndsMake count limit) answer old new
   made_ends (problem, resolves, (lines, v, denotes, gives, read_is)) text_is (d, w, is, (log, taken, checks, counts)) whole said =
       let marks = conjecture_marks lines in

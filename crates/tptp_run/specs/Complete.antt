@@ -9,7 +9,7 @@ use Rattle.tptp_run.specs.GoodRuns.{AreGood}
 use Rattle.tptp_commands.specs.Refuted.{IsInBudget, HasRefutation}
 use Rattle.read_problems.specs.Spelled.{SpellsItems}
 use Rattle.tptp_commands.specs.Modelling.{IsModelled}
-use Rattle.tptp_commands.specs.Words.{Task, Verify, Format, Parse, Check, Make, Model}
+use Rattle.tptp_commands.specs.Words.{Task, Verify, Format, Parse, Check, Make, Prove, Model}
 
 -- The file has a text within the limits that spells items.
 pub record IsWellSpelled (files : Files) (file : List ℕ) : Type 0 where
@@ -32,11 +32,13 @@ pub record IsRefutedByLog (files : Files) (root : Option (List ℕ)) (problem lo
   pub is : IsGiven (Some files) root problem theory read
   pub refuted : HasRefutation files log theory read
 
--- the files have no fault that the task could meet; `make` reads none of them
+-- the files have no fault that the task could meet; `make` reads none of them, and of no files is it known that `prove`
+-- finds a proof
 abbrev pub MeetsNoFault : Files → Option (List ℕ) → ℕ → Task → Type 0
 MeetsNoFault files root limit (Verify problem derivation log) = AreGood files root limit problem derivation
 MeetsNoFault files root limit (Format file) = IsWellSpelled files file
 MeetsNoFault files root limit (Parse file) = IsWellSorted files root file
 MeetsNoFault files root limit (Check problem log) = IsRefutedByLog files root problem log
 MeetsNoFault files root limit (Make count) = ⊤
+MeetsNoFault files root limit (Prove problem) = ⊥
 MeetsNoFault files root limit (Model problem model) = IsModelled files root problem model

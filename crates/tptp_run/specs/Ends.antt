@@ -8,8 +8,9 @@ use Rattle.tptp_commands.specs.Formatted.{EndsFormat}
 use Rattle.tptp_run.specs.Making.{EndsMake}
 use Rattle.tptp_commands.specs.Modelled.{EndsModel}
 use Rattle.tptp_commands.specs.Parsed.{EndsParse}
+use Rattle.tptp_run.specs.Proving.{EndsProve}
 use Rattle.tptp_run.specs.Verifying.{EndsVerify}
-use Rattle.tptp_commands.specs.Words.{Task, Verify, Format, Parse, Check, Make, Model, Request, IsForm, HaveNoForm}
+use Rattle.tptp_commands.specs.Words.{Task, Verify, Format, Parse, Check, Make, Prove, Model, Request, IsForm, HaveNoForm}
 use Rattle.tptp_run.specs.declared.run.TheConstants.{USAGE}
 
 -- how each task ends, where included files are looked for in the root too, and a search keeps so many clauses at most
@@ -19,6 +20,7 @@ EndsTask files root limit (Format file) ending = EndsFormat files file ending
 EndsTask files root limit (Parse file) ending = EndsParse files root file ending
 EndsTask files root limit (Check problem log) ending = EndsCheck files root problem log ending
 EndsTask files root limit (Make count) ending = EndsMake count limit ending
+EndsTask files root limit (Prove problem) ending = EndsProve files root limit problem ending
 EndsTask files root limit (Model problem model) ending = EndsModel files root problem model ending
 
 -- how a run on these words ends

@@ -5,5 +5,6 @@ pub mod GoodRuns
 pub mod Making
 pub mod OtherFaults
 pub mod Outcome
+pub mod Proving
 pub mod Verifying
 pub mod code

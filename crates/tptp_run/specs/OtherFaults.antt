@@ -4,7 +4,7 @@ use Rattle.std.specs.declared.option.Option.{Option}
 use Rattle.tptp_base.specs.Sink.{Takes}
 use Rattle.tptp_base.specs.Store.{Files}
 use Rattle.read_problems.specs.Ending.{Ending}
-use Rattle.tptp_commands.specs.Words.{Task, Verify, Format, Parse, Check, Make, Model, Request, IsForm}
+use Rattle.tptp_commands.specs.Words.{Task, Verify, Format, Parse, Check, Make, Prove, Model, Request, IsForm}
 use Rattle.read_problems.specs.OtherFaults.{SaysProblemFault}
 use Rattle.tptp_commands.specs.OtherFaults.{SaysFileFault, SaysDerivedFault, SaysModelledFault}
 
@@ -15,6 +15,7 @@ SaysTaskFault told root (Format file) ending = SaysFileFault told file ending
 SaysTaskFault told root (Parse file) ending = SaysProblemFault told root file ending
 SaysTaskFault told root (Check problem log) ending = SaysProblemFault told root problem ending
 SaysTaskFault told root (Make count) ending = ⊥
+SaysTaskFault told root (Prove problem) ending = SaysProblemFault told root problem ending
 SaysTaskFault told root (Model problem model) ending = SaysProblemFault told root problem ending ⊎ SaysModelledFault told root problem model ending
 
 -- the same of the task that the words ask for

@@ -15,7 +15,7 @@ use Rattle.tptp_run.specs.Complete.{IsWellSorted}
 use Rattle.read_problems.specs.Ending.{Ending, IsAnswer}
 use Rattle.tptp_run.specs.Ends.{Ends}
 use Rattle.tptp_commands.specs.Made as made
-use Rattle.tptp_commands.specs.Words.{Task, Verify, Format, Parse, Check, Make, Model, Request, IsForm}
+use Rattle.tptp_commands.specs.Words.{Task, Verify, Format, Parse, Check, Make, Prove, Model, Request, IsForm}
 
 -- The sinks took these texts, and they are how a run ends.
 pub record Finishes (files : Files) (words : List (List ℕ)) (status : ℕ) (out_old out_new log_old log_new : Option (List ℕ)) : Type 0 where
@@ -40,6 +40,7 @@ TakesSomeOfTaskLog files root (Format file) old new = new ≡ old
 TakesSomeOfTaskLog files root (Parse file) old new = new ≡ old
 TakesSomeOfTaskLog files root (Check problem log) old new = new ≡ old
 TakesSomeOfTaskLog files root (Make count) old new = TakesSomeOfProblemLog (made.files count) None made.problem_name old new
+TakesSomeOfTaskLog files root (Prove problem) old new = new ≡ old
 TakesSomeOfTaskLog files root (Model problem model) old new = new ≡ old
 
 -- the file of the problem, or a file that it includes, is not there
@@ -57,6 +58,7 @@ SaysMissing files root (Format file) = file_at files file ≡ None
 SaysMissing files root (Parse file) = LacksProblem files root file
 SaysMissing files root (Check problem log) = LacksProblem files root problem ⊎ LacksOther files root problem log
 SaysMissing files root (Make count) = ⊥
+SaysMissing files root (Prove problem) = LacksProblem files root problem
 SaysMissing files root (Model problem model) = LacksProblem files root problem ⊎ LacksOther files root problem model
 
 -- nothing was taken, or so much of a log from the problem of the task that the words ask for

@@ -1,7 +1,9 @@
 //! Laws of what runs end with, shown by functions that do nothing. A run on words ends so by the clause `outcome` of
 //! `run_tptp`, and the log of a success is a refutation by its clause `sound`.
 ghost use Rattle.include_resolve.specs.Tried.{Tries};
+ghost use Rattle.kernel.specs.Entries.{Refutes};
 ghost use Rattle.kernel.specs.Statements.{Statements};
+ghost use Rattle.kernel.specs.declared.entry.Entry.{Entry};
 ghost use Rattle.proof_log.specs.Answers.{NestWithin};
 ghost use Rattle.proof_log.specs.declared.reader.TheConstants.{MAX_NESTING};
 ghost use Rattle.derivation_check.specs.Cases.{claimed};
@@ -18,7 +20,7 @@ ghost use Rattle.tptp_run.specs.Outcome.{IsRefutation};
 ghost use Rattle.tptp_commands.specs.Parsed.{EndsParse};
 ghost use Rattle.tptp_commands.specs.Refuted.{IsInBudget, GivesTheSame, IsExact, IsRefused};
 ghost use Rattle.tptp_run.specs.Verifying.{AreOfRuns, EndsVerify};
-ghost use Rattle.tptp_commands.specs.Words.{Check, Model, Verify, Request, IsForm};
+ghost use Rattle.tptp_commands.specs.Words.{Check, Model, Prove, Verify, Request, IsForm};
 
 /// A check ends with status 0 exactly where the file has the text of a log, within the limits, whose entries refute
 /// what the problem gives. A problem that has a fault gives nothing, and the fault is said.
@@ -55,6 +57,23 @@ pub fn a_verified_log_checks()
         → (ending : Ending) → Ends ((log, text) ∷ files) words ending → IsForm words request
         → request.task ≡ Check problem log
         → ending ≡ refuted (length run.entries) }
+{}
+
+/// Of what `prove` prints with status 0, `verify` may say that all is verified: in a store that has that text in a file of
+/// any name, and in which the same problem resolves alike, `verify` of the problem and that file, with the same limit, may
+/// end with status 0. And there are legal entries that lead from what the problem gives to falsehood.
+pub fn a_proof_is_verified()
+    ensures verified { (files : StoreFiles) (words : List (List ℕ)) (request : Request) (problem : List ℕ)
+        (ending : Ending)
+        → Ends files words ending → IsForm words request → request.task ≡ Prove problem → ending.status ≡ 0
+        → (after : StoreFiles) (file : List ℕ)
+        → GivesTheSame files after request.root problem → file_at after file ≡ Some ending.out
+        → (again : Ending) × EndsVerify after request.root request.limit problem file again × (again.status ≡ 0) }
+    ensures refuted { (files : StoreFiles) (words : List (List ℕ)) (request : Request) (problem : List ℕ)
+        (ending : Ending)
+        → Ends files words ending → IsForm words request → request.task ≡ Prove problem → ending.status ≡ 0
+        → (theory : Statements) × (read : ℕ) × IsGiven (Some files) request.root problem theory read
+        × ((entries : List Entry) × Refutes theory entries) }
 {}
 
 /// Where a derivation that claims that the axioms contradict each other is verified, the log refutes what the problem

@@ -2,11 +2,10 @@
 ghost use Rattle.std.specs.Prelude.{◌≡◌, ◌≤◌, ◌<◌, ◌^◌, IsTrue, IfOk, IfErr, Some, None, length};
 ghost use Rattle.std.specs.List.{All};
 ghost use Rattle.tptp_base.specs.Count.{Rose};
-ghost use Rattle.tptp_base.specs.declared.read.TheConstants.{FILE_SIZE as file_size};
 ghost use Rattle.sort_check.specs.Sorting.{AreDeclared, IsSentence};
 ghost use Rattle.derivation_check.specs.Logs.{TakesSomeOfLog};
 ghost use Rattle.tptp_run.specs.code.Answer.{IsAnswerWithLog};
-ghost use Rattle.tptp_run.specs.code.Making.{IsReportOn, IsWhole};
+ghost use Rattle.tptp_run.specs.code.Making.{IsWhole};
 ghost use Rattle.read_problems.specs.Sources.{IsSource};
 ghost use Rattle.read_problems.specs.Stop.{HasCause, IfAnswer, IfStopped};
 ghost use Rattle.tptp_commands.specs.Made as spec;
@@ -14,12 +13,12 @@ ghost use Rattle.tptp_run.specs.Making.{EndsMake};
 ghost use Rattle.tptp_run.specs.Outcome.{TakesSomeOfProblemLog};
 ghost use Rattle.tptp_commands.specs.Words.{IsLimit};
 
-use derivation_check::{Asked, Report, check_derivation};
+use crate::report::report_on;
+use derivation_check::Report;
 use read_problems::{Answer, Halt, Source, Stop, read_source};
 use std::alloc::Global;
 use tptp_base::{FILE_SIZE, List, Memory, Sink, SteadyStore, Text};
-use tptp_commands::{derivation_text, problem_text, read_derived, say_made};
-use verifier::RunFault;
+use tptp_commands::{derivation_text, problem_text, say_made};
 
 /// Makes a problem of so many implications and its refutation, verifies it as `verify` does, writes the log, and says
 /// how many lines it has. Where all is not verified as it should be, the run gives up as it does without memory.
@@ -92,53 +91,11 @@ fn make_from<L: Sink>(
     if text.len() as u64 > FILE_SIZE {
         return Err(Halt::Stopped(Stop::Memory));
     }
-    let report = report_on(alloc, log, source, &text, limit)?;
+    let report = report_on(alloc, log, source, "make.p", &text, limit)?;
     if !is_whole(&report, count) {
         return Err(Halt::Stopped(Stop::Memory));
     }
     Ok(say_made(alloc, count)?)
-}
-
-// The report on a made derivation.
-fn report_on<L: Sink>(
-    alloc: Global,
-    log: &mut L,
-    source: &mut Source,
-    text: &[u8],
-    limit: u32,
-) -> Result<Report, Stop>
-    requires bytes { length text.now ≤ file_size }
-    requires few { length source.old.names < 2 ^ 32 }
-    requires same { source.old.theory.vocabulary ≡ source.old.signature }
-    requires sentences { All (IsSentence source.old.signature) source.old.theory.formulas }
-    requires declared { AreDeclared source.old.signature }
-    ensures report { IfOk result (λ report. IsReportOn text.now limit source.old.theory source.old.names
-        source.old.signature source.old.marks source.old.has_conjecture report (L.taken log.old) (L.taken log.new)) }
-    ensures log { TakesSomeOfLog source.old.theory (L.taken log.old) (L.taken log.new) }
-    ensures cause { IfErr result (λ stop. HasCause stop ⊥ (Rose (L.faults log.old) (L.faults log.new))) }
-{
-    // A signature has sorts, as the count tells.
-    let _sorts = source.signature.sort_count();
-    let names = source.names.as_slice();
-    match read_derived(alloc, "make.s", text, names, &mut source.signature) {
-        Ok(derivation) => {
-            let asked = Asked {
-                problem: b"make.p",
-                output: text,
-                marks: source.marks.as_slice(),
-                has_conjecture: source.has_conjecture,
-                limit,
-            };
-            let signature = &source.signature;
-            let theory = &mut source.theory;
-            match check_derivation(alloc, &asked, &derivation, signature, theory, log) {
-                Ok(report) => Ok(report),
-                Err(RunFault::Sink) => Err(Stop::Sink),
-                Err(RunFault::Room(_)) | Err(RunFault::Memory) => Err(Stop::Memory),
-            }
-        }
-        Err(_) => Err(Stop::Memory),
-    }
 }
 
 // Whether the report says that all lines are verified, and how.

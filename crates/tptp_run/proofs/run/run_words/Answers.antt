@@ -1,9 +1,9 @@
 use Rattle.std.proofs.Common.{ap, subst}
 use Rattle.std.specs.Option.{option_copied}
-use Rattle.tptp_commands.specs.Words.{Format, Parse, Check, Make, Model, Verify, HasNames, texts, request_of, task_of}
+use Rattle.tptp_commands.specs.Words.{Format, Parse, Check, Make, Prove, Model, Verify, HasNames, texts, request_of, task_of}
 use Rattle.tptp_run.proofs.Absences.{asked_absence}
 use Rattle.tptp_run.proofs.Verifies.{text_stopped, verify_asked, verify_logged}
-use Rattle.tptp_run.proofs.Asked.{check_asked, model_asked}
+use Rattle.tptp_run.proofs.Asked.{task_asked}
 use Rattle.tptp_run.proofs.Makes.{make_asked, make_logged, zero_absence, zero_answer}
 use Rattle.tptp_run.proofs.run.run_words.Goals as goal
 
@@ -17,7 +17,7 @@ returns-in-Check-clause-absence g c =
 
 pub returns-in-Check-clause-ends : goal.returns-in-Check-clause-ends
 returns-in-Check-clause-ends g c =
-    check_asked (g.S.Store.files c.args.store.now) (texts c.args.words.now) (request_of c.in-Some.command) c.in-Check.problem.now c.in-Check.log.now (g.L.Sink.taken c.args.log.now) c.check.result c.in-Some.ensures.some (ap task_of c.in-Check.is) c.check.ensures.ends
+    task_asked (g.S.Store.files c.args.store.now) (texts c.args.words.now) (request_of c.in-Some.command) (Check c.in-Check.problem.now c.in-Check.log.now) (g.L.Sink.taken c.args.log.now) c.check.result c.in-Some.ensures.some (ap task_of c.in-Check.is) c.check.ensures.ends
 
 pub returns-in-Verify-clause-ends : goal.returns-in-Verify-clause-ends
 returns-in-Verify-clause-ends g c =
@@ -37,7 +37,7 @@ returns-in-Verify-clause-log g c =
 
 pub returns-in-Model-clause-ends : goal.returns-in-Model-clause-ends
 returns-in-Model-clause-ends g c =
-    model_asked (g.S.Store.files c.args.store.now) (texts c.args.words.now) (request_of c.in-Some.command) c.in-Model.problem.now c.in-Model.file.now (g.L.Sink.taken c.args.log.now) c.model.result c.in-Some.ensures.some (ap task_of c.in-Model.is) c.model.ensures.ends
+    task_asked (g.S.Store.files c.args.store.now) (texts c.args.words.now) (request_of c.in-Some.command) (Model c.in-Model.problem.now c.in-Model.file.now) (g.L.Sink.taken c.args.log.now) c.model.result c.in-Some.ensures.some (ap task_of c.in-Model.is) c.model.ensures.ends
 
 pub returns-in-Model-clause-absence : goal.returns-in-Model-clause-absence
 returns-in-Model-clause-absence g c =
@@ -62,3 +62,11 @@ returns-in-Make-clause-log g c =
 
 pub make-requires : goal.make-requires
 make-requires g c = subst HasNames (ap task_of c.in-Make.is) c.in-Some.ensures.some.names
+
+pub returns-in-Prove-clause-ends : goal.returns-in-Prove-clause-ends
+returns-in-Prove-clause-ends g c =
+    task_asked (g.S.Store.files c.args.store.now) (texts c.args.words.now) (request_of c.in-Some.command) (Prove c.in-Prove.problem.now) (g.L.Sink.taken c.args.log.now) c.prove.result c.in-Some.ensures.some (ap task_of c.in-Prove.is) c.prove.ensures.ends
+
+pub returns-in-Prove-clause-absence : goal.returns-in-Prove-clause-absence
+returns-in-Prove-clause-absence g c =
+    asked_absence _ (g.S.Store.files c.args.store.now) (texts c.args.words.now) (request_of c.in-Some.command) (Prove c.in-Prove.problem.now) c.prove.result c.in-Some.ensures.some (ap task_of c.in-Prove.is) c.prove.ensures.absence

@@ -1,4 +1,4 @@
-use Rattle.tptp_run.proofs.make.report_on.Goals as goal
+use Rattle.tptp_run.proofs.report.report_on.Goals as goal
 
 pub check_derivation-requires-clause-declared : goal.check_derivation-requires-clause-declared
 check_derivation-requires-clause-declared g c = c.in-Ok.ensures.extends.declared c.sort_count-sorts.ensures.some c.requires.declared

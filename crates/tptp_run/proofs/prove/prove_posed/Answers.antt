@@ -1,0 +1,29 @@
+use Rattle.std.proofs.Common.{◌≡◌, List, ◌∙◌, sym, subst, ap}
+use Rattle.std.specs.List.{All}
+use Rattle.std.specs.Option.{option_copied}
+use Rattle.clause_rules.specs.Steps.{IsReady}
+use Rattle.sort_check.specs.declared.line.GivenEntry.{GivenEntry}
+use Rattle.problem_proofs.specs.Posed.{HasSymbols}
+use Rattle.read_problems.specs.Answer.{ending_of}
+use Rattle.tptp_commands.specs.Presented.{not_proved}
+use Rattle.tptp_run.proofs.Proves.{open_ends, over_ends, posed_ready, proof_ends}
+use Rattle.tptp_run.proofs.prove.prove_posed.Goals as goal
+
+pub prove-requires : goal.prove-requires
+prove-requires g c =
+    subst (All (λ (g : GivenEntry). IsReady c.args.posed.now.signature g.form)) (sym c.as_slice-given.ensures) (posed_ready (g.S.Store.files c.args.store.now) (option_copied c.args.root) c.args.problem.now c.args.posed.now c.requires)
+
+pub returns-in-Ok-Proof-clause-ends : goal.returns-in-Ok-Proof-clause-ends
+returns-in-Ok-Proof-clause-ends g c =
+    proof_ends (option_copied c.args.root) c.args.limit c.args.problem.now (g.S.Store.files c.args.store.now) c.args.posed.now c.requires c.in-Ok-Proof.items (rw c.as_slice-given.ensures at c.in-Ok-Proof.ensures.room)
+    (rw c.in-Ok-Proof.field-0-is at (rw c.as_slice-given.ensures at c.in-Ok-Proof.ensures.proved)) c.say_proof.result (rw c.as_slice.ensures at c.say_proof.ensures.ends)
+
+pub returns-in-Ok-Open-clause-ends : goal.returns-in-Ok-Open-clause-ends
+returns-in-Ok-Open-clause-ends g c =
+    open_ends (option_copied c.args.root) c.args.limit c.args.problem.now (g.S.Store.files c.args.store.now) c.args.posed.now c.requires (ending_of c.in_ok-not_proved.field-0) c.in-Ok-Open.why (rw c.as_slice-given.ensures at c.in-Ok-Open.ensures.room)
+    (rw c.in-Ok-Open.field-0-is at (rw c.as_slice-given.ensures at c.in-Ok-Open.ensures.proved)) (c.in_ok-not_proved.ensures ∙ ap not_proved c.why_word.ensures)
+
+pub returns-in-Err-Limit-clause-ends : goal.returns-in-Err-Limit-clause-ends
+returns-in-Err-Limit-clause-ends g c =
+    over_ends (option_copied c.args.root) c.args.limit c.args.problem.now (g.S.Store.files c.args.store.now) c.args.posed.now c.requires (ending_of c.in_ok-say_over.field-0) c.in-Err-Limit.name
+    (rw c.in-Err-Limit.field-0-is at (rw c.as_slice-given.ensures at c.in-Err-Limit.ensures.limit)) c.in_ok-say_over.ensures

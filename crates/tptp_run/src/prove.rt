@@ -1,0 +1,232 @@
+// The command `prove`.
+ghost use Rattle.std.specs.Prelude.{◌≡◌, ◌⊎◌, ◌≤◌, ◌<◌, ◌^◌, IfOk, IfErr, IfSome, OnOk, length, true};
+ghost use Rattle.std.specs.List.{All};
+ghost use Rattle.std.specs.Option.{option_copied};
+ghost use Rattle.tptp_base.specs.Count.{Rose};
+ghost use Rattle.tptp_base.specs.declared.read.TheConstants.{FILE_SIZE as file_size};
+ghost use Rattle.sort_check.specs.Sorting.{AreDeclared, IsSentence};
+ghost use Rattle.verifier.specs.Claim.{default_word};
+ghost use Rattle.read_problems.specs.Answer.{ending_of};
+ghost use Rattle.read_problems.specs.Ending.{IsAnswer};
+ghost use Rattle.read_problems.specs.OtherFaults.{SaysProblemFault};
+ghost use Rattle.read_problems.specs.Posed.{IsPosed};
+ghost use Rattle.read_problems.specs.Stop.{HasCause, IfAnswer, IfStopped};
+ghost use Rattle.tptp_commands.specs.Presented as printed;
+ghost use Rattle.tptp_commands.specs.Refuted.{IsInBudget};
+ghost use Rattle.tptp_run.specs.Proving.{EndsProve, IsVerified, SaysProof, why_word as word_of};
+ghost use Rattle.tptp_run.specs.code.Proving.{EndsProof};
+
+use crate::report::report_on;
+use derivation_check::Report;
+use problem_proofs::{ProveFault, Proved, Why};
+use read_problems::{Answer, Halt, Posed, Source, Stop, TOTAL_SIZE, read_posed, read_source};
+use std::alloc::Global;
+use tptp_base::{Item, Memory, NullSink, Store, Text};
+use tptp_commands::{not_proved, over_size, presented, say_over};
+
+/// Reads a problem with all that it includes, searches among at most so many clauses for a proof of it, and prints the
+/// proof as a derivation. The text is checked before it is printed, as `verify` checks it, from the problem as it is read
+/// again. Where not all of it is verified, the run gives up as it does without memory.
+pub fn prove<S: Store>(
+    alloc: Global,
+    store: &mut S,
+    root: Option<&str>,
+    problem: &str,
+    limit: u32,
+) -> Result<Answer, Halt>
+    ensures ends { IfAnswer result (λ answer.
+        IfSome (S.files store.old) (λ files.
+        EndsProve files (option_copied root.entry) limit problem.now (ending_of answer))) }
+    ensures status { IfAnswer result (λ answer. IsAnswer answer.status) }
+    ensures absence { IfAnswer result (λ answer. answer.status ≡ 3
+        → Rose (S.absents store.old) (S.absents store.new)
+        ⊎ SaysProblemFault (S.files store.old) (option_copied root.entry) problem.now (ending_of answer)) }
+    ensures cause { IfStopped result (λ stop. HasCause stop (Rose (S.faults store.old) (S.faults store.new)) ⊥) }
+{
+    match read_posed(alloc, store, root, problem) {
+        Ok(posed) => prove_posed(alloc, store, root, problem, &posed, limit),
+        Err(halt) => Err(halt),
+    }
+}
+
+// Searches for a proof of what the problem poses.
+#[tactic(auto, using(crate::proofs::Proves::open_answer, crate::proofs::Proves::open_three, crate::proofs::Proves::over_answer, crate::proofs::Proves::over_three))]
+fn prove_posed<S: Store>(
+    alloc: Global,
+    store: &mut S,
+    root: Option<&str>,
+    problem: &str,
+    posed: &Posed,
+    limit: u32,
+) -> Result<Answer, Halt>
+    requires { IsPosed (S.files store.old) (option_copied root.entry) problem.now posed.now }
+    ensures ends { IfAnswer result (λ answer.
+        IfSome (S.files store.old) (λ files.
+        EndsProve files (option_copied root.entry) limit problem.now (ending_of answer))) }
+    ensures status { IfAnswer result (λ answer. IsAnswer answer.status) }
+    ensures absence { IfAnswer result (λ answer. answer.status ≡ 3
+        → Rose (S.absents store.old) (S.absents store.new)
+        ⊎ SaysProblemFault (S.files store.old) (option_copied root.entry) problem.now (ending_of answer)) }
+    ensures cause { IfStopped result (λ stop. HasCause stop (Rose (S.faults store.old) (S.faults store.new)) ⊥) }
+{
+    let given = posed.given.as_slice();
+    match problem_proofs::prove(alloc, &posed.signature, given, problem.as_bytes(), limit) {
+        Ok(Proved::Proof(items)) => say_proof(alloc, store, root, problem, items.as_slice(), limit),
+        Ok(Proved::Open(why)) => Ok(not_proved(alloc, why_word(why))?),
+        Err(ProveFault::Limit(name)) => Ok(say_over(alloc, problem, name)?),
+        Err(ProveFault::Memory) => Err(Halt::Stopped(Stop::Memory)),
+    }
+}
+
+// The word for a search that finds no proof.
+fn why_word(why: Why) -> &'static str
+    ensures { result.now ≡ word_of why }
+{
+    match why {
+        Why::Dry => "dry",
+        Why::Full => "full",
+        Why::Heavy => "heavy",
+        Why::Wide => "wide",
+    }
+}
+
+// What is said of the items of a derivation from the problem.
+#[tactic(auto, using(crate::proofs::Proves::is_answer, crate::proofs::Proves::no_three))]
+fn say_proof<S: Store>(
+    alloc: Global,
+    store: &mut S,
+    root: Option<&str>,
+    problem: &str,
+    items: &[Item],
+    limit: u32,
+) -> Result<Answer, Halt>
+    ensures ends { IfAnswer result (λ answer.
+        IfSome (S.files store.old) (λ files.
+        EndsProof files (option_copied root.entry) limit problem.now items.now (ending_of answer))) }
+    ensures status { IfAnswer result (λ answer. IsAnswer answer.status) }
+    ensures absence { IfAnswer result (λ answer. answer.status ≡ 3
+        → Rose (S.absents store.old) (S.absents store.new)
+        ⊎ SaysProblemFault (S.files store.old) (option_copied root.entry) problem.now (ending_of answer)) }
+    ensures cause { IfStopped result (λ stop. HasCause stop (Rose (S.faults store.old) (S.faults store.new)) ⊥) }
+{
+    match read_source(alloc, store, root, problem) {
+        Ok(source) => {
+            let mut source = source;
+            Ok(say_items(alloc, &mut source, problem, items, limit)?)
+        }
+        Err(halt) => Err(halt),
+    }
+}
+
+// The same from what the problem gives.
+fn say_items(
+    alloc: Global,
+    source: &mut Source,
+    problem: &str,
+    items: &[Item],
+    limit: u32,
+) -> Result<Answer, Stop>
+    requires budget { source.old.read ≤ TOTAL_SIZE }
+    requires few { length source.old.names < 2 ^ 32 }
+    requires same { source.old.theory.vocabulary ≡ source.old.signature }
+    requires sentences { All (IsSentence source.old.signature) source.old.theory.formulas }
+    requires declared { AreDeclared source.old.signature }
+    ensures said { IfOk result (λ answer. SaysProof problem.now limit source.old.read source.old.theory source.old.names
+        source.old.marks source.old.has_conjecture
+        (printed.presented problem.now (default_word source.old.has_conjecture) items.now) (ending_of answer)) }
+    ensures status { IfOk result (λ answer. (answer.status ≡ 0) ⊎ (answer.status ≡ 7)) }
+    ensures cause { IfErr result (λ stop. HasCause stop ⊥ ⊥) }
+{
+    let status = status_word(source.has_conjecture);
+    let text = presented(alloc, problem.as_bytes(), status, items)?;
+    say_text(alloc, source, problem, text, limit)
+}
+
+// The status of a proof.
+fn status_word(has_conjecture: bool) -> &'static [u8]
+    ensures { result.now ≡ default_word has_conjecture }
+{
+    if has_conjecture {
+        b"Theorem"
+    } else {
+        b"Unsatisfiable"
+    }
+}
+
+// What is said of the text of a proof.
+#[tactic(auto, using(crate::proofs::Proves::over_status))]
+fn say_text(
+    alloc: Global,
+    source: &mut Source,
+    problem: &str,
+    text: Text,
+    limit: u32,
+) -> Result<Answer, Stop>
+    requires budget { source.old.read ≤ TOTAL_SIZE }
+    requires few { length source.old.names < 2 ^ 32 }
+    requires same { source.old.theory.vocabulary ≡ source.old.signature }
+    requires sentences { All (IsSentence source.old.signature) source.old.theory.formulas }
+    requires declared { AreDeclared source.old.signature }
+    ensures said { IfOk result (λ answer. SaysProof problem.now limit source.old.read source.old.theory source.old.names
+        source.old.marks source.old.has_conjecture text (ending_of answer)) }
+    ensures status { IfOk result (λ answer. (answer.status ≡ 0) ⊎ (answer.status ≡ 7)) }
+    ensures cause { IfErr result (λ stop. HasCause stop ⊥ ⊥) }
+{
+    match over_size(text.len(), source.read) {
+        Some(name) => Ok(say_over(alloc, problem, name)?),
+        None => say_checked(alloc, source, problem, text, limit),
+    }
+}
+
+// The text of a proof, of which a check verifies all.
+fn say_checked(
+    alloc: Global,
+    source: &mut Source,
+    problem: &str,
+    text: Text,
+    limit: u32,
+) -> Result<Answer, Stop>
+    requires fits { IsInBudget source.old.read (length text) }
+    requires bytes { length text ≤ file_size }
+    requires few { length source.old.names < 2 ^ 32 }
+    requires same { source.old.theory.vocabulary ≡ source.old.signature }
+    requires sentences { All (IsSentence source.old.signature) source.old.theory.formulas }
+    requires declared { AreDeclared source.old.signature }
+    ensures said { IfOk result (λ answer. SaysProof problem.now limit source.old.read source.old.theory source.old.names
+        source.old.marks source.old.has_conjecture text (ending_of answer)) }
+    ensures status { IfOk result (λ answer. answer.status ≡ 0) }
+    ensures cause { IfErr result (λ stop. HasCause stop ⊥ ⊥) }
+{
+    check_proof(alloc, source, problem, text.as_slice(), limit)?;
+    Ok(Answer { status: 0, text })
+}
+
+// Checks the text of a proof. It gives up as without memory where not all is verified.
+fn check_proof(
+    alloc: Global,
+    source: &mut Source,
+    problem: &str,
+    text: &[u8],
+    limit: u32,
+) -> Result<(), Memory>
+    requires bytes { length text.now ≤ file_size }
+    requires few { length source.old.names < 2 ^ 32 }
+    requires same { source.old.theory.vocabulary ≡ source.old.signature }
+    requires sentences { All (IsSentence source.old.signature) source.old.theory.formulas }
+    requires declared { AreDeclared source.old.signature }
+    ensures { OnOk result (IsVerified problem.now limit source.old.theory source.old.names source.old.marks
+        source.old.has_conjecture text.now) }
+{
+    let mut log = NullSink::new();
+    match report_on(alloc, &mut log, source, problem, text, limit) {
+        Ok(report) => if_verified(&report),
+        Err(_) => Err(Memory),
+    }
+}
+
+// Gives up where not all is verified.
+fn if_verified(report: &Report) -> Result<(), Memory>
+    ensures { OnOk result (report.now.verified ≡ true) }
+{
+    if report.verified { Ok(()) } else { Err(Memory) }
+}
