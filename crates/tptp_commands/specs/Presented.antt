@@ -19,8 +19,8 @@ between_lines file status derivation =
 
 -- The items of a derivation from the problem in the file, whose status is that word. In the name of the file a question
 -- mark stands for each byte that no line can hold.
-abbrev pub presented : List ℕ → List ℕ → List Item → List ℕ
-presented file status items = between_lines (printable_text file) status (canonical_text items)
+abbrev pub proof_text : List ℕ → List ℕ → List Item → List ℕ
+proof_text file status items = between_lines (printable_text file) status (canonical_text items)
 
 -- no derivation is found, for that reason
 abbrev pub not_proved : List ℕ → Ending

@@ -20,5 +20,5 @@ pub use made::{derivation_text, problem_text, say_made};
 pub use modelled::model;
 pub use named_log::log_name;
 pub use parsed::parse;
-pub use presented::{not_proved, over_size, presented, say_over};
+pub use presented::{not_proved, over_size, proof_text, say_over};
 pub use words::{Command, Job, read_words};

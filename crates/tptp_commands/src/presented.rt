@@ -12,8 +12,8 @@ use std::alloc::{AllocError, Global};
 use tptp_base::{FILE_SIZE, Item, LimitName, Memory, Text};
 
 /// The items of a derivation from the problem in the file, between lines that name the status and the file.
-pub fn presented(alloc: Global, file: &[u8], status: &[u8], items: &[Item]) -> Result<Text, Memory>
-    ensures { IfOk result (λ text. text ≡ spec.presented file.now status.now items.now) }
+pub fn proof_text(alloc: Global, file: &[u8], status: &[u8], items: &[Item]) -> Result<Text, Memory>
+    ensures { IfOk result (λ text. text ≡ spec.proof_text file.now status.now items.now) }
 {
     let file = printable(alloc, file)?;
     let derivation = print(alloc, items)?;

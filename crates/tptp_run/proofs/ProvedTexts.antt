@@ -72,7 +72,7 @@ printed_verified files after root limit problem file text p alike there =
     let says : rest text again = inr (p.verified.d, p.verified.w, p.verified.is, inl (record { verified = true; status = refl; checks = p.verified.checks })) in
     let read : AfterFile after file (TOTAL_SIZE - p.whole.read) rest again = record {
       missing = λ none. not_missing there none;
-      limit = λ name found is over. absurd (p.fits name (subst (λ (t : List ℕ). IsOver name (TOTAL_SIZE - p.whole.read) (length t)) (known text found there is ∙ refl) over));
+      limit = λ name found is over. absurd (p.fits name (subst (λ (t : List ℕ). IsOver name (TOTAL_SIZE - p.whole.read) (length t)) (known text found there is) over));
       read = λ found is fits. subst (λ (t : List ℕ). rest t again) (sym (known text found there is)) says;
     } in
     (again, inr (p.whole, alike p.whole p.resolves, inr (p.lines, p.v, p.denotes, read)), refl)

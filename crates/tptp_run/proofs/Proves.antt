@@ -1,7 +1,7 @@
 -- How the command `prove` ends, by what it meets in turn.
 use Rattle.std.specs.Prelude.{IfOk, OnOk}
 use Rattle.std.specs.List.{All}
-use Rattle.std.proofs.Common.{◌≡◌, ◌⊎◌, inl, inr, ℕ, ◌-◌, ◌<◌, ◌≤◌, Bool, true, List, length, Option, None, Some, IfSome, Result, Ok, Err, refl, sym, ap, subst, arith}
+use Rattle.std.proofs.Common.{◌≡◌, ◌⊎◌, inl, inr, ℕ, ◌-◌, ◌<◌, ◌≤◌, Bool, true, List, [], length, Option, None, Some, IfSome, Result, Ok, Err, refl, sym, ap, subst, arith}
 use Rattle.std.proofs.lemmas.List.Elements.{All-weaker}
 use Rattle.tptp_base.specs.Count.{Rose}
 use Rattle.tptp_base.specs.Store.{Files}
@@ -49,7 +49,7 @@ use Rattle.read_problems.specs.declared.stop.Halt.{Halt}
 use Rattle.read_problems.specs.declared.stop.Halt.TheVariants.{Refused, Stopped}
 use Rattle.read_problems.specs.declared.stop.Stop.{Stop}
 use Rattle.tptp_commands.proofs.Absences.{answered_so}
-use Rattle.tptp_commands.specs.Presented.{is_over, not_proved, presented}
+use Rattle.tptp_commands.specs.Presented.{is_over, not_proved, proof_text}
 use Rattle.tptp_run.specs.Proving.{EndsProve, IsVerified, SaysProof, why_word}
 use Rattle.tptp_run.specs.Verifying.{asked_by}
 use Rattle.tptp_run.specs.code.Making.{IsReportOn}
@@ -136,7 +136,7 @@ module _ (root : Option (List ℕ)) (limit : ℕ) (problem : List ℕ) where
     Proves told ending = IfSome told (λ files. EndsProof files root limit problem items ending)
 
     abbrev Says : ℕ → Statements → List Name → List Bool → Bool → Ending → Type 0
-    Says read t names marks conjecture ending = SaysProof problem limit read t names marks conjecture (presented problem (default_word conjecture) items) ending
+    Says read t names marks conjecture ending = SaysProof problem limit read t names marks conjecture (proof_text problem (default_word conjecture) items) ending
 
     pub source_proof : (told : Option Files) (source : Source) (ending : Ending) → IsSource told root problem source → Says source.read source.theory source.names source.marks source.has_conjecture ending → Proves told ending
     source_proof None source ending is says = tt

@@ -26,7 +26,7 @@ use Rattle.read_problems.specs.Ending.{Ending, says}
 use Rattle.read_problems.specs.Given.{given_theory}
 use Rattle.read_problems.specs.Sources.{given_names, conjecture_marks, has_conjecture}
 use Rattle.read_problems.specs.declared.refusals.TheConstants.{TOTAL_SIZE}
-use Rattle.tptp_commands.specs.Presented.{presented, not_proved, is_over}
+use Rattle.tptp_commands.specs.Presented.{proof_text, not_proved, is_over}
 use Rattle.tptp_commands.specs.Refuted.{IsInBudget}
 use Rattle.tptp_run.specs.Verifying.{asked_by}
 
@@ -57,7 +57,7 @@ why_word Wide = codes "wide"
 -- what is said of what the search comes to, where the problem denotes these lines
 abbrev pub SaysProved : List ℕ → ℕ → ℕ → List Line → Vocabulary → Proved → Ending → Type 0
 SaysProved problem limit read lines v (Proof items) ending =
-    SaysProof problem limit read (given_theory lines v) (given_names lines) (conjecture_marks lines) (has_conjecture lines) (presented problem (default_word (has_conjecture lines)) items) ending
+    SaysProof problem limit read (given_theory lines v) (given_names lines) (conjecture_marks lines) (has_conjecture lines) (proof_text problem (default_word (has_conjecture lines)) items) ending
 SaysProved problem limit read lines v (Open why) ending = ending ≡ not_proved (why_word why)
 
 -- The given formulas, or a derivation that is found, may be over a limit, and this is said. Or else what the search comes

@@ -22,7 +22,7 @@ use problem_proofs::{ProveFault, Proved, Why};
 use read_problems::{Answer, Halt, Posed, Source, Stop, TOTAL_SIZE, read_posed, read_source};
 use std::alloc::Global;
 use tptp_base::{Item, Memory, NullSink, Store, Text};
-use tptp_commands::{not_proved, over_size, presented, say_over};
+use tptp_commands::{not_proved, over_size, proof_text, say_over};
 
 /// Reads a problem with all that it includes, searches among at most so many clauses for a proof of it, and prints the
 /// proof as a derivation. The text is checked before it is printed, as `verify` checks it, from the problem as it is read
@@ -50,7 +50,6 @@ pub fn prove<S: Store>(
 }
 
 // Searches for a proof of what the problem poses.
-#[tactic(auto, using(crate::proofs::Proves::open_answer, crate::proofs::Proves::open_three, crate::proofs::Proves::over_answer, crate::proofs::Proves::over_three))]
 fn prove_posed<S: Store>(
     alloc: Global,
     store: &mut S,
@@ -91,7 +90,6 @@ fn why_word(why: Why) -> &'static str
 }
 
 // What is said of the items of a derivation from the problem.
-#[tactic(auto, using(crate::proofs::Proves::is_answer, crate::proofs::Proves::no_three))]
 fn say_proof<S: Store>(
     alloc: Global,
     store: &mut S,
@@ -133,12 +131,12 @@ fn say_items(
     requires declared { AreDeclared source.old.signature }
     ensures said { IfOk result (λ answer. SaysProof problem.now limit source.old.read source.old.theory source.old.names
         source.old.marks source.old.has_conjecture
-        (printed.presented problem.now (default_word source.old.has_conjecture) items.now) (ending_of answer)) }
+        (printed.proof_text problem.now (default_word source.old.has_conjecture) items.now) (ending_of answer)) }
     ensures status { IfOk result (λ answer. (answer.status ≡ 0) ⊎ (answer.status ≡ 7)) }
     ensures cause { IfErr result (λ stop. HasCause stop ⊥ ⊥) }
 {
     let status = status_word(source.has_conjecture);
-    let text = presented(alloc, problem.as_bytes(), status, items)?;
+    let text = proof_text(alloc, problem.as_bytes(), status, items)?;
     say_text(alloc, source, problem, text, limit)
 }
 

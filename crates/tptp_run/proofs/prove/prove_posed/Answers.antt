@@ -1,12 +1,11 @@
-use Rattle.std.proofs.Common.{◌≡◌, List, ◌∙◌, sym, subst, ap}
+use Rattle.std.proofs.Common.{◌∙◌, sym, subst, ap}
 use Rattle.std.specs.List.{All}
 use Rattle.std.specs.Option.{option_copied}
 use Rattle.clause_rules.specs.Steps.{IsReady}
 use Rattle.sort_check.specs.declared.line.GivenEntry.{GivenEntry}
-use Rattle.problem_proofs.specs.Posed.{HasSymbols}
 use Rattle.read_problems.specs.Answer.{ending_of}
 use Rattle.tptp_commands.specs.Presented.{not_proved}
-use Rattle.tptp_run.proofs.Proves.{open_ends, over_ends, posed_ready, proof_ends}
+use Rattle.tptp_run.proofs.Proves.{open_answer, open_ends, open_three, over_answer, over_ends, over_three, posed_ready, proof_ends}
 use Rattle.tptp_run.proofs.prove.prove_posed.Goals as goal
 
 pub prove-requires : goal.prove-requires
@@ -27,3 +26,15 @@ pub returns-in-Err-Limit-clause-ends : goal.returns-in-Err-Limit-clause-ends
 returns-in-Err-Limit-clause-ends g c =
     over_ends (option_copied c.args.root) c.args.limit c.args.problem.now (g.S.Store.files c.args.store.now) c.args.posed.now c.requires (ending_of c.in_ok-say_over.field-0) c.in-Err-Limit.name
     (rw c.in-Err-Limit.field-0-is at (rw c.as_slice-given.ensures at c.in-Err-Limit.ensures.limit)) c.in_ok-say_over.ensures
+
+pub returns-in-Ok-Open-clause-status : goal.returns-in-Ok-Open-clause-status
+returns-in-Ok-Open-clause-status g c = open_answer c.in_ok-not_proved.field-0 _ c.in_ok-not_proved.ensures
+
+pub returns-in-Ok-Open-clause-absence : goal.returns-in-Ok-Open-clause-absence
+returns-in-Ok-Open-clause-absence g c = open_three c.in_ok-not_proved.field-0 _ _ c.in_ok-not_proved.ensures
+
+pub returns-in-Err-Limit-clause-status : goal.returns-in-Err-Limit-clause-status
+returns-in-Err-Limit-clause-status g c = over_answer c.in_ok-say_over.field-0 c.args.problem.now c.in-Err-Limit.name c.in_ok-say_over.ensures
+
+pub returns-in-Err-Limit-clause-absence : goal.returns-in-Err-Limit-clause-absence
+returns-in-Err-Limit-clause-absence g c = over_three c.in_ok-say_over.field-0 c.args.problem.now c.in-Err-Limit.name _ c.in_ok-say_over.ensures

@@ -1,7 +1,7 @@
 use Rattle.std.specs.Prelude.{IfOk}
 use Rattle.std.proofs.Common.{ℕ, List, ◌∙◌, ap, subst}
 use Rattle.read_problems.specs.Answer.{ending_of}
-use Rattle.tptp_commands.specs.Presented.{presented}
+use Rattle.tptp_commands.specs.Presented.{proof_text}
 use Rattle.tptp_run.specs.Proving.{SaysProof}
 use Rattle.tptp_run.proofs.prove.say_items.Goals as goal
 
@@ -9,4 +9,4 @@ pub returns-clause-said : goal.returns-clause-said
 returns-clause-said c =
     let source = c.args.source.now in
     let says : List ℕ → _ = λ text. IfOk c.say_text.result (λ answer. SaysProof c.args.problem.now c.args.limit source.read source.theory source.names source.marks source.has_conjecture text (ending_of answer)) in
-    subst says (c.in_ok-text.ensures ∙ ap (λ (status : List ℕ). presented c.args.problem.now status c.args.items.now) c.status_word-status.ensures) c.say_text.ensures.said
+    subst says (c.in_ok-text.ensures ∙ ap (λ (status : List ℕ). proof_text c.args.problem.now status c.args.items.now) c.status_word-status.ensures) c.say_text.ensures.said

@@ -5,7 +5,7 @@ use Rattle.read_problems.specs.Answer.{ending_of}
 use Rattle.read_problems.specs.OtherFaults.{SaysProblemFault}
 use Rattle.read_problems.specs.declared.sources.Source.{Source}
 use Rattle.tptp_commands.proofs.Absences.{refused_so}
-use Rattle.tptp_run.proofs.Proves.{proof_refused, source_proof}
+use Rattle.tptp_run.proofs.Proves.{is_answer, no_three, proof_refused, source_proof}
 use Rattle.tptp_run.proofs.Verifies.{source_same}
 use Rattle.tptp_run.proofs.prove.say_proof.Goals as goal
 
@@ -24,3 +24,9 @@ pub returns-in-Err-clause-absence : goal.returns-in-Err-clause-absence
 returns-in-Err-clause-absence g c =
     let said = λ answer. Rose (g.S.Store.absents c.args.store.now) (g.S.Store.absents c.read_source.new.store) ⊎ SaysProblemFault (g.S.Store.files c.args.store.now) (option_copied c.args.root) c.args.problem.now (ending_of answer) in
     refused_so Source c.in-Err.halt said said (λ answer h. h) c.in-Err.ensures.absence
+
+pub returns-in-Ok-clause-status : goal.returns-in-Ok-clause-status
+returns-in-Ok-clause-status g c = is_answer c.in_ok-say_items.field-0 c.in_ok-say_items.ensures.status
+
+pub returns-in-Ok-clause-absence : goal.returns-in-Ok-clause-absence
+returns-in-Ok-clause-absence g c = no_three c.in_ok-say_items.field-0 _ c.in_ok-say_items.ensures.status
