@@ -1,5 +1,5 @@
 -- What follows where a run that searches for a proof ends with status 0.
-use Rattle.std.proofs.Common.{◌≡◌, inl, inr, ℕ, ◌-◌, true, List, length, Some, Ok, refl, sym, ◌∙◌, ap, subst}
+use Rattle.std.proofs.Common.{◌≡◌, inl, inr, ℕ, ◌-◌, true, List, length, Option, None, Some, Ok, refl, sym, ◌∙◌, ap, subst}
 use Rattle.tptp_base.specs.Store.{Files, file_at}
 use Rattle.tptp_base.specs.Read.{IsOver}
 use Rattle.fof_terms.specs.Vocabulary.{Vocabulary}
