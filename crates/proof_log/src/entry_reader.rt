@@ -1,4 +1,5 @@
 // Entries are read. The room is how deep trees may nest.
+ghost use Rattle.first_fault.specs.code.Reading.{mapped};
 ghost use Rattle.proof_log.specs.code.Names.{decl_name, entry_name, decl_names, entry_names};
 ghost use Rattle.proof_log.specs.code.ReadWords.{number, listed, head, name as a_name};
 ghost use Rattle.proof_log.specs.code.ReadTrees.{behind};
@@ -26,7 +27,8 @@ fn numbers(alloc: Global, text: &mut Cursor<'_>) -> Result<List<u32>, Stop>
     let count = large(text)?;
     let mut found = list_for(alloc, count)?;
     for _ in 0..count {
-        found.push(small(text)?)?;
+        let next = small(text)?;
+        found.push(next)?;
     }
     Ok(found)
 }
@@ -67,19 +69,45 @@ fn entry_before(alloc: Global, text: &mut Cursor<'_>, room: usize) -> Result<Ent
     ensures { Reads (behind (a_name entry_name entry_names) (spec.entry_by room) text.old) result text.new }
 {
     match name(text)? {
-        EntryName::Declare => Ok(Entry::Declare(declaration(alloc, text)?)),
-        EntryName::Lemma => Ok(Entry::Lemma(proof(alloc, text, room)?)),
-        EntryName::Name => {
-            let symbol = small(text)?;
-            let body = form(alloc, text, room)?;
-            Ok(Entry::Name(symbol, body))
-        }
-        EntryName::Choice => {
-            let symbol = small(text)?;
-            let body = form(alloc, text, room)?;
-            Ok(Entry::Choice(symbol, body))
-        }
+        EntryName::Declare => declare(alloc, text),
+        EntryName::Lemma => lemma(alloc, text, room),
+        EntryName::Name => named(alloc, text, room),
+        EntryName::Choice => chosen(alloc, text, room),
     }
+}
+
+// A declaration, behind the entry's name.
+fn declare(alloc: Global, text: &mut Cursor<'_>) -> Result<Entry, Stop>
+    ensures { Reads (mapped (λ found. Entry.Declare found) (spec.declaration text.old)) result text.new }
+{
+    let found = declaration(alloc, text)?;
+    Ok(Entry::Declare(found))
+}
+
+// A lemma, behind the entry's name.
+fn lemma(alloc: Global, text: &mut Cursor<'_>, room: usize) -> Result<Entry, Stop>
+    ensures { Reads (spec.entry_by room EntryName.Lemma text.old) result text.new }
+{
+    let found = proof(alloc, text, room)?;
+    Ok(Entry::Lemma(found))
+}
+
+// A symbol and the formula that it names, behind the entry's name.
+fn named(alloc: Global, text: &mut Cursor<'_>, room: usize) -> Result<Entry, Stop>
+    ensures { Reads (spec.entry_by room EntryName.Name text.old) result text.new }
+{
+    let symbol = small(text)?;
+    let body = form(alloc, text, room)?;
+    Ok(Entry::Name(symbol, body.into_inner()))
+}
+
+// A symbol and the formula that it chooses for, behind the entry's name.
+fn chosen(alloc: Global, text: &mut Cursor<'_>, room: usize) -> Result<Entry, Stop>
+    ensures { Reads (spec.entry_by room EntryName.Choice text.old) result text.new }
+{
+    let symbol = small(text)?;
+    let body = form(alloc, text, room)?;
+    Ok(Entry::Choice(symbol, body.into_inner()))
 }
 
 /// An entry with its line feed.

@@ -7,7 +7,7 @@ ghost use Rattle.proof_log.specs.code.Outcomes.{Reads};
 
 use crate::cursor::Cursor;
 use crate::name::FormName;
-use crate::room::list_for;
+use crate::room::{add, list_for};
 use crate::stop::Stop;
 use crate::term_reader::{term, terms};
 use crate::words::{deep_head, head, large, small};
@@ -18,7 +18,7 @@ use tptp_base::{Boxed, List};
 /// A form.
 #[cycle(form)]
 #[tactic(auto, unfolding(crate::specs::code::ReadTrees::form))]
-pub fn form(alloc: Global, text: &mut Cursor<'_>, room: usize) -> Result<Form, Stop>
+pub fn form(alloc: Global, text: &mut Cursor<'_>, room: usize) -> Result<Boxed<Form>, Stop>
     ensures { Reads (spec.form room text.old) result text.new }
 {
     if room == 0 {
@@ -28,19 +28,9 @@ pub fn form(alloc: Global, text: &mut Cursor<'_>, room: usize) -> Result<Form, S
     }
 }
 
-/// A form in a box.
-#[inline(never)]
-#[cycle(form)]
-pub fn boxed_form(alloc: Global, text: &mut Cursor<'_>, room: usize) -> Result<Boxed<Form>, Stop>
-    ensures { Reads (spec.form room text.old) result text.new }
-{
-    let found = form(alloc, text, room)?;
-    Ok(Boxed::new(alloc, found)?)
-}
-
 // A form whose parts have this room.
 #[cycle(form)]
-fn form_within(alloc: Global, text: &mut Cursor<'_>, room: usize) -> Result<Form, Stop>
+fn form_within(alloc: Global, text: &mut Cursor<'_>, room: usize) -> Result<Boxed<Form>, Stop>
     ensures { Reads (spec.behind (head form_name form_names)
         (spec.form_by (spec.term room) (spec.form room)) text.old) result text.new }
 {
@@ -50,7 +40,12 @@ fn form_within(alloc: Global, text: &mut Cursor<'_>, room: usize) -> Result<Form
 
 // The form of this name.
 #[cycle(form)]
-fn form_of(alloc: Global, text: &mut Cursor<'_>, room: usize, name: FormName) -> Result<Form, Stop>
+fn form_of(
+    alloc: Global,
+    text: &mut Cursor<'_>,
+    room: usize,
+    name: FormName,
+) -> Result<Boxed<Form>, Stop>
     ensures { Reads (spec.form_by (spec.term room) (spec.form room) name text.old) result text.new }
 {
     match name {
@@ -77,92 +72,92 @@ pub fn forms(alloc: Global, text: &mut Cursor<'_>, room: usize) -> Result<List<F
     let mut found = list_for(alloc, count)?;
     for _ in 0..count {
         let next = form(alloc, text, room)?;
-        found.push(next)?;
+        add(&mut found, next)?;
     }
     Ok(found)
 }
 
 #[inline(never)]
-fn atom(alloc: Global, text: &mut Cursor<'_>, room: usize) -> Result<Form, Stop>
+fn atom(alloc: Global, text: &mut Cursor<'_>, room: usize) -> Result<Boxed<Form>, Stop>
     ensures { Reads (spec.form_by (spec.term room) (spec.form room) FormName.Atom text.old) result text.new }
 {
     let symbol = small(text)?;
     let args = terms(alloc, text, room)?;
-    Ok(Form::Atom(symbol, args))
+    Ok(Boxed::new(alloc, Form::Atom(symbol, args))?)
 }
 
 #[inline(never)]
-fn equation(alloc: Global, text: &mut Cursor<'_>, room: usize) -> Result<Form, Stop>
+fn equation(alloc: Global, text: &mut Cursor<'_>, room: usize) -> Result<Boxed<Form>, Stop>
     ensures { Reads (spec.form_by (spec.term room) (spec.form room) FormName.Eq text.old) result text.new }
 {
     let left = term(alloc, text, room)?;
     let right = term(alloc, text, room)?;
-    Ok(Form::Eq(left, right))
+    Ok(Boxed::new(alloc, Form::Eq(left, right))?)
 }
 
 #[inline(never)]
 #[cycle(form)]
-fn negation(alloc: Global, text: &mut Cursor<'_>, room: usize) -> Result<Form, Stop>
+fn negation(alloc: Global, text: &mut Cursor<'_>, room: usize) -> Result<Boxed<Form>, Stop>
     ensures { Reads (spec.form_by (spec.term room) (spec.form room) FormName.Not text.old) result text.new }
 {
-    let body = boxed_form(alloc, text, room)?;
-    Ok(Form::Not(body))
+    let body = form(alloc, text, room)?;
+    Ok(Boxed::new(alloc, Form::Not(body))?)
 }
 
 #[inline(never)]
 #[cycle(form)]
-fn conjunction(alloc: Global, text: &mut Cursor<'_>, room: usize) -> Result<Form, Stop>
+fn conjunction(alloc: Global, text: &mut Cursor<'_>, room: usize) -> Result<Boxed<Form>, Stop>
     ensures { Reads (spec.form_by (spec.term room) (spec.form room) FormName.And text.old) result text.new }
 {
     let members = forms(alloc, text, room)?;
-    Ok(Form::And(members))
+    Ok(Boxed::new(alloc, Form::And(members))?)
 }
 
 #[inline(never)]
 #[cycle(form)]
-fn disjunction(alloc: Global, text: &mut Cursor<'_>, room: usize) -> Result<Form, Stop>
+fn disjunction(alloc: Global, text: &mut Cursor<'_>, room: usize) -> Result<Boxed<Form>, Stop>
     ensures { Reads (spec.form_by (spec.term room) (spec.form room) FormName.Or text.old) result text.new }
 {
     let members = forms(alloc, text, room)?;
-    Ok(Form::Or(members))
+    Ok(Boxed::new(alloc, Form::Or(members))?)
 }
 
 #[inline(never)]
 #[cycle(form)]
-fn implication(alloc: Global, text: &mut Cursor<'_>, room: usize) -> Result<Form, Stop>
+fn implication(alloc: Global, text: &mut Cursor<'_>, room: usize) -> Result<Boxed<Form>, Stop>
     ensures { Reads (spec.form_by (spec.term room) (spec.form room) FormName.Imp text.old) result text.new }
 {
-    let left = boxed_form(alloc, text, room)?;
-    let right = boxed_form(alloc, text, room)?;
-    Ok(Form::Imp(left, right))
+    let left = form(alloc, text, room)?;
+    let right = form(alloc, text, room)?;
+    Ok(Boxed::new(alloc, Form::Imp(left, right))?)
 }
 
 #[inline(never)]
 #[cycle(form)]
-fn equivalence(alloc: Global, text: &mut Cursor<'_>, room: usize) -> Result<Form, Stop>
+fn equivalence(alloc: Global, text: &mut Cursor<'_>, room: usize) -> Result<Boxed<Form>, Stop>
     ensures { Reads (spec.form_by (spec.term room) (spec.form room) FormName.Iff text.old) result text.new }
 {
-    let left = boxed_form(alloc, text, room)?;
-    let right = boxed_form(alloc, text, room)?;
-    Ok(Form::Iff(left, right))
+    let left = form(alloc, text, room)?;
+    let right = form(alloc, text, room)?;
+    Ok(Boxed::new(alloc, Form::Iff(left, right))?)
 }
 
 #[inline(never)]
 #[cycle(form)]
-fn for_all(alloc: Global, text: &mut Cursor<'_>, room: usize) -> Result<Form, Stop>
+fn for_all(alloc: Global, text: &mut Cursor<'_>, room: usize) -> Result<Boxed<Form>, Stop>
     ensures { Reads (spec.form_by (spec.term room) (spec.form room) FormName.All text.old) result text.new }
 {
     let sort = small(text)?;
-    let body = boxed_form(alloc, text, room)?;
-    Ok(Form::All(sort, body))
+    let body = form(alloc, text, room)?;
+    Ok(Boxed::new(alloc, Form::All(sort, body))?)
 }
 
 #[inline(never)]
 #[cycle(form)]
-fn exists(alloc: Global, text: &mut Cursor<'_>, room: usize) -> Result<Form, Stop>
+fn exists(alloc: Global, text: &mut Cursor<'_>, room: usize) -> Result<Boxed<Form>, Stop>
     ensures { Reads (spec.form_by (spec.term room) (spec.form room) FormName.Ex text.old) result text.new }
 {
     let sort = small(text)?;
-    let body = boxed_form(alloc, text, room)?;
-    Ok(Form::Ex(sort, body))
+    let body = form(alloc, text, room)?;
+    Ok(Boxed::new(alloc, Form::Ex(sort, body))?)
 }

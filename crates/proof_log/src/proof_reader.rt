@@ -6,7 +6,7 @@ ghost use Rattle.proof_log.specs.code.ReadTrees as spec;
 ghost use Rattle.proof_log.specs.code.Outcomes.{Reads};
 
 use crate::cursor::Cursor;
-use crate::form_reader::{boxed_form, forms};
+use crate::form_reader::{form, forms};
 use crate::name::ProofName;
 use crate::room::list_for;
 use crate::stop::Stop;
@@ -157,7 +157,7 @@ fn or_elim(alloc: Global, text: &mut Cursor<'_>, room: usize) -> Result<Proof, S
     ensures { Reads (spec.proof_by (spec.term room) (spec.form room)
         (spec.proof room) ProofName.OrE text.old) result text.new }
 {
-    let goal = boxed_form(alloc, text, room)?;
+    let goal = form(alloc, text, room)?;
     let part = boxed_proof(alloc, text, room)?;
     let cases = proofs(alloc, text, room)?;
     Ok(Proof::OrE(goal, part, cases))
@@ -169,7 +169,7 @@ fn implies_intro(alloc: Global, text: &mut Cursor<'_>, room: usize) -> Result<Pr
     ensures { Reads (spec.proof_by (spec.term room) (spec.form room)
         (spec.proof room) ProofName.ImpI text.old) result text.new }
 {
-    let form = boxed_form(alloc, text, room)?;
+    let form = form(alloc, text, room)?;
     let part = boxed_proof(alloc, text, room)?;
     Ok(Proof::ImpI(form, part))
 }
@@ -191,7 +191,7 @@ fn not_intro(alloc: Global, text: &mut Cursor<'_>, room: usize) -> Result<Proof,
     ensures { Reads (spec.proof_by (spec.term room) (spec.form room)
         (spec.proof room) ProofName.NotI text.old) result text.new }
 {
-    let form = boxed_form(alloc, text, room)?;
+    let form = form(alloc, text, room)?;
     let part = boxed_proof(alloc, text, room)?;
     Ok(Proof::NotI(form, part))
 }
@@ -213,7 +213,7 @@ fn by_contradiction(alloc: Global, text: &mut Cursor<'_>, room: usize) -> Result
     ensures { Reads (spec.proof_by (spec.term room) (spec.form room)
         (spec.proof room) ProofName.Raa text.old) result text.new }
 {
-    let form = boxed_form(alloc, text, room)?;
+    let form = form(alloc, text, room)?;
     let part = boxed_proof(alloc, text, room)?;
     Ok(Proof::Raa(form, part))
 }
@@ -224,8 +224,8 @@ fn iff_intro(alloc: Global, text: &mut Cursor<'_>, room: usize) -> Result<Proof,
     ensures { Reads (spec.proof_by (spec.term room) (spec.form room)
         (spec.proof room) ProofName.IffI text.old) result text.new }
 {
-    let left = boxed_form(alloc, text, room)?;
-    let right = boxed_form(alloc, text, room)?;
+    let left = form(alloc, text, room)?;
+    let right = form(alloc, text, room)?;
     let forth = boxed_proof(alloc, text, room)?;
     let back = boxed_proof(alloc, text, room)?;
     Ok(Proof::IffI(left, right, forth, back))
@@ -282,7 +282,7 @@ fn exists_intro(alloc: Global, text: &mut Cursor<'_>, room: usize) -> Result<Pro
         (spec.proof room) ProofName.ExI text.old) result text.new }
 {
     let sort = small(text)?;
-    let form = boxed_form(alloc, text, room)?;
+    let form = form(alloc, text, room)?;
     let term = boxed_term(alloc, text, room)?;
     let part = boxed_proof(alloc, text, room)?;
     Ok(Proof::ExI(sort, form, term, part))
@@ -294,7 +294,7 @@ fn exists_elim(alloc: Global, text: &mut Cursor<'_>, room: usize) -> Result<Proo
     ensures { Reads (spec.proof_by (spec.term room) (spec.form room)
         (spec.proof room) ProofName.ExE text.old) result text.new }
 {
-    let goal = boxed_form(alloc, text, room)?;
+    let goal = form(alloc, text, room)?;
     let left = boxed_proof(alloc, text, room)?;
     let right = boxed_proof(alloc, text, room)?;
     Ok(Proof::ExE(goal, left, right))
@@ -316,7 +316,7 @@ fn substitution(alloc: Global, text: &mut Cursor<'_>, room: usize) -> Result<Pro
         (spec.proof room) ProofName.Subst text.old) result text.new }
 {
     let sort = small(text)?;
-    let form = boxed_form(alloc, text, room)?;
+    let form = form(alloc, text, room)?;
     let left = boxed_proof(alloc, text, room)?;
     let right = boxed_proof(alloc, text, room)?;
     Ok(Proof::Subst(sort, form, left, right))
@@ -329,7 +329,7 @@ fn inhabited(alloc: Global, text: &mut Cursor<'_>, room: usize) -> Result<Proof,
         (spec.proof room) ProofName.Inhabit text.old) result text.new }
 {
     let sort = small(text)?;
-    let goal = boxed_form(alloc, text, room)?;
+    let goal = form(alloc, text, room)?;
     let part = boxed_proof(alloc, text, room)?;
     Ok(Proof::Inhabit(sort, goal, part))
 }

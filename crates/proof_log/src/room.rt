@@ -1,9 +1,9 @@
-// Lists whose length is written before their members. The function is not inlined, so that those that read trees, of which
+// Lists whose length is written before their members. Neither function is inlined, so that those that read trees, of which
 // as many calls may be open as trees may nest, take little stack.
-ghost use Rattle.std.specs.Prelude.{◌≡◌, [], IfOk};
+ghost use Rattle.std.specs.Prelude.{◌≡◌, [], ◌∷◌, ◌++◌, IfOk, OnOk};
 
 use std::alloc::{AllocError, Global};
-use tptp_base::List;
+use tptp_base::{Boxed, List};
 
 // The greatest number of members for which there is room at once: a text may name a length and have no such members.
 const FIRST_ROOM: u64 = 4;
@@ -15,4 +15,12 @@ pub fn list_for<T: Drop>(alloc: Global, count: u64) -> Result<List<T>, AllocErro
 {
     let room = count.min(FIRST_ROOM);
     Ok(List::from_vec(Vec::with_capacity(alloc, room as usize)?))
+}
+
+/// Appends a member.
+#[inline(never)]
+pub fn add<T: Drop>(found: &mut List<T>, member: Boxed<T>) -> Result<(), AllocError>
+    ensures { OnOk result (found.new ≡ found.old ++ member ∷ []) }
+{
+    found.push(member.into_inner())
 }

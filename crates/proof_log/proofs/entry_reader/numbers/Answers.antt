@@ -6,15 +6,15 @@ use Rattle.proof_log.proofs.entry_reader.numbers.Goals as goal
 pub loop-init : goal.loop-init
 loop-init c = subst (λ xs. Kept (number 4294967295) c.in_ok-count.count c.large.new.text xs 0 c.large.new.text) (sym c.in_ok-found.ensures) (kept_first (number 4294967295) c.in_ok-count.count c.large.new.text)
 
-pub returns-in_err-small : goal.returns-in_err-small
-returns-in_err-small c =
-    let f = kept_fails (number 4294967295) c.in_ok-count.count c.large.new.text c.args.text.now c.in_ok-count.ensures c.loop.found c.loop.counter c.loop.text c.loop-test.true c.loop.invariant c.in_err-small.field-0.0 c.small.new.text c.in_err-small.ensures in
+pub returns-in_err-next : goal.returns-in_err-next
+returns-in_err-next c =
+    let f = kept_fails (number 4294967295) c.in_ok-count.count c.large.new.text c.args.text.now c.in_ok-count.ensures c.loop.found c.loop.counter c.loop.text c.loop-test.true c.loop.invariant c.in_err-next.field-0.0 c.small.new.text c.in_err-next.ensures in
     search rules
 
 pub loop-preserved : goal.loop-preserved
 loop-preserved c =
     subst (λ xs. Kept (number 4294967295) c.in_ok-count.count c.large.new.text xs (c.loop.counter + 1) c.small.new.text) (sym c.in_ok-push.ensures.ok)
-    (kept_more (number 4294967295) c.in_ok-count.count c.large.new.text c.loop.found c.loop.counter c.loop.text c.in_ok-small.field-0 c.small.new.text c.loop-test.true c.loop.invariant c.in_ok-small.ensures)
+    (kept_more (number 4294967295) c.in_ok-count.count c.large.new.text c.loop.found c.loop.counter c.loop.text c.in_ok-next.next c.small.new.text c.loop-test.true c.loop.invariant c.in_ok-next.ensures)
 
 pub returns : goal.returns
 returns c = kept_all (number 4294967295) c.in_ok-count.count c.large.new.text c.args.text.now c.in_ok-count.ensures c.loop.found c.loop.counter c.loop.text c.loop-test.false c.loop.invariant

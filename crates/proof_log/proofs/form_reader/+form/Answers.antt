@@ -17,7 +17,7 @@ forms-returns-in_err-next t c =
 
 pub forms-loop-preserved : goal.forms-loop-preserved
 forms-loop-preserved t c =
-    subst (λ xs. Kept (spec.form c.args.room) c.in_ok-count.count c.large.new.text xs (c.loop.counter + 1) c.form.new.text) (sym c.in_ok-push.ensures.ok)
+    subst (λ xs. Kept (spec.form c.args.room) c.in_ok-count.count c.large.new.text xs (c.loop.counter + 1) c.form.new.text) (sym c.in_ok-add.ensures)
     (kept_more (spec.form c.args.room) c.in_ok-count.count c.large.new.text c.loop.found c.loop.counter c.loop.text c.in_ok-next.next c.form.new.text c.loop-test.true c.loop.invariant c.in_ok-next.ensures)
 
 pub forms-returns : goal.forms-returns

@@ -7,9 +7,6 @@ use Rattle.proof_log.proofs.form_reader.+form.Given as goal
 abbrev pub decreases-form : goal.decreases-form
 decreases-form l = 5 * l.room
 
-abbrev pub decreases-boxed_form : goal.decreases-boxed_form
-decreases-boxed_form l = 5 * l.room + 1
-
 abbrev pub decreases-forms : goal.decreases-forms
 decreases-forms l = 5 * l.room + 1
 
