@@ -12,10 +12,18 @@ use Rattle.read_problems.specs.Ending.{Ending, says, over_limit}
 abbrev pub line_end : List ℕ → List ℕ
 line_end file = codes " for " ++ text_line file
 
--- the text of a derivation between lines that name the status and the file
+-- a line that says this and names the file
+abbrev pub szs_line : List ℕ → List ℕ → List ℕ
+szs_line file what = what ++ line_end file
+
+-- the line that names the status and the file
+abbrev pub status_line : List ℕ → List ℕ → List ℕ
+status_line file status = codes "% SZS status " ++ (status ++ line_end file)
+
+-- the text of a derivation between such lines
 abbrev pub between_lines : List ℕ → List ℕ → List ℕ → List ℕ
 between_lines file status derivation =
-    codes "% SZS status " ++ (status ++ (line_end file ++ (codes "% SZS output start CNFRefutation" ++ (line_end file ++ (derivation ++ (codes "% SZS output end CNFRefutation" ++ line_end file))))))
+    status_line file status ++ (szs_line file (codes "% SZS output start CNFRefutation") ++ (derivation ++ szs_line file (codes "% SZS output end CNFRefutation")))
 
 -- The items of a derivation from the problem in the file, whose status is that word. In the name of the file a question
 -- mark stands for each byte that no line can hold.

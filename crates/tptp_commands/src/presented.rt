@@ -31,15 +31,28 @@ fn between_lines(
     ensures { IfOk result (λ text. text.items ≡ spec.between_lines file.now status.now derivation.now) }
 {
     let mut text = Vec::new(alloc);
+    put_status(&mut text, file, status)?;
+    put_line(&mut text, file, b"% SZS output start CNFRefutation")?;
+    text.extend_from_slice(derivation)?;
+    put_line(&mut text, file, b"% SZS output end CNFRefutation")?;
+    Ok(text)
+}
+
+// The line that names the status and the file.
+fn put_status(text: &mut Vec<u8>, file: &[u8], status: &[u8]) -> Result<(), AllocError>
+    ensures { OnOk result (text.new.items ≡ text.old.items ++ spec.status_line file.now status.now) }
+{
     text.extend_from_slice(b"% SZS status ")?;
     text.extend_from_slice(status)?;
-    end_line(&mut text, file)?;
-    text.extend_from_slice(b"% SZS output start CNFRefutation")?;
-    end_line(&mut text, file)?;
-    text.extend_from_slice(derivation)?;
-    text.extend_from_slice(b"% SZS output end CNFRefutation")?;
-    end_line(&mut text, file)?;
-    Ok(text)
+    end_line(text, file)
+}
+
+// A line that says this and names the file.
+fn put_line(text: &mut Vec<u8>, file: &[u8], what: &[u8]) -> Result<(), AllocError>
+    ensures { OnOk result (text.new.items ≡ text.old.items ++ spec.szs_line file.now what.now) }
+{
+    text.extend_from_slice(what)?;
+    end_line(text, file)
 }
 
 // The end of a line that names the file.
