@@ -18,12 +18,15 @@ szs_line file what = what ++ line_end file
 
 -- the line that names the status and the file
 abbrev pub status_line : List ℕ → List ℕ → List ℕ
-status_line file status = codes "% SZS status " ++ (status ++ line_end file)
+status_line file status = szs_line file (codes "% SZS status " ++ status)
+
+-- the lines before a derivation
+abbrev pub head : List ℕ → List ℕ → List ℕ
+head file status = status_line file status ++ szs_line file (codes "% SZS output start CNFRefutation")
 
 -- the text of a derivation between such lines
 abbrev pub between_lines : List ℕ → List ℕ → List ℕ → List ℕ
-between_lines file status derivation =
-    status_line file status ++ (szs_line file (codes "% SZS output start CNFRefutation") ++ (derivation ++ szs_line file (codes "% SZS output end CNFRefutation")))
+between_lines file status derivation = head file status ++ (derivation ++ szs_line file (codes "% SZS output end CNFRefutation"))
 
 -- The items of a derivation from the problem in the file, whose status is that word. In the name of the file a question
 -- mark stands for each byte that no line can hold.

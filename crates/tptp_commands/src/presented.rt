@@ -30,11 +30,19 @@ fn between_lines(
 ) -> Result<Vec<u8>, AllocError>
     ensures { IfOk result (λ text. text.items ≡ spec.between_lines file.now status.now derivation.now) }
 {
+    let mut text = head(alloc, file, status)?;
+    text.extend_from_slice(derivation)?;
+    put_line(&mut text, file, b"% SZS output end CNFRefutation")?;
+    Ok(text)
+}
+
+// The lines before a derivation.
+fn head(alloc: Global, file: &[u8], status: &[u8]) -> Result<Vec<u8>, AllocError>
+    ensures { IfOk result (λ text. text.items ≡ spec.head file.now status.now) }
+{
     let mut text = Vec::new(alloc);
     put_status(&mut text, file, status)?;
     put_line(&mut text, file, b"% SZS output start CNFRefutation")?;
-    text.extend_from_slice(derivation)?;
-    put_line(&mut text, file, b"% SZS output end CNFRefutation")?;
     Ok(text)
 }
 
@@ -42,9 +50,17 @@ fn between_lines(
 fn put_status(text: &mut Vec<u8>, file: &[u8], status: &[u8]) -> Result<(), AllocError>
     ensures { OnOk result (text.new.items ≡ text.old.items ++ spec.status_line file.now status.now) }
 {
-    text.extend_from_slice(b"% SZS status ")?;
-    text.extend_from_slice(status)?;
+    put_both(text, b"% SZS status ", status)?;
     end_line(text, file)
+}
+
+// Two texts, one behind the other.
+fn put_both(text: &mut Vec<u8>, first: &[u8], second: &[u8]) -> Result<(), AllocError>
+    ensures { OnOk result (text.new.items ≡ text.old.items ++ (first.now ++ second.now)) }
+{
+    text.extend_from_slice(first)?;
+    text.extend_from_slice(second)?;
+    Ok(())
 }
 
 // A line that says this and names the file.
