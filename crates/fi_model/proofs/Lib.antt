@@ -1,3 +1,4 @@
+pub mod ArgumentFacts
 pub mod CellFacts
 pub mod DomainFacts
 pub mod DomainLoops

@@ -9,7 +9,7 @@ use Rattle.fi_model.specs.Sentences.{all_there}
 pub at_member : {X : Type 0} (xs : List X) (i : ℕ) (x : X) → i < length xs → x ≡ get_or xs i x → drop i xs ≡ x ∷ drop (i + 1) xs
 at_member xs i x lt is = rw add-one (drop-cons xs i x lt ∙ ap (λ y. y ∷ drop (suc i) xs) (sym is))
 
-some_of : {X : Type 0} (y : X) (xs : Option (List X)) (ys : List X) → option_map (λ zs. y ∷ zs) xs ≡ Some ys → (zs : List X) × (xs ≡ Some zs) × (ys ≡ y ∷ zs)
+pub some_of : {X : Type 0} (y : X) (xs : Option (List X)) (ys : List X) → option_map (λ zs. y ∷ zs) xs ≡ Some ys → (zs : List X) × (xs ≡ Some zs) × (ys ≡ y ∷ zs)
 some_of y None ys e = cc
 some_of y (Some zs) ys e = (zs, refl, cc)
 

@@ -1,6 +1,7 @@
 -- The rows of entries one by one.
 use Rattle.std.proofs.Common.{◌≡◌, ℕ, zero, suc, ◌+◌, ◌<◌, ◌≤◌, Bool, true, false, List, [], ◌∷◌, ◌++◌, length, take, drop, get_or, Option, Some, None, Result, Ok, Err, refl, sym, ◌∙◌, ap, subst, append_assoc, arith}
-use Rattle.std.specs.Option.{option_map}
+use Rattle.std.specs.Prelude.{slice_get}
+use Rattle.std.specs.Option.{option_map, option_and_then}
 use Rattle.std.proofs.lemmas.List.{append-nil, drop_all}
 use Rattle.std.proofs.lemmas.Option.{slice_get_read}
 use Rattle.fof_terms.specs.Vocabulary.{Vocabulary}
@@ -170,22 +171,26 @@ module _ (elements : List (List Text)) where
   uneven_places (s ∷ sorts) [] h = refl
   uneven_places (s ∷ sorts) (e ∷ es) h = rw (uneven_places sorts es (λ same. h (omega (arith, same)))) (both_nothing (λ x xs. x ∷ xs) (place elements s e.name))
 
-  pub place_misses : (sorts : List ℕ) (es : List Element) (i : ℕ) (e : Element) → i < length sorts → i < length es → e ≡ get_or es i e → place elements (get_or sorts i 0) e.name ≡ None → places elements sorts es ≡ None
-  place_misses [] es i e l m is none = absurd (omega arith)
-  place_misses (s ∷ sorts) [] i e l m is none = absurd (omega arith)
-  place_misses (s ∷ sorts) (d ∷ es) zero e l m is none = let here : place elements s d.name ≡ None = rw is at none in rw here refl
-  place_misses (s ∷ sorts) (d ∷ es) (suc i) e l m is none = rw (place_misses sorts es i e (omega arith) (omega arith) is none) (both_nothing (λ x xs. x ∷ xs) (place elements s d.name))
+  -- the place of what may be an element
+  abbrev pub place_there : ℕ → Option Element → Option ℕ
+  place_there sort e = option_and_then (λ (d : Element). place elements sort d.name) e
 
-  pub places_more : (sorts : List ℕ) (es : List Element) (i : ℕ) (e : Element) (x : ℕ) (xs : List ℕ) → i < length sorts → i < length es → e ≡ get_or es i e → place elements (get_or sorts i 0) e.name ≡ Some x
-      → places elements (take i sorts) (take i es) ≡ Some xs → places elements (take (i + 1) sorts) (take (i + 1) es) ≡ Some (xs ++ x ∷ [])
-  places_more [] es i e x xs l m is some before = absurd (omega arith)
-  places_more (s ∷ sorts) [] i e x xs l m is some before = absurd (omega arith)
-  places_more (s ∷ sorts) (d ∷ es) zero e x xs l m is some before =
-      let here : place elements s d.name ≡ Some x = rw is at some in
+  pub place_misses : (sorts : List ℕ) (es : List Element) (i : ℕ) → i < length sorts → i < length es → place_there (get_or sorts i 0) (slice_get es i) ≡ None → places elements sorts es ≡ None
+  place_misses [] es i l m none = absurd (omega arith)
+  place_misses (s ∷ sorts) [] i l m none = absurd (omega arith)
+  place_misses (s ∷ sorts) (d ∷ es) zero l m none = let here : place elements s d.name ≡ None = none in rw here refl
+  place_misses (s ∷ sorts) (d ∷ es) (suc i) l m none = rw (place_misses sorts es i (omega arith) (omega arith) none) (both_nothing (λ x xs. x ∷ xs) (place elements s d.name))
+
+  pub places_more : (sorts : List ℕ) (es : List Element) (i x : ℕ) (xs : List ℕ) → i < length sorts → i < length es → place_there (get_or sorts i 0) (slice_get es i) ≡ Some x → places elements (take i sorts) (take i es) ≡ Some xs
+      → places elements (take (i + 1) sorts) (take (i + 1) es) ≡ Some (xs ++ x ∷ [])
+  places_more [] es i x xs l m some before = absurd (omega arith)
+  places_more (s ∷ sorts) [] i x xs l m some before = absurd (omega arith)
+  places_more (s ∷ sorts) (d ∷ es) zero x xs l m some before =
+      let here : place elements s d.name ≡ Some x = some in
       let none : xs ≡ [] = cc in
       rw (here, none) refl
-  places_more (s ∷ sorts) (d ∷ es) (suc i) e x xs l m is some before =
+  places_more (s ∷ sorts) (d ∷ es) (suc i) x xs l m some before =
       let parts = cons_of (place elements s d.name) (places elements (take i sorts) (take i es)) xs before in
-      let rest = places_more sorts es i e x parts.1 (omega arith) (omega arith) is some parts.3 in
+      let rest = places_more sorts es i x parts.1 (omega arith) (omega arith) some parts.3 in
       let next : suc i + 1 ≡ suc (i + 1) = omega arith in
       rw next (longer (place elements s d.name) (places elements (take (i + 1) sorts) (take (i + 1) es)) parts.0 x parts.1 xs parts.2 rest parts.4)

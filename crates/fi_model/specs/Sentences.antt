@@ -50,6 +50,11 @@ all_there [] = Some []
 all_there (None ∷ xs) = None
 all_there (Some x ∷ xs) = option_map (λ ys. x ∷ ys) (all_there xs)
 
+-- those that are there, and none where they are not
+abbrev pub or_none : {X : Type 0} → Option (List X) → List X
+or_none None = []
+or_none (Some xs) = xs
+
 abbrev pub alone : {X : Type 0} → X → List X
 alone x = x ∷ []
 

@@ -7,11 +7,12 @@ use crate::distinct::is_distinct;
 use crate::sentence::{Domain, Element};
 use crate::terms::element;
 use std::alloc::Global;
-use tptp_base::{BoundVar, List, Memory, Quant, STerm, SortName, Surface, Text};
+use tptp_base::{BoundVar, List, Memory, Quant, STerm, SortName, Surface};
+use tptp_lexer::Word;
 
 /// The domain that a formula states.
 #[tactic(auto, using(crate::proofs::Layers::form_layers))]
-pub fn domain(alloc: Global, form: &Surface) -> Result<Option<Domain>, Memory>
+pub fn domain(alloc: Global, form: &Surface) -> Result<Option<Domain<'_>>, Memory>
     ensures { IfOk result (λ found. found ≡ spec.domain form.now) }
 {
     match form {
@@ -31,12 +32,12 @@ pub fn domain(alloc: Global, form: &Surface) -> Result<Option<Domain>, Memory>
 }
 
 // The domain that the body states of what is bound.
-fn bound(
+fn bound<'a>(
     alloc: Global,
     quant: Quant,
-    variables: &[BoundVar],
-    body: &Surface,
-) -> Result<Option<Domain>, Memory>
+    variables: &'a [BoundVar],
+    body: &'a Surface,
+) -> Result<Option<Domain<'a>>, Memory>
     ensures { IfOk result (λ found. found ≡ spec.bound quant variables.now body.now) }
 {
     match quant {
@@ -49,10 +50,14 @@ fn bound(
 }
 
 // The domain that the body states of the variable.
-fn domain_of(alloc: Global, variable: &BoundVar, body: &Surface) -> Result<Option<Domain>, Memory>
+fn domain_of<'a>(
+    alloc: Global,
+    variable: &'a BoundVar,
+    body: &'a Surface,
+) -> Result<Option<Domain<'a>>, Memory>
     ensures { IfOk result (λ found. found ≡ spec.domain_of variable.now body.now) }
 {
-    let Some(sort) = bound_sort(alloc, &variable.sort)? else {
+    let Some(sort) = bound_sort(&variable.sort) else {
         return Ok(None);
     };
     match choices(alloc, variable.name.as_slice(), body)? {
@@ -62,31 +67,35 @@ fn domain_of(alloc: Global, variable: &BoundVar, body: &Surface) -> Result<Optio
 }
 
 // The sort of a bound variable.
-fn bound_sort(alloc: Global, sort: &Option<SortName>) -> Result<Option<Option<Text>>, Memory>
-    ensures { IfOk result (λ found. found ≡ spec.bound_sort sort.now) }
+fn bound_sort(sort: &Option<SortName>) -> Option<Option<Word<'_>>>
+    ensures { result ≡ spec.bound_sort sort.now }
 {
     match sort {
-        None => Ok(Some(None)),
-        Some(SortName::Individual) => Ok(Some(None)),
-        Some(SortName::Truth) => Ok(None),
-        Some(SortName::Word(word)) => word_sort(alloc, word.as_slice()),
+        None => Some(None),
+        Some(SortName::Individual) => Some(None),
+        Some(SortName::Truth) => None,
+        Some(SortName::Word(word)) => word_sort(word.as_slice()),
     }
 }
 
 // The sort of this name.
-fn word_sort(alloc: Global, word: &[u8]) -> Result<Option<Option<Text>>, Memory>
-    ensures { IfOk result (λ found. found ≡ spec.word_sort word.now) }
+fn word_sort(word: &[u8]) -> Option<Option<Word<'_>>>
+    ensures { result ≡ spec.word_sort word.now }
 {
     if is_distinct(word) {
-        Ok(None)
+        None
     } else {
-        Ok(Some(Some(Text::from_slice(alloc, word)?)))
+        Some(Some(Word::new(word)))
     }
 }
 
 // The elements that a formula leaves to the variable.
 #[tactic(auto, using(crate::proofs::Layers::form_layers))]
-fn choices(alloc: Global, name: &[u8], form: &Surface) -> Result<Option<List<Element>>, Memory>
+fn choices<'a>(
+    alloc: Global,
+    name: &[u8],
+    form: &'a Surface,
+) -> Result<Option<List<Element<'a>>>, Memory>
     ensures { IfOk result (λ found. found ≡ spec.choices name.now form.now) }
 {
     match form {
@@ -104,10 +113,14 @@ fn choices(alloc: Global, name: &[u8], form: &Surface) -> Result<Option<List<Ele
 }
 
 // The element that a formula leaves to the variable, as a list.
-fn one_choice(alloc: Global, name: &[u8], form: &Surface) -> Result<Option<List<Element>>, Memory>
+fn one_choice<'a>(
+    alloc: Global,
+    name: &[u8],
+    form: &'a Surface,
+) -> Result<Option<List<Element<'a>>>, Memory>
     ensures { IfOk result (λ found. found ≡ option_map spec.alone (spec.choice name.now form.now)) }
 {
-    match choice(alloc, name, form)? {
+    match choice(name, form) {
         Some(element) => {
             let mut elements = List::new(alloc);
             elements.push(element)?;
@@ -118,16 +131,16 @@ fn one_choice(alloc: Global, name: &[u8], form: &Surface) -> Result<Option<List<
 }
 
 // The elements that formulas leave to the variable, where each leaves one.
-fn all_choices(
+fn all_choices<'a>(
     alloc: Global,
     name: &[u8],
-    forms: &[Surface],
-) -> Result<Option<List<Element>>, Memory>
+    forms: &'a [Surface],
+) -> Result<Option<List<Element<'a>>>, Memory>
     ensures { IfOk result (λ found. found ≡ spec.all_there (map (spec.choice name.now) forms.now)) }
 {
     let mut found = List::new(alloc);
     for form in forms {
-        match choice(alloc, name, form)? {
+        match choice(name, form) {
             Some(element) => found.push(element)?,
             None => return Ok(None),
         }
@@ -137,11 +150,11 @@ fn all_choices(
 
 // The element that an equation with the variable leaves to it.
 #[tactic(auto, using(crate::proofs::Layers::form_layers))]
-fn choice(alloc: Global, name: &[u8], form: &Surface) -> Result<Option<Element>, Memory>
-    ensures { IfOk result (λ found. found ≡ spec.choice name.now form.now) }
+fn choice<'a>(name: &[u8], form: &'a Surface) -> Option<Element<'a>>
+    ensures { result ≡ spec.choice name.now form.now }
 {
     match form {
-        Surface::Eq(left, right) => either_side(alloc, name, left, right),
+        Surface::Eq(left, right) => either_side(name, left, right),
         Surface::True
         | Surface::False
         | Surface::Atom(_, _)
@@ -150,25 +163,20 @@ fn choice(alloc: Global, name: &[u8], form: &Surface) -> Result<Option<Element>,
         | Surface::And(_)
         | Surface::Or(_)
         | Surface::Binary(_, _, _)
-        | Surface::Bind(_, _, _) => Ok(None),
+        | Surface::Bind(_, _, _) => None,
     }
 }
 
 // The side that is not the variable.
-fn either_side(
-    alloc: Global,
-    name: &[u8],
-    left: &STerm,
-    right: &STerm,
-) -> Result<Option<Element>, Memory>
-    ensures { IfOk result (λ found. found ≡ spec.either_side name.now left.now right.now) }
+fn either_side<'a>(name: &[u8], left: &'a STerm, right: &'a STerm) -> Option<Element<'a>>
+    ensures { result ≡ spec.either_side name.now left.now right.now }
 {
     if is_variable(name, left) {
-        element(alloc, right)
+        element(right)
     } else if is_variable(name, right) {
-        element(alloc, left)
+        element(left)
     } else {
-        Ok(None)
+        None
     }
 }
 

@@ -10,12 +10,13 @@ use crate::sentence::{Domain, Element, Sentence, What};
 use fof_terms::{Signature, SortId};
 use std::alloc::Global;
 use tptp_base::{List, Memory, Text};
+use tptp_lexer::Word;
 
 /// The elements of each sort of the signature, as the sentences state them.
 pub fn domains(
     alloc: Global,
     signature: &Signature,
-    said: &[Sentence],
+    said: &[Sentence<'_>],
 ) -> Result<List<Elements>, ModelFault>
     ensures are { IfOk result (λ found. spec.AreDomains signature.now (spec.domains said.now) found) }
     ensures fault { IfErr result (λ fault. spec_code.IsOfDomains signature.now (spec.domains said.now) fault) }
@@ -45,7 +46,7 @@ fn empty_slots(alloc: Global, count: u32) -> Result<List<Elements>, Memory>
 fn take_sentence(
     alloc: Global,
     signature: &Signature,
-    sentence: &Sentence,
+    sentence: &Sentence<'_>,
     slots: &mut List<Elements>,
 ) -> Result<(), ModelFault>
     requires { length slots.old ≡ length signature.now.sorts }
@@ -63,7 +64,7 @@ fn take_sentence(
 fn take_domain(
     alloc: Global,
     signature: &Signature,
-    domain: &Domain,
+    domain: &Domain<'_>,
     slots: &mut List<Elements>,
 ) -> Result<(), ModelFault>
     requires { length slots.old ≡ length signature.now.sorts }
@@ -84,7 +85,7 @@ fn take_domain(
 }
 
 // The number of the sort of that name.
-fn sort_number(signature: &Signature, sort: &Option<Text>) -> Option<SortId>
+fn sort_number(signature: &Signature, sort: &Option<Word<'_>>) -> Option<SortId>
     ensures { result ≡ spec.sort_number signature.now sort.now }
 {
     match sort {
@@ -107,7 +108,7 @@ fn open_slot(slots: &[Elements], sort: Option<SortId>) -> Option<usize>
 }
 
 // The elements of a domain, if there are some, and each once.
-fn elements(alloc: Global, stated: &[Element]) -> Result<Option<Elements>, Memory>
+fn elements(alloc: Global, stated: &[Element<'_>]) -> Result<Option<Elements>, Memory>
     ensures { IfOk result (λ found. found ≡ spec_code.good_elements (map (λ e. e.name) stated.now)) }
 {
     let mut elements = Elements::new(alloc);
@@ -131,7 +132,7 @@ fn first_empty(slots: &[Elements]) -> Option<usize>
 }
 
 // The fault of the domain of a sort of that name.
-fn wrong_domain(alloc: Global, sort: &Option<Text>) -> ModelFault
+fn wrong_domain(alloc: Global, sort: &Option<Word<'_>>) -> ModelFault
     ensures { spec_code.IsWrongDomain sort.now result }
 {
     match sort_text(alloc, sort) {
@@ -141,7 +142,7 @@ fn wrong_domain(alloc: Global, sort: &Option<Text>) -> ModelFault
 }
 
 // The name of a sort.
-fn sort_text(alloc: Global, sort: &Option<Text>) -> Result<Text, Memory>
+fn sort_text(alloc: Global, sort: &Option<Word<'_>>) -> Result<Text, Memory>
     ensures { IfOk result (λ name. name ≡ spec_code.sort_text sort.now) }
 {
     match sort {

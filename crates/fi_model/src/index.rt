@@ -68,7 +68,7 @@ fn key_of(alloc: Global, row: &Row) -> Result<Vec<usize>, Memory>
 }
 
 /// The index of rows, no two of which are of one symbol at the same elements.
-pub fn index_rows(alloc: Global, rows: &[Row], said: &[Sentence]) -> Result<Index, ModelFault>
+pub fn index_rows(alloc: Global, rows: &[Row], said: &[Sentence<'_>]) -> Result<Index, ModelFault>
     requires { spec_code.AreOf rows.now said.now }
     ensures single { OnOk result (first_double [] rows.now ≡ None) }
     ensures entries { IfOk result (λ index. index ≡ map spec_code.entry_of rows.now) }
@@ -86,7 +86,7 @@ pub fn index_rows(alloc: Global, rows: &[Row], said: &[Sentence]) -> Result<Inde
 }
 
 // The fault of a sentence with a second value.
-fn second_value(alloc: Global, sentence: &Sentence) -> ModelFault
+fn second_value(alloc: Global, sentence: &Sentence<'_>) -> ModelFault
     ensures { spec_code.IsDoubleOf sentence.now result }
 {
     match sentence.name.copy(alloc) {

@@ -1,6 +1,7 @@
 //! Finite models: the text of one is read, and formulas are evaluated in it.
 #![tactic(auto)]
 
+mod arguments;
 mod bounds;
 mod distinct;
 mod domains;
@@ -19,6 +20,7 @@ mod tables;
 mod terms;
 mod truth;
 
+pub use arguments::Arguments;
 pub use distinct::as_words;
 pub use elements::Elements;
 pub use fault::ModelFault;

@@ -1,10 +1,11 @@
 // The entries of sentences, with elements by their places.
 ghost use Rattle.std.specs.Prelude.{◌≡◌, ◌≤◌, ℕ, length, IfOk, IfErr, Ok, Some};
-ghost use Rattle.std.specs.Option.{option_map};
+ghost use Rattle.std.specs.Option.{option_map, option_and_then};
 ghost use Rattle.fi_model.specs.code.Adding as spec_code;
 ghost use Rattle.fi_model.specs.code.Adding.{Adds, IsElement};
 ghost use Rattle.fi_model.specs.Models as spec;
 
+use crate::arguments::Arguments;
 use crate::elements::Elements;
 use crate::fault::ModelFault;
 use crate::sentence::{Element, Entry, Sentence, Value, What};
@@ -28,7 +29,7 @@ pub fn rows(
     alloc: Global,
     signature: &Signature,
     domains: &[Elements],
-    said: &[Sentence],
+    said: &[Sentence<'_>],
 ) -> Result<List<Row>, ModelFault>
     ensures all { IfOk result (λ found. spec.rows signature.now domains.now 0 said.now ≡ Ok found) }
     ensures fault { IfErr result (λ fault.
@@ -45,7 +46,7 @@ pub fn rows(
 }
 
 // The fault of a sentence with an element that is not of the sort wanted.
-fn wrong_element(alloc: Global, sentence: &Sentence) -> ModelFault
+fn wrong_element(alloc: Global, sentence: &Sentence<'_>) -> ModelFault
     ensures { spec_code.IsElementOf sentence.now result }
 {
     match sentence.name.copy(alloc) {
@@ -60,7 +61,7 @@ fn add_rows(
     signature: &Signature,
     domains: &[Elements],
     at: usize,
-    what: &What,
+    what: &What<'_>,
     found: &mut List<Row>,
 ) -> Result<bool, Memory>
     ensures { IfOk result (λ good.
@@ -80,7 +81,7 @@ fn add_entries(
     signature: &Signature,
     domains: &[Elements],
     at: usize,
-    entries: &[Entry],
+    entries: &[Entry<'_>],
     found: &mut List<Row>,
 ) -> Result<bool, Memory>
     ensures { IfOk result (λ good.
@@ -101,7 +102,7 @@ fn add_entry(
     signature: &Signature,
     domains: &[Elements],
     at: usize,
-    entry: &Entry,
+    entry: &Entry<'_>,
     found: &mut List<Row>,
 ) -> Result<bool, Memory>
     ensures { IfOk result (λ good.
@@ -117,7 +118,7 @@ fn add_entry(
     }
 }
 
-fn kind_of(value: &Value) -> Kind
+fn kind_of(value: &Value<'_>) -> Kind
     ensures { result ≡ spec.kind_of value.now }
 {
     match value {
@@ -133,18 +134,13 @@ fn add_row(
     at: usize,
     number: SymId,
     symbol: &Symbol,
-    entry: &Entry,
+    entry: &Entry<'_>,
     found: &mut List<Row>,
 ) -> Result<bool, Memory>
     ensures { IfOk result (λ good.
         Adds (spec.row_of domains.now at entry.now number (Some symbol.now)) found.old good found.new) }
 {
-    let args = places(
-        alloc,
-        domains,
-        symbol.args.as_slice(),
-        entry.args.as_slice(),
-    )?;
+    let args = places(alloc, domains, symbol.args.as_slice(), &entry.args)?;
     let value = value_place(domains, symbol.result, &entry.value);
     match (args, value) {
         (Some(args), Some(value)) => {
@@ -161,7 +157,7 @@ fn add_row(
 }
 
 // The place of what a symbol with a result of that sort gives.
-fn value_place(domains: &[Elements], sort: SortId, value: &Value) -> Option<usize>
+fn value_place(domains: &[Elements], sort: SortId, value: &Value<'_>) -> Option<usize>
     ensures { result ≡ spec.value_place domains.now sort value.now }
 {
     match value {
@@ -176,7 +172,7 @@ fn places(
     alloc: Global,
     domains: &[Elements],
     sorts: &[SortId],
-    elements: &[Element],
+    elements: &Arguments<'_>,
 ) -> Result<Option<List<usize>>, Memory>
     ensures { IfOk result (λ found. found ≡ spec.places domains.now sorts.now elements.now) }
 {
@@ -185,12 +181,22 @@ fn places(
     }
     let mut found = List::new(alloc);
     for i in 0..sorts.len() {
-        match place(domains, sorts[i], elements[i].name.as_slice()) {
+        match place_of(domains, sorts[i], elements.get(i)) {
             Some(number) => found.push(number)?,
             None => return Ok(None),
         }
     }
     Ok(Some(found))
+}
+
+// The place of an element, if there is one, in the domain of the sort.
+fn place_of(domains: &[Elements], sort: SortId, element: Option<Element<'_>>) -> Option<usize>
+    ensures { result ≡ option_and_then (λ e. spec.place domains.now sort e.name) element.entry }
+{
+    match element {
+        Some(element) => place(domains, sort, element.name.as_slice()),
+        None => None,
+    }
 }
 
 // The place of an element in the domain of the sort.

@@ -14,7 +14,7 @@ use std::alloc::Global;
 use tptp_base::{Annotated, Body, Item, Lang, List, Memory, Name, Role, Surface};
 
 /// The sentences of the items, or the place of the first item that is none.
-pub fn sentences(alloc: Global, items: &[Item]) -> Result<List<Sentence>, ModelFault>
+pub fn sentences(alloc: Global, items: &[Item]) -> Result<List<Sentence<'_>>, ModelFault>
     ensures all { IfOk result (λ found. spec.sentences items.now ≡ Ok found) }
     ensures fault { IfErr result (λ fault. RefusesShape (spec.sentences items.now) fault) }
 {
@@ -26,7 +26,11 @@ pub fn sentences(alloc: Global, items: &[Item]) -> Result<List<Sentence>, ModelF
 }
 
 // Adds the sentence of an item, if it has one.
-fn add_sentence(alloc: Global, item: &Item, found: &mut List<Sentence>) -> Result<(), ModelFault>
+fn add_sentence<'a>(
+    alloc: Global,
+    item: &'a Item,
+    found: &mut List<Sentence<'a>>,
+) -> Result<(), ModelFault>
     ensures added { OnOk result (AddsSentence (spec.item_sentence item.now) found.old found.new) }
     ensures fault { IfErr result (λ fault. RefusesShape (spec.item_sentence item.now) fault) }
 {
@@ -40,7 +44,7 @@ fn add_sentence(alloc: Global, item: &Item, found: &mut List<Sentence>) -> Resul
 }
 
 // The sentence of an item, none for a comment, or the place of what is no sentence.
-fn item_sentence(alloc: Global, item: &Item) -> Result<Option<Sentence>, ModelFault>
+fn item_sentence(alloc: Global, item: &Item) -> Result<Option<Sentence<'_>>, ModelFault>
     ensures all { IfOk result (λ found. spec.item_sentence item.now ≡ Ok found) }
     ensures fault { IfErr result (λ fault. RefusesShape (spec.item_sentence item.now) fault) }
 {
@@ -58,7 +62,7 @@ fn item_sentence(alloc: Global, item: &Item) -> Result<Option<Sentence>, ModelFa
 }
 
 // The sentence that a formula is.
-fn sentence(alloc: Global, formula: &Annotated) -> Result<Option<Sentence>, Memory>
+fn sentence(alloc: Global, formula: &Annotated) -> Result<Option<Sentence<'_>>, Memory>
     ensures { IfOk result (λ found. found ≡ spec.sentence formula.now) }
 {
     if !is_quantified(formula.lang) || !is_name(&formula.name) {
@@ -95,7 +99,7 @@ fn is_name(name: &Name) -> bool
 }
 
 // What the body of a formula of this role says.
-fn body_says(alloc: Global, role: Role, body: &Body) -> Result<Option<What>, Memory>
+fn body_says(alloc: Global, role: Role, body: &Body) -> Result<Option<What<'_>>, Memory>
     ensures { IfOk result (λ found. found ≡ spec.body_says role body.now) }
 {
     match body {
@@ -105,7 +109,7 @@ fn body_says(alloc: Global, role: Role, body: &Body) -> Result<Option<What>, Mem
 }
 
 // What a formula of this role says.
-fn said_by(alloc: Global, role: Role, form: &Surface) -> Result<Option<What>, Memory>
+fn said_by(alloc: Global, role: Role, form: &Surface) -> Result<Option<What<'_>>, Memory>
     ensures { IfOk result (λ found. found ≡ spec.said_by role form.now) }
 {
     match role {
@@ -128,7 +132,7 @@ fn said_by(alloc: Global, role: Role, form: &Surface) -> Result<Option<What>, Me
 }
 
 // What a formula says of a domain.
-fn said_domain(alloc: Global, form: &Surface) -> Result<Option<What>, Memory>
+fn said_domain(alloc: Global, form: &Surface) -> Result<Option<What<'_>>, Memory>
     ensures { IfOk result (λ found. found ≡ spec.said_domain form.now) }
 {
     match domain(alloc, form)? {
@@ -138,7 +142,7 @@ fn said_domain(alloc: Global, form: &Surface) -> Result<Option<What>, Memory>
 }
 
 // What a formula says of symbols of that kind.
-fn said_entries(alloc: Global, kind: Kind, form: &Surface) -> Result<Option<What>, Memory>
+fn said_entries(alloc: Global, kind: Kind, form: &Surface) -> Result<Option<What<'_>>, Memory>
     ensures { IfOk result (λ found. found ≡ spec.said_entries kind form.now) }
 {
     match conjuncts(alloc, kind, form)? {
