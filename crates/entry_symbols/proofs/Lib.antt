@@ -1,0 +1,12 @@
+pub mod Alike
+pub mod Clashing
+pub mod Declared
+pub mod Everywhere
+pub mod Free
+pub mod Kept
+pub mod Lines
+pub mod Stating
+pub mod Staying
+pub mod Telling
+pub mod Unifying
+pub mod Whole
