@@ -1,6 +1,6 @@
 -- What a problem gives, and what it poses.
 use Rattle.std.specs.List.{All}
-use Rattle.std.proofs.Common.{◌≡◌, inl, inr, ℕ, ◌-◌, List, [], ◌∷◌, map, Option, IfOk, Result, Ok, Err, sym, ◌∙◌, ap, subst, arith}
+use Rattle.std.proofs.Common.{◌≡◌, inl, inr, ℕ, true, List, [], ◌∷◌, map, Option, IfOk, Result, Ok, Err, sym, ◌∙◌, ap, subst, arith}
 use Rattle.std.proofs.lemmas.List.Elements.{All-nil, All-cons, All-head, All-tail}
 use Rattle.tptp_base.specs.Store.{Files}
 use Rattle.fof_terms.specs.Vocabulary.{Vocabulary}
@@ -16,9 +16,12 @@ use Rattle.sort_check.specs.declared.line.Line.{Line}
 use Rattle.sort_check.specs.declared.line.GivenEntry.{GivenEntry}
 use Rattle.sort_check.specs.declared.line.TextKind.TheVariants as kind
 use Rattle.sort_check.specs.Given.{given_entries}
-use Rattle.sort_check.specs.Sorting.{AreGivenSorted, IsSentence}
+use Rattle.sort_check.proofs.LineSorts.{text_fits}
+use Rattle.sort_check.specs.Sorting.{AreSorted, AreGivenSorted, IsSentence}
 use Rattle.sort_check.specs.Texts.{denoted}
-use Rattle.read_problems.specs.Given.{given_theory, IsTheoryOf, IsGiven}
+use Rattle.read_problems.specs.Denotations.{IsDenotation}
+use Rattle.read_problems.specs.Given.{given_theory, IsGiven}
+use Rattle.read_problems.specs.declared.denotations.Denotation.{Denotation}
 use Rattle.read_problems.specs.Denoted.{first_vocabulary, SaysIncludeFault, SaysSortFault, IsProblemRefusal}
 use Rattle.read_problems.specs.Ending.{Ending}
 use Rattle.read_problems.specs.Posed.{IsPosed}
@@ -47,20 +50,28 @@ pub theory_started : {E : Type 0} (lines : List Line) (v : Vocabulary) (entries 
 theory_started lines v entries forms (Ok theory) gives are is = theory_made lines v entries forms theory gives are is
 theory_started lines v entries forms (Err e) gives are is = tt
 
-pub theory_is : (whole : Problem) (lines : List Line) (v : Vocabulary) (theory : Statements) → denoted whole.items first_vocabulary kind.Problem ≡ Ok (lines, v) → theory ≡ given_theory lines v → IsTheoryOf whole theory
-theory_is whole lines v theory denotes is = (lines, v, denotes, is)
-
 module _ (told : Option Files) (root : Option (List ℕ)) (file : List ℕ) where
-  pub given_is : (whole : Problem) (theory : Statements) (read : ℕ) → Resolves told root file (Ok whole) → IsTheoryOf whole theory → read ≡ whole.read → IsGiven told root file theory read
-  given_is whole theory read resolves is same = (whole, resolves, is, same)
-
   pub include_refused : (ending : Ending) → ((fault : IncludeFault) × Resolves told root file (Err fault) × SaysIncludeFault fault ending) → IsProblemRefusal told root file ending
   include_refused ending refused = inl refused
 
   pub sort_refused : (ending : Ending) (whole : Problem) → Resolves told root file (Ok whole) → ((fault : SortFault) × (denoted whole.items first_vocabulary kind.Problem ≡ Err fault) × SaysSortFault whole.files fault ending) → IsProblemRefusal told root file ending
   sort_refused ending whole resolves refused = inr (whole, resolves, refused)
 
--- what a problem poses
-pub posed_is : (told : Option Files) (root : Option (List ℕ)) (file : List ℕ) (whole : Problem) (lines : List Line) (posed : Posed) → Resolves told root file (Ok whole) → denoted whole.items first_vocabulary kind.Problem ≡ Ok (lines, posed.signature)
-    → posed.given ≡ given_entries lines → posed.read ≡ whole.read → IsPosed told root file posed
-posed_is told root file whole lines posed resolves denotes gives read = record { whole = whole; lines = lines; resolves = resolves; denotes = denotes; gives = gives; read = read }
+  module _ (d : Denotation) (is : IsDenotation told root file true d) where
+    pub denoted_given : (theory : Statements) (read : ℕ) → theory ≡ given_theory d.lines d.signature → read ≡ d.read → IsGiven told root file theory read
+    denoted_given theory read gives same =
+        (is.whole, is.resolves, (is.lines, d.signature, is.denotes, gives ∙ ap (λ (ls : List Line). given_theory ls d.signature) is.kept_lines), same ∙ is.read)
+
+    -- what a problem poses
+    pub denoted_posed : (posed : Posed) → posed.signature ≡ d.signature → posed.given ≡ given_entries d.lines → posed.read ≡ d.read → IsPosed told root file posed
+    denoted_posed posed signature gives read = record {
+      whole = is.whole;
+      lines = is.lines;
+      resolves = is.resolves;
+      denotes = is.denotes ∙ ap (λ (v : Vocabulary). Ok (is.lines, v)) (sym signature);
+      gives = gives ∙ ap given_entries is.kept_lines;
+      read = read ∙ is.read;
+    }
+
+    pub kept_sorted : AreSorted d.signature d.lines
+    kept_sorted = subst (AreSorted d.signature) (sym is.kept_lines) (text_fits is.whole.items first_vocabulary d.signature kind.Problem is.lines (omega arith) is.denotes).1

@@ -6,3 +6,6 @@ pub mod NoRefusal
 pub mod OneProblem
 pub mod Sourced
 pub mod Stages
+pub mod Copying
+pub mod InTurn
+pub mod Answered

@@ -1,6 +1,6 @@
 -- What a problem gives to a derivation from it.
 use Rattle.std.specs.List.{All}
-use Rattle.std.proofs.Common.{◌≡◌, ℕ, ◌+◌, ◌<◌, ◌≤◌, ◌^◌, false, List, [], ◌∷◌, length, map, Option, Some, None, Result, Ok, Err, refl, sym, ◌∙◌, ap, subst, arith}
+use Rattle.std.proofs.Common.{◌≡◌, ℕ, ◌+◌, ◌<◌, ◌≤◌, ◌^◌, true, false, List, [], ◌∷◌, length, map, Option, Some, None, Result, Ok, Err, refl, sym, ◌∙◌, ap, subst, arith}
 use Rattle.std.proofs.lemmas.List.{length-map}
 use Rattle.std.proofs.lemmas.List.Elements.{All-nil, All-cons, All-head, All-tail}
 use Rattle.tptp_base.specs.declared.item.Item.{Item}
@@ -9,8 +9,8 @@ use Rattle.tptp_base.specs.Store.{Files}
 use Rattle.fof_terms.specs.Vocabulary.{Vocabulary}
 use Rattle.fof_terms.specs.declared.form.Form.{Form}
 use Rattle.kernel.specs.Statements.{Statements}
-use Rattle.include_resolve.specs.declared.problem.Problem.{Problem}
-use Rattle.include_resolve.specs.Resolved.{Resolves}
+use Rattle.include_resolve.specs.declared.problem.TheConstants.{TOTAL_SIZE}
+use Rattle.include_resolve.proofs.Counts.{problem_few}
 use Rattle.sort_check.specs.declared.fault.SortFault.{SortFault}
 use Rattle.sort_check.specs.declared.line.Line.{Line}
 use Rattle.sort_check.specs.declared.line.GivenEntry.{GivenEntry}
@@ -18,37 +18,18 @@ use Rattle.sort_check.specs.declared.line.TextKind.{TextKind}
 use Rattle.sort_check.specs.declared.line.TextKind.TheVariants as kind
 use Rattle.sort_check.specs.Given.{given_entries, given_form, with_entry}
 use Rattle.sort_check.specs.Outcomes.{Outcome, mapped}
-use Rattle.sort_check.specs.Sorting.{AreSorted, AreGivenSorted, IsSentence}
+use Rattle.sort_check.specs.Sorting.{AreDeclared, AreSorted, AreGivenSorted, IsSentence}
 use Rattle.sort_check.specs.Symbols.{Text}
 use Rattle.sort_check.specs.Texts.{Declared, Reading, line_item, with_line, lines_from, type_lines, only_vocabulary, denoted}
 use Rattle.sort_check.proofs.GivenSorts.{given_sorted}
+use Rattle.sort_check.proofs.LineSorts.{text_fits}
 use Rattle.sort_check.proofs.Stepping.{at_ok, then_ok, mapped_ok}
-use Rattle.read_problems.specs.Given.{given_theory, IsTheoryOf}
+use Rattle.read_problems.specs.Denotations.{IsDenotation}
+use Rattle.read_problems.specs.Given.{given_theory}
+use Rattle.read_problems.specs.declared.denotations.Denotation.{Denotation}
 use Rattle.read_problems.specs.Denoted.{first_vocabulary}
-use Rattle.read_problems.specs.Sources.{IsSource, IsSourceOf, given_names, conjecture_marks, has_conjecture}
-use Rattle.read_problems.specs.Stop.{IfRefused, IfStopped}
+use Rattle.read_problems.specs.Sources.{Gives, IsSource, given_names, conjecture_marks, has_conjecture}
 use Rattle.read_problems.specs.declared.sources.Source.{Source}
-use Rattle.read_problems.specs.declared.stop.Answer.{Answer}
-use Rattle.read_problems.specs.declared.stop.Halt.{Halt}
-use Rattle.read_problems.specs.declared.stop.Halt.TheVariants.{Refused, Stopped}
-use Rattle.read_problems.specs.declared.stop.Stop.{Stop}
-
-pub source_is : (told : Option Files) (root : Option (List ℕ)) (file : List ℕ) (whole : Problem) (source : Source) → Resolves told root file (Ok whole) → IsSourceOf whole source → IsSource told root file source
-source_is told root file whole source resolves is = (whole, resolves, is)
-
--- ---- one theory
-
-abbrev Lines : Type 0
-Lines = Outcome SortFault Vocabulary (List Line)
-
-abbrev theory_in : Lines → Statements
-theory_in (Ok p) = given_theory p.0 p.1
-theory_in (Err fault) = record { vocabulary = first_vocabulary; formulas = [] }
-
-theory_same : (whole : Problem) (theory : Statements) (lines : List Line) (v : Vocabulary) → IsTheoryOf whole theory → denoted whole.items first_vocabulary kind.Problem ≡ Ok (lines, v) → theory ≡ given_theory lines v
-theory_same whole theory lines v (others, w, denotes, is) same =
-    let one : ◌≡◌ {A = Lines} (Ok (others, w)) (Ok (lines, v)) = sym denotes ∙ same in
-    is ∙ ap theory_in one
 
 -- ---- few lines
 
@@ -86,39 +67,38 @@ entries_few (l ∷ lines) = omega (arith, entries_few lines, entry_more l (given
 
 -- ---- the parts of a source
 
-module _ (whole : Problem) (lines : List Line) (v : Vocabulary) (denotes : denoted whole.items first_vocabulary kind.Problem ≡ Ok (lines, v)) where
-  pub made_source : (theory : Statements) (source : Source) → IsTheoryOf whole theory → source.theory ≡ theory → source.signature ≡ v → source.names ≡ given_names lines → source.marks ≡ conjecture_marks lines → source.has_conjecture ≡ has_conjecture lines → source.read ≡ whole.read → IsSourceOf whole source
-  made_source theory source of_theory theory_is signature_is names_are marks_are conjecture_is read_is = (
-    lines,
-    v,
-    denotes,
-    record { theory = theory_is ∙ theory_same whole theory lines v of_theory denotes; signature = signature_is; names = names_are; marks = marks_are; conjecture = conjecture_is },
-    read_is,
+forms_good : (v : Vocabulary) (entries : List GivenEntry) → AreGivenSorted v entries → All (IsSentence v) (map (λ (entry : GivenEntry). entry.form) entries)
+forms_good v [] all = All-nil (IsSentence v)
+forms_good v (entry ∷ entries) all =
+    All-cons (IsSentence v) entry.form (map (λ (e : GivenEntry). e.form) entries) (All-head (λ (e : GivenEntry). IsSentence v e.form) entry entries all) (forms_good v entries (All-tail (λ (e : GivenEntry). IsSentence v e.form) entry entries all))
+
+module _ (told : Option Files) (root : Option (List ℕ)) (file : List ℕ) (d : Denotation) (is : IsDenotation told root file true d) (source : Source) where
+  pub denoted_source : source.theory ≡ given_theory d.lines d.signature → source.signature ≡ d.signature → source.names ≡ given_names d.lines → source.marks ≡ conjecture_marks d.lines → source.has_conjecture ≡ has_conjecture d.lines → source.read ≡ d.read → IsSource told root file source
+  denoted_source theory signature names marks conjecture read = (
+    is.whole,
+    is.resolves,
+    (
+      is.lines,
+      d.signature,
+      is.denotes,
+      subst (λ (lines : List Line). Gives lines d.signature source) is.kept_lines (record { theory = theory; signature = signature; names = names; marks = marks; conjecture = conjecture }),
+      read ∙ is.read,
+    ),
   )
 
-  pub few_names : (source : Source) → length whole.items < 2 ^ 32 → source.names ≡ given_names lines → length source.names < 2 ^ 32
-  few_names source few names_are =
-      let count : length source.names ≡ length (given_entries lines) = ap length names_are ∙ length-map (given_entries lines) (λ (entry : GivenEntry). entry.name) in
-      omega (arith, few, count, entries_few lines, lines_few kind.Problem whole.items first_vocabulary v lines denotes)
+  pub few_names : d.read ≤ TOTAL_SIZE → source.names ≡ given_names d.lines → length source.names < 2 ^ 32
+  few_names fits names_are =
+      let count : length source.names ≡ length (given_entries d.lines) = ap length names_are ∙ length-map (given_entries d.lines) (λ (entry : GivenEntry). entry.name) in
+      omega (arith, fits, is.read, count, ap length is.kept_lines, entries_few d.lines, lines_few kind.Problem is.whole.items first_vocabulary d.signature is.lines is.denotes, problem_few told root file is.whole is.resolves)
 
-  forms_good : (entries : List GivenEntry) → AreGivenSorted v entries → All (IsSentence v) (map (λ (entry : GivenEntry). entry.form) entries)
-  forms_good [] all = All-nil (IsSentence v)
-  forms_good (entry ∷ entries) all =
-      All-cons (IsSentence v) entry.form (map (λ (e : GivenEntry). e.form) entries) (All-head (λ (e : GivenEntry). IsSentence v e.form) entry entries all) (forms_good entries (All-tail (λ (e : GivenEntry). IsSentence v e.form) entry entries all))
-
-  pub good_forms : (theory : Statements) (source : Source) → IsTheoryOf whole theory → source.theory ≡ theory → source.signature ≡ v → AreSorted v lines → All (IsSentence source.signature) source.theory.formulas
-  good_forms theory source of_theory theory_is signature_is sorted =
-      let none : Result (List GivenEntry) Memory = Ok (given_entries lines) in
-      let entries : AreGivenSorted v (given_entries lines) = given_sorted lines none refl v sorted in
+  pub good_forms : source.theory ≡ given_theory d.lines d.signature → source.signature ≡ d.signature → AreSorted d.signature d.lines → All (IsSentence source.signature) source.theory.formulas
+  good_forms theory_is signature_is sorted =
+      let none : Result (List GivenEntry) Memory = Ok (given_entries d.lines) in
+      let entries : AreGivenSorted d.signature (given_entries d.lines) = given_sorted d.lines none refl d.signature sorted in
       subst (λ (w : Vocabulary). All (IsSentence w) source.theory.formulas) (sym signature_is)
-      (subst (λ (t : Statements). All (IsSentence v) t.formulas) (sym (theory_is ∙ theory_same whole theory lines v of_theory denotes)) (forms_good (given_entries lines) entries))
+      (subst (λ (t : Statements). All (IsSentence d.signature) t.formulas) (sym theory_is) (forms_good d.signature (given_entries d.lines) entries))
 
--- ---- a refusal of one call is one of its caller
-
-pub still_refused : (T U : Type 0) (halt : Halt) (P : Answer → Type 0) → IfRefused {T = T} (Err halt) P → IfRefused {T = U} (Err halt) P
-still_refused T U (Refused answer) P refused = refused
-still_refused T U (Stopped stop) P refused = tt
-
-pub still_stopped : (T U : Type 0) (halt : Halt) (P : Stop → Type 0) → IfStopped {T = T} (Err halt) P → IfStopped {T = U} (Err halt) P
-still_stopped T U (Refused answer) P cause = tt
-still_stopped T U (Stopped stop) P cause = cause
+  pub all_declared : source.signature ≡ d.signature → AreDeclared source.signature
+  all_declared signature_is =
+      let grew = (text_fits is.whole.items first_vocabulary d.signature kind.Problem is.lines (omega arith) is.denotes).0 in
+      subst AreDeclared (sym signature_is) (grew.declared (omega arith) tt)

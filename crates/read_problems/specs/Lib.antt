@@ -1,4 +1,5 @@
 pub mod Answer
+pub mod Denotations
 pub mod Denoted
 pub mod Ending
 pub mod Given
@@ -7,3 +8,4 @@ pub mod Posed
 pub mod Sources
 pub mod Spelled
 pub mod Stop
+pub mod code

@@ -52,8 +52,8 @@ pub fn read_meaning(alloc: Global, problem: &Problem) -> Result<Meaning, Halt>
     }
 }
 
-// What is said of a fault against the rules of sorts, if memory is not wanting.
-fn say_sort_fault(alloc: Global, files: &[Text], fault: SortFault) -> Result<Answer, Stop>
+/// What is said of a fault against the rules of sorts, if memory is not wanting.
+pub fn say_sort_fault(alloc: Global, files: &[Text], fault: SortFault) -> Result<Answer, Stop>
     ensures said { IfOk result (λ answer. SaysSortFault files.now fault (ending_of answer)) }
     ensures status { IfOk result (λ answer. (answer.status ≡ 3) ⊎ (answer.status ≡ 7)) }
     ensures cause { IfErr result (λ stop. HasCause stop ⊥ ⊥) }

@@ -2,6 +2,8 @@
 //! first fault.
 #![tactic(auto)]
 
+mod copied;
+mod denotations;
 mod denoted;
 mod given;
 mod posed;
@@ -11,7 +13,9 @@ mod saying;
 mod sources;
 mod spelled;
 mod stop;
+mod taking;
 
+pub use denotations::{Denotation, read_denotation};
 pub use denoted::{Meaning, read_meaning, say_of_line};
 pub use given::{Given, read_given};
 pub use posed::{Posed, read_posed};

@@ -9,11 +9,10 @@ ghost use Rattle.read_problems.specs.OtherFaults.{SaysProblemFault};
 ghost use Rattle.read_problems.specs.Stop.{HasCause, IfRefused, IfStopped};
 ghost use Rattle.read_problems.specs.declared.refusals.TheConstants.{TOTAL_SIZE};
 
-use crate::denoted::read_meaning;
-use crate::resolved::read_files;
+use crate::denotations::{Denotation, read_denotation};
 use crate::stop::Halt;
 use fof_terms::Signature;
-use sort_check::{GivenEntry, given};
+use sort_check::{GivenEntry, give_all};
 use std::alloc::Global;
 use tptp_base::{List, Store};
 
@@ -26,7 +25,7 @@ pub struct Posed {
 }
 
 /// What the problem in the file poses, with all that it includes. The first fault is refused.
-#[tactic(auto, using(crate::proofs::Givens::include_refused, crate::proofs::Givens::sort_refused, crate::proofs::Givens::posed_is, crate::proofs::Absences::problem_said, crate::proofs::Absences::sorts_said))]
+#[tactic(auto, using(crate::proofs::Givens::denoted_posed))]
 pub fn read_posed<S: Store>(
     alloc: Global,
     store: &mut S,
@@ -45,13 +44,15 @@ pub fn read_posed<S: Store>(
     ensures more_absents { S.absents store.old ≤ S.absents store.new }
     ensures more_faults { S.faults store.old ≤ S.faults store.new }
 {
-    let files = read_files(alloc, store, root, file)?;
-    let meaning = read_meaning(alloc, &files)?;
-    let read = files.read;
-    drop(files);
-    let given = given(alloc, meaning.lines.as_slice())?;
+    let Denotation {
+        lines,
+        signature,
+        read,
+        ..
+    } = read_denotation(alloc, store, root, file, true)?;
+    let given = give_all(alloc, lines)?;
     Ok(Posed {
-        signature: meaning.signature,
+        signature,
         given,
         read,
     })

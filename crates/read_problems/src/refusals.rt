@@ -3,7 +3,7 @@ ghost use Rattle.std.specs.Prelude.{◌≡◌, ◌⊎◌, ◌≤◌, IfOk, IfSom
 ghost use Rattle.tptp_base.specs.Count.{Rose};
 ghost use Rattle.tptp_base.specs.Store.{HasFile};
 ghost use Rattle.read_problems.specs.Answer.{ending_of};
-ghost use Rattle.read_problems.specs.Ending.{IsReadRefusal};
+ghost use Rattle.read_problems.specs.Ending.{IsReadRefusal, IsUnread};
 ghost use Rattle.read_problems.specs.Stop.{HasCause, IfRefused, IfStopped};
 
 use crate::saying::{no_such_file, over_limit};
@@ -26,6 +26,7 @@ pub fn read_text<S: Store>(
     ensures in_limit { IfOk result (λ text. length text ≤ FILE_SIZE) }
     ensures refused { IfRefused result (λ answer.
         IfSome (S.files store.old) (λ files. IsReadRefusal files name.now budget (ending_of answer))) }
+    ensures said { IfRefused result (λ answer. IsUnread (S.files store.old) name.now budget (ending_of answer)) }
     ensures status { IfRefused result (λ answer. (answer.status ≡ 3) ⊎ (answer.status ≡ 7)) }
     ensures missing { IfRefused result (λ answer. answer.status ≡ 3
         → Rose (S.absents store.old) (S.absents store.new)) }

@@ -30,8 +30,8 @@ pub fn print_text(alloc: Global, name: &str, text: &[u8]) -> Result<Text, Halt>
     }
 }
 
-// The tokens of the text.
-fn read_tokens<'a>(alloc: Global, name: &str, text: &'a [u8]) -> Result<Tokens<'a>, Halt>
+/// The tokens of the text.
+pub fn read_tokens<'a>(alloc: Global, name: &str, text: &'a [u8]) -> Result<Tokens<'a>, Halt>
     ensures lexed { IfOk result (λ tokens. IsLexed text.now (Ok tokens)) }
     ensures refused { IfRefused result (λ answer. (fault : lex_fault) × IsLexed text.now (Err fault)
         × SaysLexFault name.now fault (ending_of answer)) }
