@@ -1,7 +1,6 @@
 // The graphs of derivations.
-use crate::line::Line;
-use crate::reading::items_of;
-use anyhow::{Result, bail};
+use crate::scene::items_of;
+use crate::shown::push_numbers;
 use std::alloc::{AllocError, Global};
 use tptp_base::{Item, List, Name, Text};
 use tstp_graph::{Graph, Node, Ref, graph};
@@ -9,48 +8,40 @@ use tstp_graph::{Graph, Node, Ref, graph};
 /// The answer of the call `graph`, over the given formulas a, b and b: each line as a leaf or a step, with what it is
 /// from, and at last the order of checking. Lines are told by their numbers, from 0, and so are given formulas, behind
 /// `given`. A part is `NAME`, `NAME from SOURCE` or `NAME type`, a type line.
-pub fn found(alloc: Global, line: &Line<'_>) -> Result<String> {
-    let derivation = derivation(alloc, line.parts.as_slice())?;
+pub fn found(alloc: Global, parts: &[&str]) -> Option<String> {
+    let derivation = derivation(alloc, parts).ok()?;
     let items = items_of(alloc, derivation.as_str())?;
-    over_items(alloc, items.as_slice())
+    of_items(alloc, items.as_slice())
 }
 
-fn derivation(alloc: Global, parts: &[String]) -> Result<String, AllocError> {
+fn derivation(alloc: Global, parts: &[&str]) -> Result<String, AllocError> {
     let mut derivation = String::new(alloc);
     for part in parts {
-        push_line(&mut derivation, part.as_str())?;
+        push_line(&mut derivation, part)?;
     }
     Ok(derivation)
 }
 
-fn over_items(alloc: Global, items: &[Item]) -> Result<String> {
-    let given = given(alloc)?;
-    over_given(alloc, items, given.as_slice())
-}
-
-fn over_given(alloc: Global, items: &[Item], given: &[Name]) -> Result<String> {
-    if items.len() > 1000 || given.len() > 1000 {
-        bail!("too many items");
-    }
-    let graph = graph(alloc, items, given)?;
-    Ok(shown(alloc, &graph)?)
-}
-
 fn push_line(out: &mut String, part: &str) -> Result<(), AllocError> {
-    match part.split_once(" from ") {
-        Some((name, source)) => write!(out, "cnf({name},plain,p,{source})."),
-        None => push_leaf(out, part),
+    if let Some((name, source)) = part.split_once(" from ") {
+        return write!(out, "cnf({name},plain,p,{source}).");
     }
-}
-
-fn push_leaf(out: &mut String, part: &str) -> Result<(), AllocError> {
     match part.strip_suffix(" type") {
         Some(name) => write!(out, "tff({name},type,{name}: $i)."),
         None => write!(out, "cnf({part},plain,p)."),
     }
 }
 
-fn given(alloc: Global) -> Result<List<Name>> {
+fn of_items(alloc: Global, items: &[Item]) -> Option<String> {
+    let given = given(alloc).ok()?;
+    if items.len() > 1000 || given.len() > 1000 {
+        return None;
+    }
+    let graph = graph(alloc, items, given.as_slice()).ok()?;
+    shown(alloc, &graph).ok()
+}
+
+fn given(alloc: Global) -> Result<List<Name>, AllocError> {
     let mut names = List::new(alloc);
     for text in [b"a", b"b", b"b"] {
         names.push(Name::Word(Text::from_slice(alloc, text)?))?;
@@ -60,18 +51,17 @@ fn given(alloc: Global) -> Result<List<Name>> {
 
 fn shown(alloc: Global, graph: &Graph) -> Result<String, AllocError> {
     let mut out = String::new(alloc);
-    for node in graph.nodes.as_slice() {
-        push_node(&mut out, node)?;
-    }
-    push_order(&mut out, graph)?;
+    push_graph(&mut out, graph)?;
     Ok(out)
 }
 
-fn push_order(out: &mut String, graph: &Graph) -> Result<(), AllocError> {
-    out.push_str("order")?;
-    for number in graph.order.as_slice() {
-        write!(out, " {number}")?;
+fn push_graph(out: &mut String, graph: &Graph) -> Result<(), AllocError> {
+    for node in graph.nodes.as_slice() {
+        push_node(out, node)?;
     }
+    out.push_str("order ")?;
+    push_numbers(out, graph.order.as_slice())?;
+    out.pop();
     Ok(())
 }
 

@@ -3,11 +3,9 @@ ghost use Rattle.std.specs.Prelude.{◌≡◌, ◌≤◌, true};
 ghost use Rattle.clause_form.specs.Sizes.{norm_size_of};
 ghost use Rattle.norm_proofs.specs.Placed.{SortedSomewhere};
 
-use crate::calls::Answer;
-use crate::forms::none;
 use crate::line::Line;
-use crate::reading::{copied, formula, logged, signature_of};
-use anyhow::{Context, Result, bail};
+use crate::scene::Scene;
+use crate::shown::logged;
 use clause_form::{Path, clause_of_path, norm_size};
 use derive_kit::Part;
 use fof_terms::{Form, Signature, well_sorted};
@@ -17,103 +15,47 @@ use proof_check::Theory;
 use std::alloc::Global;
 use tptp_base::{Boxed, List, Memory};
 
-/// The answer of a call that builds a proof from a formula to the one that is wanted, or from that to it, or `none`:
+/// The answer of a call that builds a proof from a formula to the one that is wanted, or from that to it: what the
+/// kernel concludes by the proof, in the theory without formulas over the formula's symbols, or `none` where none is
+/// built.
 ///
 /// - `forth`, `back`: between the formula and its normal form
 /// - `path`: from the formula to the clause that a path reaches, where the path fits
-pub fn proved(alloc: Global, signature: &mut Signature, line: &Line<'_>) -> Result<Answer> {
-    let form = formula(alloc, signature, line.part(0)?)?;
-    answer_of(alloc, signature, form.get(), line)
-}
-
-fn answer_of(
-    alloc: Global,
-    signature: &mut Signature,
-    form: &Form,
-    line: &Line<'_>,
-) -> Result<Answer> {
-    let wanted = wanted(alloc, signature, form, line)?;
-    let found = found(alloc, form, line)?;
-    Ok(Answer { wanted, found })
-}
-
-// The text of the implication that is wanted, or `none`.
-fn wanted(
-    alloc: Global,
-    signature: &mut Signature,
-    form: &Form,
-    line: &Line<'_>,
-) -> Result<String> {
-    let wanted = line.wanted.as_str();
-    if wanted == "none" {
-        return none(alloc);
-    }
-    let wanted = formula(alloc, signature, wanted)?;
-    match line.call {
-        "back" => implied(alloc, wanted.get(), form),
-        _ => implied(alloc, form, wanted.get()),
-    }
-}
-
-fn implied(alloc: Global, left: &Form, right: &Form) -> Result<String> {
-    let left = copied(alloc, left)?;
-    let right = copied(alloc, right)?;
-    logged(alloc, Form::Imp(left, right))
-}
-
-// The text of what the kernel concludes by the proof, in the theory without formulas, or `none` where none is built.
-fn found(alloc: Global, form: &Form, line: &Line<'_>) -> Result<String> {
+pub fn found(alloc: Global, line: &Line<'_>, form: &Form) -> Option<String> {
     let mut theory = theory_of(alloc, line)?;
-    found_in(alloc, &mut theory, form, line)
-}
-
-// The theory without formulas over the symbols of the line's formula.
-fn theory_of(alloc: Global, line: &Line<'_>) -> Result<Theory> {
-    let signature = symbols_of(alloc, line)?;
-    Ok(Theory::start(alloc, signature, List::new(alloc))?)
-}
-
-fn symbols_of(alloc: Global, line: &Line<'_>) -> Result<Signature> {
-    let text = line.part(0)?;
-    let mut signature = signature_of(alloc, line)?;
-    let _form = formula(alloc, &mut signature, text)?;
-    Ok(signature)
-}
-
-fn found_in(alloc: Global, theory: &mut Theory, form: &Form, line: &Line<'_>) -> Result<String> {
-    match proof(alloc, theory.signature(), form, line)? {
-        Some(proof) => concluded(alloc, theory, proof),
-        None => none(alloc),
+    match proof(alloc, theory.signature(), line, form)? {
+        Some(proof) => concluded(alloc, &mut theory, proof),
+        None => String::from_str(alloc, "none").ok(),
     }
 }
 
-fn concluded(alloc: Global, theory: &mut Theory, proof: Part) -> Result<String> {
-    let lemma = Boxed::new(alloc, Entry::Lemma(proof.into_inner()))?;
+fn theory_of(alloc: Global, line: &Line<'_>) -> Option<Theory> {
+    let scene = Scene::of(alloc, line)?;
+    Theory::start(alloc, scene.signature, List::new(alloc)).ok()
+}
+
+fn concluded(alloc: Global, theory: &mut Theory, proof: Part) -> Option<String> {
+    let lemma = Boxed::new(alloc, Entry::Lemma(proof.into_inner())).ok()?;
     conclusion(alloc, theory, lemma.get())
 }
 
-fn conclusion(alloc: Global, theory: &mut Theory, lemma: &Entry) -> Result<String> {
-    admit(theory, lemma)?;
-    let form = theory.formula(0).context("nothing is concluded")?;
-    logged(alloc, form.copy(alloc)?)
-}
-
-fn admit(theory: &mut Theory, entry: &Entry) -> Result<()> {
-    Ok(theory.admit(entry)?)
+fn conclusion(alloc: Global, theory: &mut Theory, lemma: &Entry) -> Option<String> {
+    theory.admit(lemma).ok()?;
+    logged(alloc, theory.formula(0)?.copy(alloc).ok()?)
 }
 
 fn proof(
     alloc: Global,
     signature: &Signature,
-    form: &Form,
     line: &Line<'_>,
-) -> Result<Option<Part>> {
+    form: &Form,
+) -> Option<Option<Part>> {
     if !is_sorted(signature, form) {
-        bail!("the formula is not well-sorted, or too large");
+        return None;
     }
     match line.call {
-        "path" => along(alloc, form, line.part(1)?),
-        call => Ok(Some(normed(alloc, call, form)?)),
+        "path" => along(alloc, form, line.parts),
+        call => Some(Some(normed(alloc, call, form).ok()?)),
     }
 }
 
@@ -136,12 +78,12 @@ fn is_sorted(signature: &Signature, form: &Form) -> bool
 }
 
 // The proof by the path of a text, where it fits the formula.
-fn along(alloc: Global, form: &Form, text: &str) -> Result<Option<Part>>
+fn along(alloc: Global, form: &Form, parts: &[&str]) -> Option<Option<Part>>
     requires size { norm_size_of form.now ≤ 100000 }
     requires sorted { SortedSomewhere form.now }
 {
-    let path = path(alloc, text)?;
-    Ok(along_path(alloc, form, path.get())?)
+    let path = path(alloc, parts.get(1)?)?;
+    along_path(alloc, form, path.get()).ok()
 }
 
 fn along_path(alloc: Global, form: &Form, path: &Path) -> Result<Option<Part>, Memory>
@@ -156,47 +98,38 @@ fn along_path(alloc: Global, form: &Form, path: &Path) -> Result<Option<Part>, M
 
 // The path of a text: `leaf`, `under` and the rest below a quantifier, a member's number and the rest in it, or `both`
 // and the rests in the two members of a disjunction.
-fn path(alloc: Global, text: &str) -> Result<Boxed<Path>> {
+fn path(alloc: Global, text: &str) -> Option<Boxed<Path>> {
     let mut paths = List::new(alloc);
     for word in text.rsplit(' ') {
         let next = step(alloc, &mut paths, word)?;
-        paths.push(next)?;
+        paths.push(next).ok()?;
     }
-    last(&mut paths)
+    paths.pop()
 }
 
 // The path of a word and of those behind it.
-fn step(alloc: Global, paths: &mut List<Boxed<Path>>, word: &str) -> Result<Boxed<Path>> {
+fn step(alloc: Global, paths: &mut List<Boxed<Path>>, word: &str) -> Option<Boxed<Path>> {
     match word {
-        "leaf" => Ok(Boxed::new(alloc, Path::Leaf)?),
-        "under" => under(alloc, paths),
+        "leaf" => Boxed::new(alloc, Path::Leaf).ok(),
+        "under" => Boxed::new(alloc, Path::Under(paths.pop()?)).ok(),
         "both" => both(alloc, paths),
-        number => pick(alloc, paths, number.parse()?),
+        number => pick(alloc, paths, number.parse().ok()?),
     }
 }
 
-fn under(alloc: Global, paths: &mut List<Boxed<Path>>) -> Result<Boxed<Path>> {
-    let next = last(paths)?;
-    Ok(Boxed::new(alloc, Path::Under(next))?)
+fn pick(alloc: Global, paths: &mut List<Boxed<Path>>, number: u32) -> Option<Boxed<Path>> {
+    let next = paths.pop()?;
+    Boxed::new(alloc, Path::Pick(number, next)).ok()
 }
 
-fn pick(alloc: Global, paths: &mut List<Boxed<Path>>, number: u32) -> Result<Boxed<Path>> {
-    let next = last(paths)?;
-    Ok(Boxed::new(alloc, Path::Pick(number, next))?)
-}
-
-fn last(paths: &mut List<Boxed<Path>>) -> Result<Boxed<Path>> {
-    paths.pop().context("a path has no end")
-}
-
-fn both(alloc: Global, paths: &mut List<Boxed<Path>>) -> Result<Boxed<Path>> {
+fn both(alloc: Global, paths: &mut List<Boxed<Path>>) -> Option<Boxed<Path>> {
     let mut ways = List::new(alloc);
     push_way(paths, &mut ways)?;
     push_way(paths, &mut ways)?;
-    Ok(Boxed::new(alloc, Path::Each(ways))?)
+    Boxed::new(alloc, Path::Each(ways)).ok()
 }
 
-fn push_way(paths: &mut List<Boxed<Path>>, ways: &mut List<Path>) -> Result<()> {
-    let way = last(paths)?;
-    Ok(ways.push(way.into_inner())?)
+fn push_way(paths: &mut List<Boxed<Path>>, ways: &mut List<Path>) -> Option<()> {
+    let way = paths.pop()?;
+    ways.push(way.into_inner()).ok()
 }

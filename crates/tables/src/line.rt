@@ -1,76 +1,38 @@
 // Lines of tables.
-use anyhow::{Context, Result};
 use std::alloc::{AllocError, Global};
 
-/// A line of a table: `CALL # PART # .. # WANTED`. In its parts `\n` stands for a line feed and `\t` for a tab.
-#[derive(Drop)]
+/// A line of a table: `CALL # PART # .. # WANTED`.
+#[derive(Clone, Copy)]
 pub struct Line<'a> {
     /// The text that stands before its formulas.
     pub given: &'a str,
     pub call: &'a str,
     /// What the call is given.
-    pub parts: Vec<String>,
+    pub parts: &'a [&'a str],
+    /// The first of these.
+    pub first: &'a str,
     /// The answer that is wanted.
-    pub wanted: String,
+    pub wanted: &'a str,
 }
 
 impl<'a> Line<'a> {
-    /// The line of a text.
-    ///
-    /// # Errors
-    ///
-    /// There is no call, or no answer is wanted of it.
-    pub fn read(alloc: Global, given: &'a str, text: &'a str) -> Result<Line<'a>> {
-        let (call, rest) = text.split_once(" # ").context("no call")?;
-        let mut parts = parts_of(alloc, rest)?;
-        let wanted = parts.pop().context("no answer is wanted")?;
-        Ok(Line {
+    /// The line of these words. None where there is no call, no part, or no answer is wanted.
+    pub fn of(given: &'a str, words: &'a [&'a str]) -> Option<Line<'a>> {
+        let (call, rest) = words.split_first()?;
+        let (wanted, parts) = rest.split_last()?;
+        let first = parts.first()?;
+        Some(Line {
             given,
-            call,
+            call: *call,
             parts,
-            wanted,
+            first: *first,
+            wanted: *wanted,
         })
     }
-
-    /// The part of that number, from 0.
-    ///
-    /// # Errors
-    ///
-    /// The line has fewer parts.
-    pub fn part(&self, number: usize) -> Result<&str> {
-        let part = self.parts.get(number).context("a part is missing")?;
-        Ok(part.as_str())
-    }
 }
 
-/// Appends a word, behind a blank unless it is the first.
-pub fn push_word(out: &mut String, word: &str) -> Result<(), AllocError> {
-    if !out.is_empty() {
-        out.push(' ')?;
-    }
-    out.push_str(word)
-}
-
-fn parts_of(alloc: Global, text: &str) -> Result<Vec<String>, AllocError> {
-    let mut parts = Vec::new(alloc);
-    for part in text.split(" # ") {
-        parts.push(unescaped(alloc, part)?)?;
-    }
-    Ok(parts)
-}
-
-fn unescaped(alloc: Global, text: &str) -> Result<String, AllocError> {
-    let text = replaced(alloc, text, "\\n", '\n')?;
-    replaced(alloc, text.as_str(), "\\t", '\t')
-}
-
-fn replaced(alloc: Global, text: &str, mark: &str, by: char) -> Result<String, AllocError> {
-    let mut out = String::new(alloc);
-    for (number, piece) in text.split(mark).enumerate() {
-        if number > 0 {
-            out.push(by)?;
-        }
-        out.push_str(piece)?;
-    }
-    Ok(out)
+/// The text in which a line feed stands for each `\n`, and a tab for each `\t`.
+pub fn unescaped(alloc: Global, text: &str) -> Result<String, AllocError> {
+    let text = text.replace(alloc, "\\n", "\n")?;
+    text.as_str().replace(alloc, "\\t", "\t")
 }

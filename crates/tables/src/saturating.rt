@@ -4,49 +4,28 @@ ghost use Rattle.std.specs.List.{All as Each};
 ghost use Rattle.clause_order.specs.Weights.{clause_weight};
 ghost use Rattle.superpose.specs.Drafts.{IsClause};
 
-use crate::line::Line;
-use crate::reading::{clause_in, formula};
-use anyhow::{Result, bail};
+use crate::clauses::clauses_of;
+use crate::pairs::members_of;
 use clause_form::Clause;
 use clause_index::BlindIndex;
 use fof_terms::{Form, Signature};
 use saturation::{Outcome, Superposition, are_searchable, search, search_by};
 use std::alloc::Global;
-use tptp_base::{Boxed, List, Memory};
+use tptp_base::{Boxed, Memory};
 
 /// The answer of a search under a limit over a clause, or over each clause of a conjunction:
 ///
 /// - `search`: how it ends
 /// - `members`: the same, and how many members there are then
 /// - `blindly`: the same of a search over indexes that tell nothing
-pub fn found(alloc: Global, signature: &mut Signature, line: &Line<'_>) -> Result<String> {
-    let limit = line.part(0)?.parse()?;
-    let form = formula(alloc, signature, line.part(1)?)?;
-    over(alloc, signature, line.call, limit, form.get())
-}
-
-fn over(
+pub fn found(
     alloc: Global,
     signature: &Signature,
     call: &str,
-    limit: u32,
-    form: &Form,
-) -> Result<String> {
-    let inputs = clauses_in(alloc, form)?;
-    over_clauses(alloc, signature, call, limit, inputs.as_slice())
-}
-
-fn over_clauses(
-    alloc: Global,
-    signature: &Signature,
-    call: &str,
-    limit: u32,
-    inputs: &[Clause],
-) -> Result<String> {
-    if !are_searchable(signature, inputs) {
-        bail!("a clause is not well-sorted, or too heavy");
-    }
-    Ok(ended(alloc, signature, call, limit, inputs)?)
+    (limit, form): (u32, &Form),
+) -> Option<String> {
+    let inputs = clauses_of(alloc, members_of(form))?;
+    ended(alloc, signature, call, limit, inputs.as_slice())
 }
 
 fn ended(
@@ -55,12 +34,12 @@ fn ended(
     call: &str,
     limit: u32,
     inputs: &[Clause],
-) -> Result<String, Memory>
-    requires clauses { Each (IsClause signature.now) inputs.now }
-    requires light { Each (λ c. clause_weight c ≤ 100000000) inputs.now }
-{
-    let outcome = outcome(alloc, signature, call, limit, inputs)?;
-    end(alloc, outcome.get(), call != "search")
+) -> Option<String> {
+    if !are_searchable(signature, inputs) {
+        return None;
+    }
+    let outcome = outcome(alloc, signature, call, limit, inputs).ok()?;
+    end(alloc, outcome.get(), call != "search").ok()
 }
 
 fn outcome(
@@ -104,28 +83,6 @@ fn blindly(
         &mut literals,
         &mut terms,
     )
-}
-
-// The clauses of a conjunction, or the one that the formula is.
-fn clauses_in(alloc: Global, form: &Form) -> Result<List<Clause>> {
-    let mut clauses = List::new(alloc);
-    match form {
-        Form::And(members) => push_clauses(alloc, &mut clauses, members.as_slice())?,
-        _ => push_clause(alloc, &mut clauses, form)?,
-    }
-    Ok(clauses)
-}
-
-fn push_clauses(alloc: Global, clauses: &mut List<Clause>, forms: &[Form]) -> Result<()> {
-    for form in forms {
-        push_clause(alloc, clauses, form)?;
-    }
-    Ok(())
-}
-
-fn push_clause(alloc: Global, clauses: &mut List<Clause>, form: &Form) -> Result<()> {
-    let clause = clause_in(alloc, form)?;
-    Ok(clauses.push(clause)?)
 }
 
 // The word of the end and, if they are wanted, the number of members.

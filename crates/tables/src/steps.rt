@@ -1,9 +1,6 @@
 // The rules that are recognised by shape.
 ghost use Rattle.clause_rules.specs.Steps.{IsReady, AreReady};
 
-use crate::line::{Line, push_word};
-use crate::reading::parents_of;
-use anyhow::{Context, Result, bail};
 use clause_form::Parent;
 use clause_rules::{Just, are_ready, is_ready};
 use fof_terms::{Form, Signature};
@@ -16,72 +13,42 @@ use tptp_base::Memory;
 
 /// The answer of the call `step`: the names of all rules by which the last formula follows from the others, the first
 /// of which must be the one that is recognised.
-pub fn found(alloc: Global, signature: &mut Signature, line: &Line<'_>) -> Result<String> {
-    let forms = parents_of(alloc, signature, line.parts.as_slice())?;
-    told(alloc, signature, forms.as_slice())
-}
-
-// The rules by which the last formula follows from those before it, and the rule that is recognised in place of the
-// first of them, if another is.
-fn told(alloc: Global, signature: &Signature, forms: &[Parent]) -> Result<String> {
-    let (line, parents) = forms.split_last().context("no line")?;
+pub fn found(alloc: Global, signature: &Signature, forms: &[Parent]) -> Option<String> {
+    let (line, parents) = forms.split_last()?;
     if !is_ready(signature, &line.form) || !are_ready(signature, parents) {
-        bail!("a formula is not closed and well-sorted");
+        return None;
     }
-    Ok(all_told(alloc, signature, parents, &line.form)?)
-}
-
-fn all_told(
-    alloc: Global,
-    signature: &Signature,
-    parents: &[Parent],
-    line: &Form,
-) -> Result<String, Memory>
-    requires line { IsReady signature.now line.now }
-    requires parents { AreReady signature.now parents.now }
-{
-    let recognised = recognised(alloc, signature, parents, line)?;
-    let rules = rules(alloc, signature, parents, line)?;
-    told_beside(rules, recognised)
-}
-
-fn told_beside(mut rules: String, recognised: &str) -> Result<String, Memory> {
-    if !rules.starts_with(recognised) {
-        write!(rules, " but recognised is {recognised}")?;
-    }
-    Ok(rules)
-}
-
-// The name of the rule that is recognised.
-fn recognised(
-    alloc: Global,
-    signature: &Signature,
-    parents: &[Parent],
-    line: &Form,
-) -> Result<&'static str, Memory>
-    requires line { IsReady signature.now line.now }
-    requires parents { AreReady signature.now parents.now }
-{
-    rule_of(recognise(alloc, signature, parents, line))
-}
-
-// The names of the rules by which a line follows, or `none`.
-fn rules(
-    alloc: Global,
-    signature: &Signature,
-    parents: &[Parent],
-    line: &Form,
-) -> Result<String, Memory>
-    requires line { IsReady signature.now line.now }
-    requires parents { AreReady signature.now parents.now }
-{
     let mut out = String::new(alloc);
-    push_formula_rules(alloc, signature, parents, line, &mut out)?;
-    push_clause_rules(alloc, signature, parents, line, &mut out)?;
-    if out.is_empty() {
+    push_rules(alloc, signature, parents, &line.form, &mut out).ok()?;
+    Some(out)
+}
+
+// Appends the names of the rules by which a line follows, or `none`, and the rule that is recognised in place of the
+// first of them, if another is.
+fn push_rules(
+    alloc: Global,
+    signature: &Signature,
+    parents: &[Parent],
+    line: &Form,
+    out: &mut String,
+) -> Result<(), Memory>
+    requires line { IsReady signature.now line.now }
+    requires parents { AreReady signature.now parents.now }
+{
+    push_formula_rules(alloc, signature, parents, line, out)?;
+    push_clause_rules(alloc, signature, parents, line, out)?;
+    push_recognised(out, rule_of(recognise(alloc, signature, parents, line))?)
+}
+
+// Ends the list of names, each of which has a blank behind it.
+fn push_recognised(out: &mut String, recognised: &str) -> Result<(), Memory> {
+    if out.pop().is_none() {
         out.push_str("none")?;
     }
-    Ok(out)
+    if !out.starts_with(recognised) {
+        write!(out, " but recognised is {recognised}")?;
+    }
+    Ok(())
 }
 
 // Appends the names of the rules of formulas by which a line follows.
@@ -121,7 +88,7 @@ fn push_clause_rules(
 fn push_rule(out: &mut String, step: Result<Option<Just>, Memory>) -> Result<(), Memory> {
     match rule_of(step)? {
         "none" => Ok(()),
-        rule => Ok(push_word(out, rule)?),
+        rule => Ok(write!(out, "{rule} ")?),
     }
 }
 

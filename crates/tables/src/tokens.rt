@@ -1,5 +1,5 @@
 // Tokens, as tables write them.
-use crate::line::push_word;
+use crate::shown::push_bytes;
 use std::alloc::{AllocError, Global};
 use tptp_base::Place;
 use tptp_lexer::{LexFault, Mark, Token, Tokens};
@@ -8,8 +8,8 @@ use tptp_lexer::{LexFault, Mark, Token, Tokens};
 pub fn listed(alloc: Global, outcome: Result<Tokens<'_>, LexFault>) -> Result<String, AllocError> {
     match outcome {
         Ok(tokens) => list(alloc, &tokens),
-        Err(LexFault::Byte(place)) => fault(alloc, "byte", place),
-        Err(LexFault::Unfinished(place)) => fault(alloc, "unfinished", place),
+        Err(LexFault::Byte(at)) => format!(in alloc; "byte {}:{}", at.line, at.column),
+        Err(LexFault::Unfinished(at)) => format!(in alloc; "unfinished {}:{}", at.line, at.column),
         Err(fault) => format!(in alloc; "{fault}"),
     }
 }
@@ -37,19 +37,17 @@ pub fn push_place(out: &mut String, place: Place) -> Result<(), AllocError> {
     write!(out, "{file}:{offset}:{line}:{column}")
 }
 
-fn fault(alloc: Global, name: &str, place: Place) -> Result<String, AllocError> {
-    format!(in alloc; "{name} {}:{}", place.line, place.column)
-}
-
 fn list(alloc: Global, tokens: &Tokens<'_>) -> Result<String, AllocError> {
     let mut out = String::new(alloc);
     let mut rest = tokens.items.rest();
     'tokens: while let Some(token) = rest.next() {
         push_token(alloc, &mut out, &token)?;
     }
+    out.pop();
     Ok(out)
 }
 
+// Appends the token, with a blank behind it.
 fn push_token(alloc: Global, out: &mut String, token: &Token<'_>) -> Result<(), AllocError> {
     match token {
         Token::Lower(text) => push_text(out, "lower", text.as_slice()),
@@ -60,17 +58,14 @@ fn push_token(alloc: Global, out: &mut String, token: &Token<'_>) -> Result<(), 
         Token::Number(text) => push_text(out, "number", text.as_slice()),
         Token::Distinct(text) => push_text(out, "distinct", text.to_text(alloc)?.as_slice()),
         Token::Comment(text) => push_text(out, "comment", text.as_slice()),
-        Token::Mark(mark) => push_word(out, name(*mark)),
+        Token::Mark(mark) => write!(out, "{} ", name(*mark)),
     }
 }
 
 fn push_text(out: &mut String, kind: &str, text: &[u8]) -> Result<(), AllocError> {
-    push_word(out, kind)?;
-    out.push('[')?;
-    for byte in text {
-        out.push(char::from(*byte))?;
-    }
-    out.push(']')
+    write!(out, "{kind}[")?;
+    push_bytes(out, text)?;
+    out.push_str("] ")
 }
 
 fn name(mark: Mark) -> &'static str {
