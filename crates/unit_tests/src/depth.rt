@@ -14,7 +14,6 @@ use norm_proofs::norm_forth;
 use proof_check::Theory;
 use proof_log::{LogCheckFault, check_log, read_log, write_entry, write_header};
 use std::alloc::{AllocError, Global};
-use std::test::Fail;
 use tptp_base::{Boxed, SinkFault, SteadySink};
 
 // Words, so many times, and what stands behind them.
@@ -25,13 +24,11 @@ struct Deep {
     behind: &'static str,
 }
 
-fn nested(alloc: Global, deep: &Deep) -> Result<String, AllocError> {
-    let mut text = String::new(alloc);
+fn push_nested(text: &mut String, deep: &Deep) -> Result<(), AllocError> {
     for _ in 0..deep.times {
         text.push_str(deep.level)?;
     }
-    text.push_str(deep.behind)?;
-    Ok(text)
+    text.push_str(deep.behind)
 }
 
 const PROOFS: [Deep; 6] = [
@@ -68,41 +65,45 @@ const PROOFS: [Deep; 6] = [
 ];
 
 #[test]
-fn a_log_nests_4000_deep(rt: HostRuntime) -> Result<(), Fail> {
+fn a_log_nests_4000_deep(rt: HostRuntime) {
     let wanted =
         "illegal 0; fault at 28013; fault at 20013; fault at 20013; fault at 20013; fault at 20013; ";
-    is(&rt, checks(rt.alloc()), wanted)
+    is(&rt, checks(rt.alloc()), wanted);
 }
 
-fn checks(alloc: Global) -> Result<String, Fail> {
+fn checks(alloc: Global) -> Option<String> {
     let mut out = String::new(alloc);
     for proof in &PROOFS {
         push_check(alloc, &mut out, proof)?;
     }
-    Ok(out)
+    Some(out)
 }
 
-fn push_check(alloc: Global, out: &mut String, proof: &Deep) -> Result<(), Fail> {
-    let proof = nested(alloc, proof)?;
-    let log = format!(in alloc; "tptp-log 1\nL {proof}")?;
-    let said = check(alloc, log.as_str())?;
-    Ok(out.push_str(said.as_str())?)
+fn push_check(alloc: Global, out: &mut String, proof: &Deep) -> Option<()> {
+    let log = log_of(alloc, proof).ok()?;
+    check(alloc, out, log.as_bytes())
 }
 
-// What is said of a log, where truth is given.
-fn check(alloc: Global, log: &str) -> Result<String, Fail> {
-    let mut theory = start(alloc)?;
+fn log_of(alloc: Global, proof: &Deep) -> Result<String, AllocError> {
+    let mut log = String::from_str(alloc, "tptp-log 1\nL ")?;
+    push_nested(&mut log, proof)?;
+    Ok(log)
+}
+
+// Appends what is said of a log, where truth is given.
+fn check(alloc: Global, out: &mut String, log: &[u8]) -> Option<()> {
+    let mut theory = start(alloc).ok()?;
     admit_log(alloc, &mut theory, "tptp-log 1\nL andi 0\n")?;
-    Ok(said_of(alloc, check_log(alloc, &mut theory, log.as_bytes()))?)
+    say(out, check_log(alloc, &mut theory, log)).ok()
 }
 
-fn said_of(alloc: Global, answer: Result<usize, LogCheckFault>) -> Result<String, AllocError> {
+fn say(out: &mut String, answer: Result<usize, LogCheckFault>) -> Result<(), AllocError> {
     match answer {
         Err(LogCheckFault::Text(offset) | LogCheckFault::Deep(offset)) => {
-            format!(in alloc; "fault at {offset}; ")
+            write!(out, "fault at {offset}; ")
         }
-        Err(LogCheckFault::Illegal(number)) => format!(in alloc; "illegal {number}; "),
-        _ => String::from_str(alloc, "no fault; "),
+        Err(LogCheckFault::Illegal(number)) => write!(out, "illegal {number}; "),
+        _ => out.push_str("no fault; "),
     }
 }
 
@@ -120,38 +121,52 @@ const MEMBERS: Deep = Deep {
 };
 
 #[test]
-fn implications_nest_250_deep(rt: HostRuntime) -> Result<(), Fail> {
-    is(&rt, normed(rt.alloc()), "true")
+fn implications_nest_250_deep(rt: HostRuntime) {
+    is(&rt, normed(rt.alloc()), "true");
 }
 
 // Whether the kernel concludes from the implications to their normal form, by the proof that was written to a log and
 // read again.
-fn normed(alloc: Global) -> Result<String, Fail> {
-    let implications = nested(alloc, &IMPLICATIONS)?;
-    let members = nested(alloc, &MEMBERS)?;
-    let wanted = format!(in alloc; "> {implications} | 252 {members}")?;
-    is_normed(alloc, implications.as_str(), wanted.as_str())
-}
-
-fn is_normed(alloc: Global, implications: &str, wanted: &str) -> Result<String, Fail> {
-    let proof = normal_form(alloc, implications)?;
+fn normed(alloc: Global) -> Option<String> {
+    let implications = implications(alloc).ok()?;
+    let proof = normal_form(alloc, implications.as_str())?;
     let log = logged(alloc, proof.get())?;
-    let is_concluded = is_concluded_by(alloc, log.as_str(), wanted)?;
-    Ok(format!(in alloc; "{is_concluded}")?)
+    is_normed(alloc, log.as_str(), implications.as_str())
 }
 
-fn normal_form(alloc: Global, text: &str) -> Result<Boxed<Entry>, Fail> {
-    let form = Boxed::new(alloc, form(alloc, text)?)?;
+fn implications(alloc: Global) -> Result<String, AllocError> {
+    let mut text = String::new(alloc);
+    push_nested(&mut text, &IMPLICATIONS)?;
+    Ok(text)
+}
+
+fn is_normed(alloc: Global, log: &str, implications: &str) -> Option<String> {
+    let wanted = implied(alloc, implications).ok()?;
+    is_concluded_by(alloc, log, wanted.as_str())?
+        .to_string(alloc)
+        .ok()
+}
+
+// From the implications to their normal form.
+fn implied(alloc: Global, implications: &str) -> Result<String, AllocError> {
+    let mut text = format!(in alloc; "> {implications} | 252 ")?;
+    push_nested(&mut text, &MEMBERS)?;
+    Ok(text)
+}
+
+fn normal_form(alloc: Global, text: &str) -> Option<Boxed<Entry>> {
+    let form = Boxed::new(alloc, form(alloc, text)?).ok()?;
     let theory = symbols(alloc)?;
     forth(alloc, theory.signature(), form.get())
 }
 
-fn forth(alloc: Global, signature: &Signature, form: &Form) -> Result<Boxed<Entry>, Fail> {
+// None where the formula is not well-sorted, or too large.
+fn forth(alloc: Global, signature: &Signature, form: &Form) -> Option<Boxed<Entry>> {
     if !is_sorted(signature, form) {
-        return Err(Fail::from("the formula is not well-sorted, or too large"));
+        return None;
     }
-    let proof = norm_forth(alloc, form)?;
-    Ok(Boxed::new(alloc, Entry::Lemma(proof.into_inner()))?)
+    let proof = norm_forth(alloc, form).ok()?;
+    Boxed::new(alloc, Entry::Lemma(proof.into_inner())).ok()
 }
 
 // Whether the formula is well-sorted alone, and not too large.
@@ -161,10 +176,10 @@ fn is_sorted(signature: &Signature, form: &Form) -> bool
     norm_size(form) <= 100000 && well_sorted(signature, &[], form)
 }
 
-fn logged(alloc: Global, entry: &Entry) -> Result<String, Fail> {
+fn logged(alloc: Global, entry: &Entry) -> Option<String> {
     let mut log = SteadySink::new(alloc);
-    put_log(alloc, entry, &mut log)?;
-    shown(alloc, log.bytes())
+    put_log(alloc, entry, &mut log).ok()?;
+    shown(alloc, log.bytes()).ok()
 }
 
 fn put_log(alloc: Global, entry: &Entry, log: &mut SteadySink) -> Result<(), SinkFault> {
@@ -172,10 +187,10 @@ fn put_log(alloc: Global, entry: &Entry, log: &mut SteadySink) -> Result<(), Sin
     write_entry(alloc, entry, log)
 }
 
-fn is_concluded_by(alloc: Global, log: &str, wanted: &str) -> Result<bool, Fail> {
-    let entries = read_log(alloc, log.as_bytes())?;
+fn is_concluded_by(alloc: Global, log: &str, wanted: &str) -> Option<bool> {
+    let entries = read_log(alloc, log.as_bytes()).ok()?;
     match entries.as_slice() {
         [entry] => is_concluded(alloc, entry, wanted),
-        _ => Ok(false),
+        _ => None,
     }
 }

@@ -3,7 +3,6 @@ use crate::said::{failing_sink, is, shown, taken};
 use kernel::{Entry, Proof};
 use proof_log::{LogFault, read_log, write_entry, write_header};
 use std::alloc::{AllocError, Global};
-use std::test::Fail;
 use tptp_base::{Boxed, MemorySink, Sink, SinkFault, SteadySink};
 
 const LOG: &str = "tptp-log 1
@@ -16,19 +15,19 @@ C 7 | 0
 ";
 
 #[test]
-fn a_log_is_read_and_written_again(rt: HostRuntime) -> Result<(), Fail> {
-    is(&rt, written_again(rt.alloc()), LOG)
+fn a_log_is_read_and_written_again(rt: HostRuntime) {
+    is(&rt, written_again(rt.alloc()), LOG);
 }
 
-fn written_again(alloc: Global) -> Result<String, Fail> {
-    let entries = read_log(alloc, LOG.as_bytes())?;
+fn written_again(alloc: Global) -> Option<String> {
+    let entries = read_log(alloc, LOG.as_bytes()).ok()?;
     written(alloc, entries.as_slice())
 }
 
-fn written(alloc: Global, entries: &[Entry]) -> Result<String, Fail> {
+fn written(alloc: Global, entries: &[Entry]) -> Option<String> {
     let mut log = SteadySink::new(alloc);
-    write_log(alloc, entries, &mut log)?;
-    shown(alloc, log.bytes())
+    write_log(alloc, entries, &mut log).ok()?;
+    shown(alloc, log.bytes()).ok()
 }
 
 fn write_log<K: Sink>(alloc: Global, entries: &[Entry], log: &mut K) -> Result<(), SinkFault> {
@@ -40,22 +39,22 @@ fn write_log<K: Sink>(alloc: Global, entries: &[Entry], log: &mut K) -> Result<(
 }
 
 #[test]
-fn a_log_goes_on_behind_a_fault(rt: HostRuntime) -> Result<(), Fail> {
+fn a_log_goes_on_behind_a_fault(rt: HostRuntime) {
     let wanted = "failed: tptp-log 1\nL line 12\n";
-    is(&rt, written_on(rt.alloc()), wanted)
+    is(&rt, written_on(rt.alloc()), wanted);
 }
 
-fn written_on(alloc: Global) -> Result<String, Fail> {
-    let mut log = failing_sink(alloc, 2)?;
-    write_header(&mut log)?;
+fn written_on(alloc: Global) -> Option<String> {
+    let mut log = failing_sink(alloc, 2).ok()?;
+    write_header(&mut log).ok()?;
     entry_twice(alloc, &mut log)
 }
 
-fn entry_twice(alloc: Global, log: &mut MemorySink) -> Result<String, Fail> {
-    let entry = line(alloc)?;
+fn entry_twice(alloc: Global, log: &mut MemorySink) -> Option<String> {
+    let entry = line(alloc).ok()?;
     let failed = write_entry(alloc, entry.get(), log);
-    write_entry(alloc, entry.get(), log)?;
-    taken(alloc, failed, log)
+    write_entry(alloc, entry.get(), log).ok()?;
+    taken(alloc, failed, log).ok()
 }
 
 fn line(alloc: Global) -> Result<Boxed<Entry>, AllocError> {
@@ -64,25 +63,24 @@ fn line(alloc: Global) -> Result<Boxed<Entry>, AllocError> {
 
 // The 4,001st tree would begin where the text of 4,000 ends.
 #[test]
-fn a_log_that_nests_too_deep_is_told_from_one_that_is_cut(rt: HostRuntime) -> Result<(), Fail> {
+fn a_log_that_nests_too_deep_is_told_from_one_that_is_cut(rt: HostRuntime) {
     is(
         &rt,
-        both_faults(rt.alloc()),
+        both_faults(rt.alloc()).ok(),
         "deep at 20013; text at 20013; ",
-    )
+    );
 }
 
-fn both_faults(alloc: Global) -> Result<String, Fail> {
+fn both_faults(alloc: Global) -> Result<String, AllocError> {
     let mut out = String::new(alloc);
     push_fault(alloc, &mut out, 4001)?;
     push_fault(alloc, &mut out, 4000)?;
     Ok(out)
 }
 
-fn push_fault(alloc: Global, out: &mut String, times: u16) -> Result<(), Fail> {
+fn push_fault(alloc: Global, out: &mut String, times: u16) -> Result<(), AllocError> {
     let log = contradictions(alloc, times)?;
-    say_fault(out, fault_of(alloc, log.as_str()))?;
-    Ok(())
+    say_fault(out, fault_of(alloc, log.as_str()))
 }
 
 // A log whose one entry begins with so many contradictions, and ends behind them.

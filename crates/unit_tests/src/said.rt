@@ -1,14 +1,14 @@
 // What is found, as text, and the text that is wanted.
 use std::alloc::{AllocError, Global};
 use std::process::Abort;
-use std::test::Fail;
 use tptp_base::{List, MemorySink, SinkFault};
 
-/// The text that was found must be the one that is wanted.
-pub fn is<R: Abort>(rt: &R, found: Result<String, Fail>, wanted: &str) -> Result<(), Fail> {
-    let found = found?;
-    assert_eq!(*rt; found.as_str(), wanted);
-    Ok(())
+/// The text that was found, or that a call fails behind which it stands, must be the one that is wanted.
+pub fn is<R: Abort>(rt: &R, found: Option<String>, wanted: &str) {
+    match found {
+        Some(found) => assert_eq!(*rt; found.as_str(), wanted),
+        None => assert_eq!(*rt; "a call fails", wanted),
+    }
 }
 
 /// Appends bytes, each as the character of its number.
@@ -20,7 +20,7 @@ pub fn push_bytes(out: &mut String, bytes: &[u8]) -> Result<(), AllocError> {
 }
 
 /// The characters of bytes.
-pub fn shown(alloc: Global, bytes: &[u8]) -> Result<String, Fail> {
+pub fn shown(alloc: Global, bytes: &[u8]) -> Result<String, AllocError> {
     let mut out = String::new(alloc);
     push_bytes(&mut out, bytes)?;
     Ok(out)
@@ -36,7 +36,7 @@ pub fn taken(
     alloc: Global,
     outcome: Result<(), SinkFault>,
     sink: &MemorySink,
-) -> Result<String, Fail> {
+) -> Result<String, AllocError> {
     let mut out = String::from_str(alloc, ending(outcome))?;
     push_bytes(&mut out, sink.bytes())?;
     Ok(out)

@@ -4,7 +4,6 @@ use proof_log::write_header;
 use std::alloc::Global;
 use std::io;
 use std::io::Write;
-use std::test::Fail;
 use tptp_base::{RealSink, SinkFault, put_all};
 
 // It takes nothing of a piece.
@@ -22,33 +21,33 @@ impl Write for Idle {
 }
 
 #[test]
-fn a_piece_that_is_not_taken_is_a_fault(rt: HostRuntime) -> Result<(), Fail> {
-    is(&rt, said_of(rt.alloc(), Some(Idle), b"ab"), "failed")
+fn a_piece_that_is_not_taken_is_a_fault(rt: HostRuntime) {
+    is(&rt, said_of(rt.alloc(), Some(Idle), b"ab"), "failed");
 }
 
 #[test]
-fn a_piece_without_bytes_is_taken(rt: HostRuntime) -> Result<(), Fail> {
-    is(&rt, said_of(rt.alloc(), Some(Idle), b""), "taken")
+fn a_piece_without_bytes_is_taken(rt: HostRuntime) {
+    is(&rt, said_of(rt.alloc(), Some(Idle), b""), "taken");
 }
 
 #[test]
-fn without_a_writer_a_piece_is_not_taken(rt: HostRuntime) -> Result<(), Fail> {
-    is(&rt, said_of(rt.alloc(), None, b"ab"), "failed")
+fn without_a_writer_a_piece_is_not_taken(rt: HostRuntime) {
+    is(&rt, said_of(rt.alloc(), None, b"ab"), "failed");
 }
 
 #[test]
-fn a_log_that_takes_nothing_is_a_fault(rt: HostRuntime) -> Result<(), Fail> {
-    is(&rt, header(rt.alloc()), "failed")
+fn a_log_that_takes_nothing_is_a_fault(rt: HostRuntime) {
+    is(&rt, header(rt.alloc()), "failed");
 }
 
-fn header(alloc: Global) -> Result<String, Fail> {
+fn header(alloc: Global) -> Option<String> {
     let mut log = RealSink::new(Some(Idle));
-    Ok(String::from_str(alloc, name_of(write_header(&mut log)))?)
+    String::from_str(alloc, name_of(write_header(&mut log))).ok()
 }
 
-fn said_of(alloc: Global, writer: Option<Idle>, piece: &[u8]) -> Result<String, Fail> {
+fn said_of(alloc: Global, writer: Option<Idle>, piece: &[u8]) -> Option<String> {
     let mut sink = RealSink::new(writer);
-    Ok(String::from_str(alloc, name_of(put_all(&mut sink, piece)))?)
+    String::from_str(alloc, name_of(put_all(&mut sink, piece))).ok()
 }
 
 fn name_of(outcome: Result<(), SinkFault>) -> &'static str {
