@@ -2,7 +2,6 @@
 ghost use Rattle.std.specs.Prelude.{◌≡◌, ◌⊎◌, IfOk, IfSome};
 ghost use Rattle.std.specs.Option.{option_copied};
 ghost use Rattle.tptp_base.specs.Count.{Rose};
-ghost use Rattle.tstp_graph.specs.Lines.{is_formula};
 ghost use Rattle.read_problems.specs.Answer.{ending_of};
 ghost use Rattle.read_problems.specs.OtherFaults.{SaysProblemFault};
 ghost use Rattle.read_problems.specs.Ending.{IsAnswer};
@@ -10,12 +9,13 @@ ghost use Rattle.tptp_commands.specs.Parsed as spec;
 ghost use Rattle.tptp_commands.specs.Parsed.{EndsParse};
 ghost use Rattle.read_problems.specs.Stop.{HasCause, IfAnswer, IfStopped};
 
-use read_problems::{Answer, Halt, read_files, read_meaning};
+use read_problems::{Answer, Halt, read_denotation};
 use std::alloc::{AllocError, Global};
-use tptp_base::{Item, Store};
+use tptp_base::Store;
 
-/// Reads the problem in a file with all that it includes, checks its sorts, and says how many formulas it has.
-#[tactic(auto, using(crate::proofs::Parses::ends_included, crate::proofs::Parses::ends_sorted, crate::proofs::Parses::ends_counted, read_problems::proofs::Absences::problem_said, read_problems::proofs::Absences::sorts_said, crate::proofs::Absences::counted_said))]
+/// Reads the problem in a file with all that it includes, checks its sorts, and says how many formulas it has. The lines
+/// of the formulas are let go on the way.
+#[tactic(auto, using(crate::proofs::Parses::ends_refused, crate::proofs::Parses::ends_denoted, crate::proofs::Absences::counted_said))]
 pub fn parse<S: Store>(
     alloc: Global,
     store: &mut S,
@@ -30,30 +30,8 @@ pub fn parse<S: Store>(
         ⊎ SaysProblemFault (S.files store.old) (option_copied root.entry) file.now (ending_of answer)) }
     ensures cause { IfStopped result (λ stop. HasCause stop (Rose (S.faults store.old) (S.faults store.new)) ⊥) }
 {
-    let problem = read_files(alloc, store, root, file)?;
-    read_meaning(alloc, &problem)?;
-    let count = formula_count(problem.items.as_slice());
-    Ok(say_count(alloc, count)?)
-}
-
-// How many of the items are formulas.
-fn formula_count(items: &[Item]) -> usize
-    ensures { result ≡ spec.formula_count items.now }
-{
-    let mut count = 0;
-    for item in items {
-        if is_formula(item) {
-            count += 1;
-        }
-    }
-    count
-}
-
-// Whether the item is a formula.
-fn is_formula(item: &Item) -> bool
-    ensures { result ≡ is_formula item.now }
-{
-    matches!(item, Item::Formula(_))
+    let denotation = read_denotation(alloc, store, root, file, false)?;
+    Ok(say_count(alloc, denotation.formulas)?)
 }
 
 // What is said of a problem with so many formulas.
