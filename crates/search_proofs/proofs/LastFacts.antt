@@ -1,9 +1,11 @@
 -- All facts of a refutation, falsehood at last.
-use Rattle.std.specs.Prelude.{ℕ, ◌≡◌, ◌+◌, Bool, List, [], ◌∷◌, ◌++◌, length, Option, Some, slice_get, refl}
+use Rattle.std.specs.Prelude.{ℕ, ◌≡◌, ◌+◌, Bool, List, [], ◌∷◌, ◌++◌, length, Option, Some, None, slice_get, refl}
+use Rattle.std.specs.List.{All as Each}
 use Rattle.std.proofs.Common.{sym, ap, subst, ◌∙◌, arith, inl, inr}
 use Rattle.fof_terms.specs.Vocabulary.{Vocabulary}
 use Rattle.fof_terms.specs.Sorts.{Sorted}
-use Rattle.fof_terms.proofs.Scoped.{raised}
+use Rattle.std.proofs.lemmas.List.Elements.{recursion_from_All}
+use Rattle.fof_terms.proofs.Scoped.{member_of, raised}
 use Rattle.fof_terms.specs.declared.form.Form.{Form, Or}
 use Rattle.clause_form.specs.declared.clause.Clause.{Clause}
 use Rattle.clause_form.specs.declared.clause.Lit.{Lit}
@@ -21,9 +23,14 @@ use Rattle.saturation.specs.declared.member.Origin.TheVariants.{Input}
 use Rattle.superpose.specs.Drafts.{IsClause}
 use Rattle.search_proofs.specs.Falsehood.{IsFalsehoodBy}
 use Rattle.search_proofs.specs.Needed.{Names, AreNeeded}
+use Rattle.search_proofs.specs.code.Contradictions.{AreNeededFor, IsByContradiction, StandIn, Suffice}
+use Rattle.search_proofs.specs.code.Ended.{IsEnded, IsEndedByLast}
 use Rattle.search_proofs.specs.code.Facts.{Setting, IsOf, StandsAt}
+use Rattle.search_proofs.specs.code.Marks.{NameMarked}
 use Rattle.search_proofs.specs.Placed.{there, numbers_from}
-use Rattle.search_proofs.specs.code.Members.{IsPassed, InputStands, IsMembers, IsLater, ShowMore, PassMembers, LeadOn}
+use Rattle.search_proofs.specs.code.Members.{IsPassed, InputStands, IsMembers, IsLater, MembersStand, ShowMore, PassMembers, LeadOn}
+use Rattle.search_proofs.specs.declared.contradicting.Contradiction.{Contradiction}
+use Rattle.search_proofs.proofs.Contradicted.{enough_names}
 use Rattle.search_proofs.proofs.Forms.{formula_ready}
 use Rattle.search_proofs.proofs.InTurn.{one_of, shown_twice, shown_as, stands_in, stands_on}
 use Rattle.search_proofs.proofs.Inputs.{numbers_count}
@@ -63,16 +70,60 @@ module _ (w : Vocabulary) (start : ℕ) (members : List Member) (needed : List B
         own_stands : (s : Setting) (all facts : List Form) (mid : List Proof) → ShowMore s (IsMembers members) mid facts all → InputStands s facts of_inputs last → InputStands s all of_inputs last
         own_stands s all facts mid more own i k o e = stands_on s (IsMembers members) mid facts all k (formula_of last.clause) more (own i k o e)
 
+-- by a contradiction among the members
+module _ (w : Vocabulary) (start : ℕ) (members : List Member) (needed : List Bool) (last : Member) (of_inputs numbers : List ℕ) (c : Contradiction) (needs : AreNeededFor members c needed) where
+  named_stand : Each (λ m. IsClause w m.clause) members → (s : Setting) (all : List Form) → s.vocabulary ≡ w → MembersStand s all members needed numbers → (t : Statements) → IsOf s t → StandIn (with_denied t s.line all) members numbers c
+  named_stand fit s all voc stand t of i m n named at number =
+      let form = formula_of m.clause in
+      let own : IsClause w m.clause = member_of (λ (x : Member). IsClause w x.clause) members i m (recursion_from_All (λ (x : Member). IsClause w x.clause) members fit) at in
+      let ready : IsReady w form = formula_ready w m.clause own in (
+        subst (λ (v : Vocabulary). Sorted v [] form) (sym (of.vocabulary ∙ voc)) (raised w [] 1000000000 2147483647 form (omega arith) ready),
+        stands_in s all n form t of (stand i m n at (needs.named i named) number),
+      )
+
+  pub leads_by : (first mid proofs : List Proof) (p : Proof) → Each (λ m. IsClause w m.clause) members → PassMembers w start members needed of_inputs numbers first mid → IsByContradiction members numbers c p → proofs ≡ mid ++ p ∷ []
+      → LeadOn w start members needed last of_inputs first proofs
+  leads_by first mid proofs p fit before falsehood is s voc starts facts shown inputs own =
+      let P = IsLater members last in
+      let so_far = before s voc starts facts shown inputs in
+      let all = so_far.0 in
+      let begun : ShowMore s P mid facts all = shown_as s (IsMembers members) P (λ a m. inl m) mid facts all so_far.1 in
+      let shows = λ (t : Statements) (of : IsOf s t). falsehood (with_denied t s.line all) (named_stand fit s all voc so_far.2 t of) in
+      let ended = one_of s P mid proofs all p (Or []) so_far.1.shown shows (inr (inr refl)) is in
+      record {
+        facts = all ++ Or [] ∷ [];
+        shown = shown_twice s P mid proofs facts all (all ++ Or [] ∷ []) begun ended;
+        rest = all;
+        ends = refl;
+      }
+
+-- by the one or by the other
+leads_either : (w : Vocabulary) (start : ℕ) (members : List Member) (needed : List Bool) (last : Member) (of_inputs numbers : List ℕ) (found : Option Contradiction) (first mid proofs : List Proof) → Suffice members last found needed → Each (λ m. IsClause w m.clause) members → IsClause w last.clause
+    → last.clause.lits ≡ [] → PassMembers w start members needed of_inputs numbers first mid → IsEnded w start members numbers of_inputs last found mid proofs → LeadOn w start members needed last of_inputs first proofs
+leads_either w start members needed last of_inputs numbers None first mid proofs needs each fit empty passes e = leads_on w start members needed last needs of_inputs numbers first mid e.mid proofs e.number e.proof fit empty passes e.passed e.falsehood e.is
+leads_either w start members needed last of_inputs numbers (Some c) first mid proofs needs each fit empty passes e = leads_by w start members needed last of_inputs numbers c needs.1 first mid proofs e.proof each passes e.falsehood e.is
+
 -- as code has it
-pub leads_as : (w : Vocabulary) (start : ℕ) (members : List Member) (needed : List Bool) (last : Member) (of_inputs lent numbers lent_numbers sorts : List ℕ) (facts first mid later proofs : List Proof) (inputs : List (Option Proof)) (n : ℕ) (p : Proof)
-    → AreNeeded members last needed → IsClause w last.clause → last.clause.lits ≡ [] → of_inputs ≡ numbers_from (start + length facts) inputs → first ≡ facts ++ there inputs → lent ≡ of_inputs → lent_numbers ≡ numbers
-    → ((m : Member) → AreNeeded members m needed → PassMembers w start members needed lent numbers first mid) → IsPassed w start members lent_numbers lent last.clause last.origin mid later n
-    → IsFalsehoodBy n sorts p → sorts ≡ last.clause.sorts → proofs ≡ later ++ p ∷ [] → LeadOn w start members needed last (numbers_from (start + length facts) inputs) (facts ++ there inputs) proofs
-leads_as w start members needed last of_inputs lent numbers lent_numbers sorts facts first mid later proofs inputs n p needs fit empty placed first_is lent_is numbers_is passes h falsehood sorts_are is =
-    let own : IsPassed w start members numbers lent last.clause last.origin mid later n = subst (λ (ns : List ℕ). IsPassed w start members ns lent last.clause last.origin mid later n) numbers_is h in
-    let false_by : IsFalsehoodBy n last.clause.sorts p = subst (λ (ss : List ℕ). IsFalsehoodBy n ss p) sorts_are falsehood in
-    let whole = leads_on w start members needed last needs lent numbers first mid later proofs n p fit empty (passes last needs) own false_by is in
+pub leads_as : (w : Vocabulary) (start : ℕ) (members : List Member) (needed : List Bool) (last : Member) (found : Option Contradiction) (of_inputs lent numbers lent_numbers : List ℕ) (facts first mid proofs : List Proof) (inputs : List (Option Proof))
+    → Suffice members last found needed → Each (λ m. IsClause w m.clause) members → IsClause w last.clause → last.clause.lits ≡ [] → of_inputs ≡ numbers_from (start + length facts) inputs → first ≡ facts ++ there inputs → lent ≡ of_inputs → lent_numbers ≡ numbers
+    → (NameMarked members needed → PassMembers w start members needed lent numbers first mid) → IsEnded w start members lent_numbers lent last found mid proofs
+    → LeadOn w start members needed last (numbers_from (start + length facts) inputs) (facts ++ there inputs) proofs
+leads_as w start members needed last found of_inputs lent numbers lent_numbers facts first mid proofs inputs needs each fit empty placed first_is lent_is numbers_is passes ended =
+    let own : IsEnded w start members numbers lent last found mid proofs = subst (λ (ns : List ℕ). IsEnded w start members ns lent last found mid proofs) numbers_is ended in
+    let whole = leads_either w start members needed last lent numbers found first mid proofs needs each fit empty (passes (enough_names members last found needed needs)) own in
     subst (λ (ns : List ℕ). LeadOn w start members needed last ns (facts ++ there inputs) proofs) (lent_is ∙ placed) (subst (λ (ps : List Proof). LeadOn w start members needed last lent ps proofs) first_is whole)
+
+-- ended by the last member, as code has it
+pub ended_by_last : (w : Vocabulary) (start : ℕ) (members : List Member) (numbers of_inputs sorts : List ℕ) (last : Member) (old mid new : List Proof) (n : ℕ) (p q : Proof) → IsPassed w start members numbers of_inputs last.clause last.origin old mid n → IsFalsehoodBy n sorts p → sorts ≡ last.clause.sorts → q ≡ p
+    → new ≡ mid ++ q ∷ [] → IsEndedByLast w start members numbers of_inputs last old new
+ended_by_last w start members numbers of_inputs sorts last old mid new n p q passes falsehood sorts_are q_is is = record {
+  mid = mid;
+  number = n;
+  proof = p;
+  passed = passes;
+  falsehood = subst (λ (ss : List ℕ). IsFalsehoodBy n ss p) sorts_are falsehood;
+  is = is ∙ ap (λ (x : Proof). mid ++ x ∷ []) q_is;
+}
 
 -- the inputs of a refutation, as many as have a number
 pub inputs_made : (w : Vocabulary) (members : List Member) (last : Member) (base : ℕ) (inputs : List (Option Proof)) (of_inputs lent : List ℕ) → (clauses : List Clause) × (length clauses ≡ length inputs) × AreMade w clauses members × IsMade w clauses (clauses_of members) last

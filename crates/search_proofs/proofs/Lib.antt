@@ -1,3 +1,4 @@
+pub mod Contradicted
 pub mod DeclaredFacts
 pub mod Empty
 pub mod Forms

@@ -31,12 +31,14 @@ use Rattle.saturation.specs.declared.member.Origin.{Origin}
 use Rattle.saturation.specs.declared.member.Origin.TheVariants.{Input, Inferred}
 use Rattle.superpose.specs.Drafts.{IsClause}
 use Rattle.unify_terms.specs.Substitution.{image_at}
-use Rattle.search_proofs.specs.Needed.{Names, AreNeeded, IsMarked}
+use Rattle.search_proofs.specs.Needed.{Names, IsMarked}
+use Rattle.search_proofs.specs.code.Marks.{NameMarked}
+use Rattle.search_proofs.specs.code.Naming.{NameEarlier}
 use Rattle.search_proofs.specs.code.Facts.{Setting, IsOf, AreShown, StandsAt, first_fact}
 use Rattle.search_proofs.specs.code.Members.{IsPremise, IsConcluded, IsPassed, IsPassedIf, MembersStand, IsMembers, ShowMore, PassMembers}
 use Rattle.search_proofs.proofs.Forms.{formula_ready}
 use Rattle.search_proofs.proofs.InTurn.{stands_in, stands_last, no_more, one_of, shown_twice, stands_on}
-use Rattle.search_proofs.proofs.Sweeping.{NameEarlier, origin_names, count_of, each_names}
+use Rattle.search_proofs.proofs.Sweeping.{origin_names, count_of, each_names}
 use Rattle.search_proofs.proofs.Symbols.{clause_at, taken}
 
 -- the member at a place, as code meets it
@@ -143,14 +145,14 @@ pub none_passed : (w : Vocabulary) (start : ℕ) (members : List Member) (needed
 none_passed w start members needed of_inputs numbers old new none same s voc starts facts shown inputs =
     (facts, no_more s (IsMembers members) old new facts shown same, λ j m n at marked number. let no : slice_get [] j ≡ Some n = ap (λ (ns : List ℕ). slice_get ns j) (sym none) ∙ number in cc)
 
-module _ (w : Vocabulary) (start : ℕ) (members : List Member) (needed : List Bool) (of_inputs : List ℕ) (last : Member) (needs : AreNeeded members last needed) (names : NameEarlier members) where
+module _ (w : Vocabulary) (start : ℕ) (members : List Member) (needed : List Bool) (of_inputs : List ℕ) (needs : NameMarked members needed) (names : NameEarlier members) where
   -- what a needed member's origin names is needed and stands
   pub named_stand : (s : Setting) (all : List Form) (at : ℕ) (numbers : List ℕ) (m : Member) → MembersStand s all members needed numbers → slice_get members at ≡ Some m → IsMarked needed at
       → (i n : ℕ) (c : Clause) → Names m.origin i → slice_get numbers i ≡ Some n → slice_get (clauses_of (take at members)) i ≡ Some c → StandsAt s all n (formula_of c)
   named_stand s all at numbers m stand there marked i n c name number clause =
       let found = clause_at (take at members) i c clause in
       let earlier = taken members at i found.0 found.1 in
-      let needed_too = needs.of_each i (record { by = at; member = m; there = there; marked = marked; names = name }) in
+      let needed_too = needs i (record { by = at; member = m; there = there; marked = marked; names = name }) in
       subst (λ (x : Clause). StandsAt s all n (formula_of x)) found.2 (stand i found.0 n earlier.1 needed_too number)
 
   module _ (at : ℕ) (m : Member) (there : slice_get members at ≡ Some m) (numbers more : List ℕ) (size : length numbers ≡ at) (n : ℕ) (is : more ≡ numbers ++ n ∷ []) (old mid new : List Proof) (before : PassMembers w start members needed of_inputs numbers old mid) where
@@ -210,14 +212,14 @@ pub front_made : (w : Vocabulary) (members front : List Member) (n : ℕ) (m : M
 front_made w members front n m count is lt at made =
     (made.0, made.1, subst (λ (ms : List Member). Makes w made.0 (clauses_of ms) m.clause m.origin) (sym is) (made.2 n m (member_there members n m lt at)))
 
-pub step_passed : (w : Vocabulary) (start : ℕ) (members front : List Member) (needed : List Bool) (of_inputs : List ℕ) (last : Member) (n : ℕ) (m : Member) (b : Bool) (numbers lent more : List ℕ) (number : ℕ) (old mid new : List Proof) → AreNeeded members last needed
+pub step_passed : (w : Vocabulary) (start : ℕ) (members front : List Member) (needed : List Bool) (of_inputs : List ℕ) (n : ℕ) (m : Member) (b : Bool) (numbers lent more : List ℕ) (number : ℕ) (old mid new : List Proof) → NameMarked members needed
     → ((inputs : List Clause) × (length inputs ≡ length of_inputs) × AreMade w inputs members) → n < length members → length needed ≡ length members → front ≡ take n members → m ≡ get_or members n m → b ≡ get_or needed n false → length numbers ≡ n → lent ≡ numbers
     → PassMembers w start members needed of_inputs numbers old mid → IsPassedIf b w start front lent of_inputs m.clause m.origin mid new number → more ≡ numbers ++ number ∷ [] → PassMembers w start members needed of_inputs more old new
-step_passed w start members front needed of_inputs last n m b numbers lent more number old mid new needs made lt many is at b_is size lent_is before h push =
+step_passed w start members front needed of_inputs n m b numbers lent more number old mid new needs made lt many is at b_is size lent_is before h push =
     let own : IsPassedIf b w start (take n members) numbers of_inputs m.clause m.origin mid new number =
     subst (λ (ms : List Member). IsPassedIf b w start ms numbers of_inputs m.clause m.origin mid new number) is (subst (λ (ns : List ℕ). IsPassedIf b w start front ns of_inputs m.clause m.origin mid new number) lent_is h) in
     let marked : slice_get needed n ≡ Some b = slice_get-get_or needed n false (omega arith) ∙ ap Some (sym b_is) in
-    pass_one w start members needed of_inputs last needs (each_names w made.0 members made.2) n m (member_there members n m lt at) numbers more size number push old mid new before b marked own
+    pass_one w start members needed of_inputs needs (each_names w made.0 members made.2) n m (member_there members n m lt at) numbers more size number push old mid new before b marked own
 
 -- a member that is proved from two
 module _ (w : Vocabulary) (start : ℕ) (earlier : List Member) (numbers of_inputs : List ℕ) (e : Clause) (o : Origin) where

@@ -12,8 +12,8 @@ use Rattle.saturation.specs.declared.member.Member.{Member}
 use Rattle.saturation.specs.declared.member.Origin.{Origin}
 use Rattle.saturation.specs.declared.member.Origin.TheVariants.{Input, Inferred}
 use Rattle.search_proofs.specs.Needed.{Names, IsMarked, IsNamed, AreNeeded}
-use Rattle.search_proofs.specs.code.Naming.{NamesBelow}
-use Rattle.search_proofs.specs.code.Marks.{IsUnmarked, Marks, Passes}
+use Rattle.search_proofs.specs.code.Naming.{NameEarlier, NamesBelow}
+use Rattle.search_proofs.specs.code.Marks.{IsSweptFrom, IsUnmarked, Marks, Passes}
 
 pub set_count : (xs : List Bool) (i : ℕ) → length (slice_set xs i true) ≡ length xs
 set_count [] i = refl
@@ -64,12 +64,12 @@ marks_both a b images old la lb =
           ];
     }
 
--- what is marked after so many members, the last first
-pub record IsSwept (members : List Member) (last : Member) (k : ℕ) (marks : List Bool) : Type 0 where
-  pub count : length marks ≡ length members
-  pub of_last : (i : ℕ) → Names last.origin i → IsMarked marks i
+-- what is marked after so many members, the last first, where these were marked at first
+pub record IsSwept (members : List Member) (first : List Bool) (k : ℕ) (marks : List Bool) : Type 0 where
+  pub count : length marks ≡ length first
+  pub kept : (i : ℕ) → IsMarked first i → IsMarked marks i
   pub of_each : (j : ℕ) (m : Member) (i : ℕ) → length members ≤ j + k → slice_get members j ≡ Some m → IsMarked marks j → Names m.origin i → IsMarked marks i
-  pub only : (i : ℕ) → IsMarked marks i → Names last.origin i ⊎ IsNamed members marks i
+  pub only : (i : ℕ) → IsMarked marks i → IsMarked first i ⊎ IsNamed members marks i
 
 pub unmarked_none : (marks : List Bool) → marks ≡ [] → IsUnmarked 0 marks
 unmarked_none marks e = record {
@@ -93,12 +93,12 @@ unmarked_more n marks more u e = record {
   none = λ i m. not_more marks u.none i (subst (λ (bs : List Bool). IsMarked bs i) e m);
 }
 
-pub swept_none : (members : List Member) (last : Member) (old new : List Bool) → IsUnmarked (length members) old → Marks last.origin old new → IsSwept members last 0 new
-swept_none members last old new none m = record {
-  count = m.count ∙ none.count;
-  of_last = m.named;
+pub swept_none : (members : List Member) (first : List Bool) → length first ≡ length members → IsSwept members first 0 first
+swept_none members first many = record {
+  count = refl;
+  kept = λ i marked. marked;
   of_each = λ j x i le at marked names. let lt = slice_get_within members j x at in absurd (omega arith);
-  only = λ i marked. elim (m.only i marked) [ inl y ↦ absurd (none.none i y) | inr y ↦ inl y ];
+  only = λ i marked. inl marked;
 }
 
 still_named : (members : List Member) (old new : List Bool) (i : ℕ) → ((k : ℕ) → IsMarked old k → IsMarked new k) → IsNamed members old i → IsNamed members new i
@@ -107,11 +107,11 @@ still_named members old new i kept n = record { by = n.by; member = n.member; th
 same_member : (members : List Member) (j at : ℕ) (x m : Member) → j ≡ at → slice_get members j ≡ Some x → slice_get members at ≡ Some m → x ≡ m
 same_member members j at x m e there here = let both : Some x ≡ Some m = sym there ∙ ap (slice_get members) e ∙ here in cc
 
-module _ (members : List Member) (last : Member) (k at : ℕ) (m : Member) (old new : List Bool) (place : at + (k + 1) ≡ length members) (here : slice_get members at ≡ Some m) (below : NamesBelow at m.origin) (s : IsSwept members last k old) where
-  swept_marked : IsMarked old at → Marks m.origin old new → IsSwept members last (k + 1) new
+module _ (members : List Member) (first : List Bool) (k at : ℕ) (m : Member) (old new : List Bool) (place : at + (k + 1) ≡ length members) (here : slice_get members at ≡ Some m) (below : NamesBelow at m.origin) (s : IsSwept members first k old) where
+  swept_marked : IsMarked old at → Marks m.origin old new → IsSwept members first (k + 1) new
   swept_marked marked marks = record {
     count = marks.count ∙ s.count;
-    of_last = λ i names. marks.kept i (s.of_last i names);
+    kept = λ i was. marks.kept i (s.kept i was);
     of_each = λ j x i le there is names.
         elim (cases_eq j at) [
           | inl e ↦ marks.named i (subst (λ (y : Member). Names y.origin i) (same_member members j at x m e there here) names)
@@ -127,12 +127,12 @@ module _ (members : List Member) (last : Member) (k at : ℕ) (m : Member) (old 
         ];
   }
 
-  swept_unmarked : (IsMarked old at → ⊥) → new ≡ old → IsSwept members last (k + 1) new
+  swept_unmarked : (IsMarked old at → ⊥) → new ≡ old → IsSwept members first (k + 1) new
   swept_unmarked none same =
-      subst (λ (marks : List Bool). IsSwept members last (k + 1) marks) (sym same)
+      subst (λ (marks : List Bool). IsSwept members first (k + 1) marks) (sym same)
       (record {
         count = s.count;
-        of_last = s.of_last;
+        kept = s.kept;
         of_each = λ j x i le there is names.
             elim (cases_eq j at) [
               | inl e ↦ absurd (none (subst (λ n. IsMarked old n) e is))
@@ -141,21 +141,30 @@ module _ (members : List Member) (last : Member) (k at : ℕ) (m : Member) (old 
         only = s.only;
       })
 
-  pub swept_more : Passes at m.origin old new → ((b : Bool) → slice_get old at ≡ Some b → IsSwept members last (k + 1) new)
+  pub swept_more : Passes at m.origin old new → ((b : Bool) → slice_get old at ≡ Some b → IsSwept members first (k + 1) new)
   swept_more p true is = swept_marked is (p.marks is)
   swept_more p false is = swept_unmarked (λ marked. let both : Some false ≡ Some true = sym is ∙ marked in cc) (p.same (λ marked. let both : Some false ≡ Some true = sym is ∙ marked in cc))
 
-pub swept_all : (members : List Member) (last : Member) (k : ℕ) (marks : List Bool) → length members ≤ k → IsSwept members last k marks → AreNeeded members last marks
-swept_all members last k marks le s = record {
+pub swept_all : (members : List Member) (first : List Bool) (k : ℕ) (marks : List Bool) → length members ≤ k → IsSwept members first k marks → IsSweptFrom members first marks
+swept_all members first k marks le s = record {
   count = s.count;
-  of_last = s.of_last;
+  kept = s.kept;
   of_each = λ i n. s.of_each n.by n.member i (omega arith) n.there n.marked n.names;
   only = s.only;
 }
 
--- each member's origin names earlier members alone
-abbrev pub NameEarlier : List Member → Type 0
-NameEarlier members = (j : ℕ) (m : Member) → slice_get members j ≡ Some m → NamesBelow j m.origin
+-- from what the last member's origin names
+pub needed_swept : (members : List Member) (last : Member) (none first marks : List Bool) → IsUnmarked (length members) none → Marks last.origin none first → IsSweptFrom members first marks → AreNeeded members last marks
+needed_swept members last none first marks u m s = record {
+  count = s.count ∙ (m.count ∙ u.count);
+  of_last = λ i names. s.kept i (m.named i names);
+  of_each = s.of_each;
+  only = λ i marked.
+      elim (s.only i marked) [
+        | inl was ↦ elim (m.only i was) [ inl y ↦ absurd (u.none i y) | inr y ↦ inl y ]
+        | inr y ↦ inr y
+      ];
+}
 
 -- what a made member's origin names
 pub origin_names : (v : Vocabulary) (inputs list : List Clause) (e : Clause) (o : Origin) → Makes v inputs list e o → NamesBelow (length list) o
@@ -190,18 +199,18 @@ member_there members at m lt is = slice_get-get_or members at m lt ∙ ap Some (
 pub last_below : (members : List Member) (last : Member) (old : List Bool) → IsUnmarked (length members) old → NamesBelow (length members) last.origin → NamesBelow (length old) last.origin
 last_below members last old none below i names = let lt = below i names in omega (arith, none.count)
 
-pub place_below : (members : List Member) (last : Member) (k at : ℕ) (m : Member) (marks : List Bool) → NameEarlier members → k < length members → at ≡ length members - 1 - k → m ≡ get_or members at m
-    → IsSwept members last k marks → NamesBelow (length marks) (get_or members at m).origin
-place_below members last k at m marks earlier lt place is s =
+pub place_below : (members : List Member) (first : List Bool) → length first ≡ length members → (k at : ℕ) (m : Member) (marks : List Bool) → NameEarlier members → k < length members → at ≡ length members - 1 - k → m ≡ get_or members at m
+    → IsSwept members first k marks → NamesBelow (length marks) (get_or members at m).origin
+place_below members first many k at m marks earlier lt place is s =
     subst (λ (y : Member). NamesBelow (length marks) y.origin) is
-    (λ i names. let below = earlier at m (member_there members at m (omega arith) is) i names in omega (arith, s.count))
+    (λ i names. let below = earlier at m (member_there members at m (omega arith) is) i names in omega (arith, s.count, many))
 
-pub swept_step : (members : List Member) (last : Member) (k at : ℕ) (m : Member) (old new : List Bool) → NameEarlier members → k < length members → at ≡ length members - 1 - k → m ≡ get_or members at m
-    → IsSwept members last k old → Passes at (get_or members at m).origin old new → IsSwept members last (k + 1) new
-swept_step members last k at m old new earlier lt place is s p =
+pub swept_step : (members : List Member) (first : List Bool) → length first ≡ length members → (k at : ℕ) (m : Member) (old new : List Bool) → NameEarlier members → k < length members → at ≡ length members - 1 - k → m ≡ get_or members at m
+    → IsSwept members first k old → Passes at (get_or members at m).origin old new → IsSwept members first (k + 1) new
+swept_step members first many k at m old new earlier lt place is s p =
     let there = member_there members at m (omega arith) is in
     let own : Passes at m.origin old new = subst (λ (y : Member). Passes at y.origin old new) (sym is) p in
-    swept_more members last k at m old new (omega arith) there (earlier at m there) s own (get_or old at false) (slice_get-get_or old at false (omega (arith, s.count)))
+    swept_more members first k at m old new (omega arith) there (earlier at m there) s own (get_or old at false) (slice_get-get_or old at false (omega (arith, s.count, many)))
 
 -- what an inference's origin names
 pub first_within : (o : Origin) (a b : ℕ) (images : List Term) (n : ℕ) → o ≡ Inferred a b images → NamesBelow n o → a < n

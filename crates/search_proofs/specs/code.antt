@@ -1,4 +1,7 @@
 -- What private contracts alone say of the code. Nothing public rests on this.
+pub mod Clashes
+pub mod Contradictions
+pub mod Ended
 pub mod Facts
 pub mod Marks
 pub mod Members

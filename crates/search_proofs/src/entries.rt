@@ -14,7 +14,7 @@ ghost use Rattle.step_clauses.specs.Wide.{is_wide};
 ghost use Rattle.superpose.specs.Drafts.{IsClause};
 
 use crate::declaring::declarations;
-use crate::needing::needed_members;
+use crate::ending::ending_of;
 use crate::placing::further;
 use crate::refuting::proofs_of_refutation;
 use crate::wanting::wanted_inputs;
@@ -56,8 +56,8 @@ pub fn refutation_entries(
     ensures { IfOk result (λ entries. IsSearchedFrom theory.now parents.now entries line.now) }
 {
     signature.is_vocabulary();
-    let needed = needed_members(alloc, members, empty)?;
-    let needed = needed.as_slice();
+    let ending = ending_of(alloc, members, empty)?;
+    let needed = ending.needed.as_slice();
     let wanted = wanted_inputs(alloc, inputs.len(), members, needed, empty)?;
     let opened = open_inputs(alloc, theory, parents, line, wanted.as_slice())?;
     let OpenedInputs {
@@ -68,7 +68,15 @@ pub fn refutation_entries(
     let denied = further(theory.len(), choices.len())?;
     let start = further(denied, 1)?;
     let proofs = proofs_of_refutation(
-        alloc, signature, start, facts, proofs, members, needed, empty,
+        alloc,
+        signature,
+        start,
+        facts,
+        proofs,
+        members,
+        needed,
+        empty,
+        &ending.found,
     )?;
     further(denied, proofs.len())?;
     let lemmas = lemmas_of_refutation(alloc, line, denied, proofs.as_slice())?;

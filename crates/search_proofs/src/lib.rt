@@ -1,12 +1,15 @@
 //! From a refutation that a search hands out to entries.
 #![tactic(auto)]
 
+mod contradicting;
 mod declaring;
+mod ending;
 mod entries;
 mod falsehood;
 mod formula;
 mod members;
 mod needing;
+mod opposing;
 mod placing;
 mod refuting;
 mod wanting;

@@ -5,9 +5,8 @@ ghost use Rattle.fof_terms.specs.declared.term.Term.{Term as Image};
 ghost use Rattle.clause_form.specs.declared.clause.Clause.{Clause as Disjunction};
 ghost use Rattle.saturation.specs.Members.{clauses_of};
 ghost use Rattle.saturation.specs.Origins.{AreMade, Makes};
-ghost use Rattle.saturation.specs.declared.member.Member.{Member as Listed};
 ghost use Rattle.saturation.specs.declared.member.Origin.TheVariants.{Inferred as ByInference};
-ghost use Rattle.search_proofs.specs.Needed.{AreNeeded};
+ghost use Rattle.search_proofs.specs.code.Marks.{NameMarked};
 ghost use Rattle.search_proofs.specs.code.Members.{IsConcluded, IsPassed, IsPassedIf, IsPremise, PassMembers};
 ghost use Rattle.superpose.specs.Drafts.{IsClause};
 
@@ -38,7 +37,7 @@ pub fn push_members(
     requires made { (inputs : Clauses Disjunction) × (length inputs ≡ length of_inputs.now)
         × AreMade signature.now inputs members.now }
     ensures size { IfOk result (λ numbers. length numbers ≡ length members.now) }
-    ensures passed { IfOk result (λ numbers. (last : Listed) → AreNeeded members.now last needed.now
+    ensures passed { IfOk result (λ numbers. NameMarked members.now needed.now
         → PassMembers signature.now start members.now needed.now of_inputs.now numbers proofs.old proofs.new) }
 {
     let mut numbers = List::new(alloc);

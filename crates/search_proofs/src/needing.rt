@@ -1,12 +1,12 @@
 //! Which members a refutation needs.
-ghost use Rattle.std.specs.Prelude.{◌<◌, length, List as Clauses, IfOk};
+ghost use Rattle.std.specs.Prelude.{◌≡◌, ◌<◌, length, List as Clauses, IfOk};
 ghost use Rattle.fof_terms.specs.Vocabulary.{Vocabulary};
 ghost use Rattle.clause_form.specs.declared.clause.Clause.{Clause as Disjunction};
 ghost use Rattle.saturation.specs.Members.{clauses_of};
 ghost use Rattle.saturation.specs.Origins.{AreMade, IsMade};
 ghost use Rattle.search_proofs.specs.Needed.{AreNeeded};
-ghost use Rattle.search_proofs.specs.code.Naming.{NamesBelow};
-ghost use Rattle.search_proofs.specs.code.Marks.{IsUnmarked, Marks, Passes};
+ghost use Rattle.search_proofs.specs.code.Naming.{NameEarlier, NamesBelow};
+ghost use Rattle.search_proofs.specs.code.Marks.{IsSweptFrom, IsUnmarked, Marks, Passes};
 
 use saturation::{Member, Origin};
 use std::alloc::Global;
@@ -25,11 +25,20 @@ pub fn needed_members(
 {
     let mut marks = unmarked(alloc, members.len())?;
     mark(&mut marks, &last.origin);
+    sweep(members, &mut marks);
+    Ok(marks)
+}
+
+/// Marks also the members that the origins of marked ones name, those that their origins name, and so on.
+pub(crate) fn sweep(members: &[Member], marks: &mut List<bool>)
+    requires earlier { NameEarlier members.now }
+    requires size { length marks.old ≡ length members.now }
+    ensures { IsSweptFrom members.now marks.old marks.new }
+{
     for k in 0..members.len() {
         let at = members.len() - 1 - k;
-        pass(&mut marks, at, &members[at].origin);
+        pass(marks, at, &members[at].origin);
     }
-    Ok(marks)
 }
 
 /// So many places, none of which is marked.

@@ -6,15 +6,16 @@ use Rattle.kernel.specs.declared.entry.Entry.{Entry}
 use Rattle.kernel.specs.declared.proof.Proof.{Proof}
 use Rattle.negated_lemmas.specs.Negated.{ConcludeLine}
 use Rattle.saturation.specs.Members.{clauses_of}
-use Rattle.search_proofs.specs.Needed.{AreNeeded}
 use Rattle.search_proofs.specs.Searched.{declare_all}
+use Rattle.search_proofs.specs.code.Contradictions.{Suffice}
 use Rattle.search_proofs.specs.code.Wanting.{AreInputsMarked}
+use Rattle.search_proofs.proofs.Contradicted.{enough_count}
 use Rattle.search_proofs.proofs.Whole.{as_many_inputs, searched, symbols_known}
 use Rattle.search_proofs.proofs.WantedFacts.{each_input, last_input}
 use Rattle.search_proofs.proofs.entries.refutation_entries.Goals as goal
 
-pub needed_members-requires : goal.needed_members-requires
-needed_members-requires c = (c.args.signature.now, c.args.inputs.now, c.requires.members, c.requires.last)
+pub ending_of-requires : goal.ending_of-requires
+ending_of-requires c = (c.args.signature.now, c.args.inputs.now, c.requires.members, c.requires.last)
 
 pub wanted_inputs-requires-clause-last : goal.wanted_inputs-requires-clause-last
 wanted_inputs-requires-clause-last c = last_input c.args.signature.now c.args.inputs.now (clauses_of c.args.members.now) c.args.empty.now c.requires.last
@@ -23,13 +24,13 @@ pub wanted_inputs-requires-clause-each : goal.wanted_inputs-requires-clause-each
 wanted_inputs-requires-clause-each c = each_input c.args.signature.now c.args.inputs.now c.args.members.now c.requires.members
 
 pub wanted_inputs-requires-clause-needed : goal.wanted_inputs-requires-clause-needed
-wanted_inputs-requires-clause-needed c = ap (λ (bs : List Bool). length bs) c.as_slice-needed.ensures ∙ c.in_ok-needed.ensures.count
+wanted_inputs-requires-clause-needed c = ap (λ (bs : List Bool). length bs) c.as_slice-needed.ensures ∙ enough_count c.args.members.now c.args.empty.now c.in_ok-ending.ending.found c.in_ok-ending.ending.needed c.in_ok-ending.ensures
 
 pub open_inputs-requires-clause-wanted : goal.open_inputs-requires-clause-wanted
 open_inputs-requires-clause-wanted c = ap (λ (bs : List Bool). length bs) c.as_slice.ensures ∙ (c.in_ok-wanted.ensures.size ∙ ap (λ (cs : List Clause). length cs) c.requires.inputs)
 
 pub proofs_of_refutation-requires-clause-needed : goal.proofs_of_refutation-requires-clause-needed
-proofs_of_refutation-requires-clause-needed c = subst (AreNeeded c.args.members.now c.args.empty.now) (sym c.as_slice-needed.ensures) c.in_ok-needed.ensures
+proofs_of_refutation-requires-clause-needed c = subst (Suffice c.args.members.now c.args.empty.now c.in_ok-ending.ending.found) (sym c.as_slice-needed.ensures) c.in_ok-ending.ensures
 
 pub proofs_of_refutation-requires-clause-made : goal.proofs_of_refutation-requires-clause-made
 proofs_of_refutation-requires-clause-made c =
