@@ -7,7 +7,7 @@ use Rattle.tptp_base.specs.Count.{Rose}
 use Rattle.tptp_base.specs.Store.{Files}
 use Rattle.tptp_base.specs.declared.item.Item.{Item}
 use Rattle.tptp_base.specs.declared.limit.LimitName.{LimitName}
-use Rattle.tptp_base.specs.declared.memory.Memory.{Memory}
+use Rattle.tptp_base.specs.declared.memory.Memory.{Memory as OutOfMemory}
 use Rattle.tptp_base.specs.declared.name.Name.{Name}
 use Rattle.fof_terms.proofs.Scoped.{raised}
 use Rattle.fof_terms.specs.Vocabulary.{Vocabulary}
@@ -48,6 +48,7 @@ use Rattle.read_problems.specs.declared.stop.Answer.{Answer}
 use Rattle.read_problems.specs.declared.stop.Halt.{Halt}
 use Rattle.read_problems.specs.declared.stop.Halt.TheVariants.{Refused, Stopped}
 use Rattle.read_problems.specs.declared.stop.Stop.{Stop}
+use Rattle.read_problems.specs.declared.stop.Stop.TheVariants.{Store, Sink, Memory}
 use Rattle.tptp_commands.proofs.Absences.{answered_so}
 use Rattle.tptp_commands.specs.Presented.{is_over, not_proved, proof_text}
 use Rattle.tptp_run.specs.Proving.{EndsProve, IsVerified, SaysProof, why_word}
@@ -64,7 +65,7 @@ lines_sorted items lines v denotes =
 
 given_good : (lines : List Line) (v : Vocabulary) → AreSorted v lines → AreGivenSorted v (given_entries lines)
 given_good lines v sorted =
-    let answer : Result (List GivenEntry) Memory = Ok (given_entries lines) in
+    let answer : Result (List GivenEntry) OutOfMemory = Ok (given_entries lines) in
     given_sorted lines answer refl v sorted
 
 pub posed_ready : (told : Option Files) (root : Option (List ℕ)) (problem : List ℕ) (posed : Posed) → IsPosed told root problem posed → All (λ (g : GivenEntry). IsReady posed.signature g.form) posed.given
@@ -128,6 +129,24 @@ pub is_answer : (answer : Answer) → (answer.status ≡ 0) ⊎ (answer.status �
 is_answer answer (inl zero) = inl (omega (arith, zero))
 is_answer answer (inr seven) = inr seven
 
+pub are_answers : (r : Result Answer Halt) → IfAnswer r (λ answer. (answer.status ≡ 0) ⊎ (answer.status ≡ 7)) → IfAnswer r (λ answer. IsAnswer answer.status)
+are_answers (Ok answer) status = is_answer answer status
+are_answers (Err (Refused answer)) status = is_answer answer status
+are_answers (Err (Stopped stop)) status = tt
+
+pub are_no_three : (r : Result Answer Halt) (P : Answer → Type 0) → IfAnswer r (λ answer. (answer.status ≡ 0) ⊎ (answer.status ≡ 7)) → IfAnswer r (λ answer. answer.status ≡ 3 → P answer)
+are_no_three (Ok answer) P status = no_three answer (P answer) status
+are_no_three (Err (Refused answer)) P status = no_three answer (P answer) status
+are_no_three (Err (Stopped stop)) P status = tt
+
+-- no fault of the store comes where a text is looked at
+pub no_store : (r : Result Answer Halt) (S : Type 0) → IfStopped r (λ stop. HasCause stop ⊥ ⊥) → IfStopped r (λ stop. HasCause stop S ⊥)
+no_store (Ok answer) S cause = tt
+no_store (Err (Refused answer)) S cause = tt
+no_store (Err (Stopped Store)) S cause = absurd cause
+no_store (Err (Stopped Sink)) S cause = cause
+no_store (Err (Stopped Memory)) S cause = tt
+
 -- ---- the items of a proof, from what the problem gives
 
 module _ (root : Option (List ℕ)) (limit : ℕ) (problem : List ℕ) where
@@ -138,7 +157,7 @@ module _ (root : Option (List ℕ)) (limit : ℕ) (problem : List ℕ) where
     abbrev Says : ℕ → Statements → List Name → List Bool → Bool → Ending → Type 0
     Says read t names marks conjecture ending = SaysProof problem limit read t names marks conjecture (proof_text problem (default_word conjecture) items) ending
 
-    pub source_proof : (told : Option Files) (source : Source) (ending : Ending) → IsSource told root problem source → Says source.read source.theory source.names source.marks source.has_conjecture ending → Proves told ending
+    source_proof : (told : Option Files) (source : Source) (ending : Ending) → IsSource told root problem source → Says source.read source.theory source.names source.marks source.has_conjecture ending → Proves told ending
     source_proof None source ending is says = tt
     source_proof (Some files) source ending (whole, resolves, (lines, v, denotes, gives, read_is)) says =
         let of_read : ℕ → Type 0 = λ n. Says n (given_theory lines v) (given_names lines) (conjecture_marks lines) (has_conjecture lines) ending in
@@ -147,6 +166,11 @@ module _ (root : Option (List ℕ)) (limit : ℕ) (problem : List ℕ) where
         let of_marks : List Bool → Type 0 = λ ms. Says source.read source.theory source.names ms (has_conjecture lines) ending in
         let of_conjecture : Bool → Type 0 = λ b. Says source.read source.theory source.names source.marks b ending in
         inr (whole, resolves, inr (lines, v, denotes, subst of_read read_is (subst of_theory gives.theory (subst of_names gives.names (subst of_marks gives.marks (subst of_conjecture gives.conjecture says))))))
+
+    pub source_proofs : (told : Option Files) (source : Source) (r : Result Answer Halt) → IsSource told root problem source → IfAnswer r (λ answer. Says source.read source.theory source.names source.marks source.has_conjecture (ending_of answer)) → IfAnswer r (λ answer. Proves told (ending_of answer))
+    source_proofs told source (Ok answer) is says = source_proof told source (ending_of answer) is says
+    source_proofs told source (Err (Refused answer)) is says = source_proof told source (ending_of answer) is says
+    source_proofs told source (Err (Stopped stop)) is says = tt
 
     refused_here : (told : Option Files) (ending : Ending) → IsProblemRefusal told root problem ending → Proves told ending
     refused_here None ending refused = tt

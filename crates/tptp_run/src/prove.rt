@@ -1,5 +1,5 @@
 // The command `prove`.
-ghost use Rattle.std.specs.Prelude.{◌≡◌, ◌⊎◌, ◌≤◌, ◌<◌, ◌^◌, IfOk, IfErr, IfSome, OnOk, length, true};
+ghost use Rattle.std.specs.Prelude.{◌≡◌, ◌⊎◌, ◌≤◌, ◌<◌, ◌^◌, IfSome, OnOk, length, true};
 ghost use Rattle.std.specs.List.{All};
 ghost use Rattle.std.specs.Option.{option_copied};
 ghost use Rattle.tptp_base.specs.Count.{Rose};
@@ -58,7 +58,7 @@ fn prove_posed<S: Store>(
     posed: &Posed,
     limit: u32,
 ) -> Result<Answer, Halt>
-    requires { IsPosed (S.files store.old) (option_copied root.entry) problem.now posed.now }
+    requires { IsPosed (S.files store.old) (option_copied root) problem.now posed.now }
     ensures ends { IfAnswer result (λ answer.
         IfSome (S.files store.old) (λ files.
         EndsProve files (option_copied root.entry) limit problem.now (ending_of answer))) }
@@ -110,7 +110,7 @@ fn say_proof<S: Store>(
     match read_source(alloc, store, root, problem) {
         Ok(source) => {
             let mut source = source;
-            Ok(say_items(alloc, &mut source, problem, items, limit)?)
+            say_items(alloc, &mut source, problem, items, limit)
         }
         Err(halt) => Err(halt),
     }
@@ -123,17 +123,17 @@ fn say_items(
     problem: &str,
     items: &[Item],
     limit: u32,
-) -> Result<Answer, Stop>
+) -> Result<Answer, Halt>
     requires budget { source.old.read ≤ TOTAL_SIZE }
     requires few { length source.old.names < 2 ^ 32 }
     requires same { source.old.theory.vocabulary ≡ source.old.signature }
     requires sentences { All (IsSentence source.old.signature) source.old.theory.formulas }
     requires declared { AreDeclared source.old.signature }
-    ensures said { IfOk result (λ answer. SaysProof problem.now limit source.old.read source.old.theory source.old.names
+    ensures said { IfAnswer result (λ answer. SaysProof problem.now limit source.old.read source.old.theory source.old.names
         source.old.marks source.old.has_conjecture
         (printed.proof_text problem.now (default_word source.old.has_conjecture) items.now) (ending_of answer)) }
-    ensures status { IfOk result (λ answer. (answer.status ≡ 0) ⊎ (answer.status ≡ 7)) }
-    ensures cause { IfErr result (λ stop. HasCause stop ⊥ ⊥) }
+    ensures status { IfAnswer result (λ answer. (answer.status ≡ 0) ⊎ (answer.status ≡ 7)) }
+    ensures cause { IfStopped result (λ stop. HasCause stop ⊥ ⊥) }
 {
     let status = status_word(source.has_conjecture);
     let text = proof_text(alloc, problem.as_bytes(), status, items)?;
@@ -159,16 +159,16 @@ fn say_text(
     problem: &str,
     text: Text,
     limit: u32,
-) -> Result<Answer, Stop>
+) -> Result<Answer, Halt>
     requires budget { source.old.read ≤ TOTAL_SIZE }
     requires few { length source.old.names < 2 ^ 32 }
     requires same { source.old.theory.vocabulary ≡ source.old.signature }
     requires sentences { All (IsSentence source.old.signature) source.old.theory.formulas }
     requires declared { AreDeclared source.old.signature }
-    ensures said { IfOk result (λ answer. SaysProof problem.now limit source.old.read source.old.theory source.old.names
+    ensures said { IfAnswer result (λ answer. SaysProof problem.now limit source.old.read source.old.theory source.old.names
         source.old.marks source.old.has_conjecture text (ending_of answer)) }
-    ensures status { IfOk result (λ answer. (answer.status ≡ 0) ⊎ (answer.status ≡ 7)) }
-    ensures cause { IfErr result (λ stop. HasCause stop ⊥ ⊥) }
+    ensures status { IfAnswer result (λ answer. (answer.status ≡ 0) ⊎ (answer.status ≡ 7)) }
+    ensures cause { IfStopped result (λ stop. HasCause stop ⊥ ⊥) }
 {
     match over_size(text.len(), source.read) {
         Some(name) => Ok(say_over(alloc, problem, name)?),
@@ -183,17 +183,17 @@ fn say_checked(
     problem: &str,
     text: Text,
     limit: u32,
-) -> Result<Answer, Stop>
+) -> Result<Answer, Halt>
     requires fits { IsInBudget source.old.read (length text) }
     requires bytes { length text ≤ file_size }
     requires few { length source.old.names < 2 ^ 32 }
     requires same { source.old.theory.vocabulary ≡ source.old.signature }
     requires sentences { All (IsSentence source.old.signature) source.old.theory.formulas }
     requires declared { AreDeclared source.old.signature }
-    ensures said { IfOk result (λ answer. SaysProof problem.now limit source.old.read source.old.theory source.old.names
+    ensures said { IfAnswer result (λ answer. SaysProof problem.now limit source.old.read source.old.theory source.old.names
         source.old.marks source.old.has_conjecture text (ending_of answer)) }
-    ensures status { IfOk result (λ answer. answer.status ≡ 0) }
-    ensures cause { IfErr result (λ stop. HasCause stop ⊥ ⊥) }
+    ensures status { IfAnswer result (λ answer. answer.status ≡ 0) }
+    ensures cause { IfStopped result (λ stop. HasCause stop ⊥ ⊥) }
 {
     check_proof(alloc, source, problem, text.as_slice(), limit)?;
     Ok(Answer { status: 0, text })

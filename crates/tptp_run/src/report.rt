@@ -1,10 +1,11 @@
 // The report on a text that the program has made itself.
-ghost use Rattle.std.specs.Prelude.{◌≡◌, ◌≤◌, ◌<◌, ◌^◌, IfOk, IfErr, length};
+ghost use Rattle.std.specs.Prelude.{◌≡◌, ◌≤◌, ◌<◌, ◌^◌, IfOk, IfErr, length, true};
 ghost use Rattle.std.specs.List.{All};
 ghost use Rattle.tptp_base.specs.Count.{Rose};
 ghost use Rattle.tptp_base.specs.declared.read.TheConstants.{FILE_SIZE as file_size};
 ghost use Rattle.sort_check.specs.Sorting.{AreDeclared, IsSentence};
 ghost use Rattle.derivation_check.specs.Logs.{TakesSomeOfLog};
+ghost use Rattle.tptp_run.specs.Proving.{IsVerified};
 ghost use Rattle.tptp_run.specs.code.Making.{IsReportOn};
 ghost use Rattle.read_problems.specs.Stop.{HasCause};
 
@@ -32,6 +33,8 @@ pub(crate) fn report_on<L: Sink>(
     requires declared { AreDeclared source.old.signature }
     ensures report { IfOk result (λ report. IsReportOn problem.now text.now limit source.old.theory source.old.names
         source.old.signature source.old.marks source.old.has_conjecture report (L.taken log.old) (L.taken log.new)) }
+    ensures verified { IfOk result (λ report. report.verified ≡ true → IsVerified problem.now limit source.old.theory
+        source.old.names source.old.marks source.old.has_conjecture text.now) }
     ensures log { TakesSomeOfLog source.old.theory (L.taken log.old) (L.taken log.new) }
     ensures cause { IfErr result (λ stop. HasCause stop ⊥ (Rose (L.faults log.old) (L.faults log.new))) }
 {

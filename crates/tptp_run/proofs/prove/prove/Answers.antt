@@ -6,6 +6,7 @@ use Rattle.read_problems.specs.Answer.{ending_of}
 use Rattle.read_problems.specs.OtherFaults.{SaysProblemFault}
 use Rattle.read_problems.specs.Posed.{IsPosed}
 use Rattle.read_problems.specs.declared.posed.Posed.{Posed}
+use Rattle.read_problems.specs.declared.stop.Answer.{Answer}
 use Rattle.tptp_commands.proofs.Absences.{refused_so}
 use Rattle.tptp_commands.proofs.Checks.{stopped_since}
 use Rattle.tptp_run.proofs.Proves.{absence_before, ends_before, prove_refused}
@@ -32,5 +33,5 @@ returns-in-Err-clause-ends g c = prove_refused (option_copied c.args.root) c.arg
 
 pub returns-in-Err-clause-absence : goal.returns-in-Err-clause-absence
 returns-in-Err-clause-absence g c =
-    let said = λ answer. Rose (g.S.Store.absents c.args.store.now) (g.S.Store.absents c.read_posed.new.store) ⊎ SaysProblemFault (g.S.Store.files c.args.store.now) (option_copied c.args.root) c.args.problem.now (ending_of answer) in
+    let said : Answer → Type 0 = λ answer. Rose (g.S.Store.absents c.args.store.now) (g.S.Store.absents c.read_posed.new.store) ⊎ SaysProblemFault (g.S.Store.files c.args.store.now) (option_copied c.args.root) c.args.problem.now (ending_of answer) in
     refused_so Posed c.in-Err.halt said said (λ answer h. h) c.in-Err.ensures.absence

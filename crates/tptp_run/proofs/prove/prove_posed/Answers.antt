@@ -15,26 +15,26 @@ prove-requires g c =
 pub returns-in-Ok-Proof-clause-ends : goal.returns-in-Ok-Proof-clause-ends
 returns-in-Ok-Proof-clause-ends g c =
     proof_ends (option_copied c.args.root) c.args.limit c.args.problem.now (g.S.Store.files c.args.store.now) c.args.posed.now c.requires c.in-Ok-Proof.items (rw c.as_slice-given.ensures at c.in-Ok-Proof.ensures.room)
-    (rw c.in-Ok-Proof.field-0-is at (rw c.as_slice-given.ensures at c.in-Ok-Proof.ensures.proved)) c.say_proof.result (rw c.as_slice.ensures at c.say_proof.ensures.ends)
+    (rw c.in-Ok-Proof.field-0-is at (rw c.as_bytes.ensures.value at (rw c.as_slice-given.ensures at c.in-Ok-Proof.ensures.proved))) c.say_proof.result (rw c.as_slice.ensures at c.say_proof.ensures.ends)
 
-pub returns-in-Ok-Open-clause-ends : goal.returns-in-Ok-Open-clause-ends
-returns-in-Ok-Open-clause-ends g c =
-    open_ends (option_copied c.args.root) c.args.limit c.args.problem.now (g.S.Store.files c.args.store.now) c.args.posed.now c.requires (ending_of c.in_ok-not_proved.field-0) c.in-Ok-Open.why (rw c.as_slice-given.ensures at c.in-Ok-Open.ensures.room)
-    (rw c.in-Ok-Open.field-0-is at (rw c.as_slice-given.ensures at c.in-Ok-Open.ensures.proved)) (c.in_ok-not_proved.ensures ∙ ap not_proved c.why_word.ensures)
+pub returns-in_ok-not_proved-in-Ok-Open-clause-ends : goal.returns-in_ok-not_proved-in-Ok-Open-clause-ends
+returns-in_ok-not_proved-in-Ok-Open-clause-ends g c =
+    open_ends (option_copied c.args.root) c.args.limit c.args.problem.now (g.S.Store.files c.args.store.now) c.args.posed.now c.requires (ending_of c.in_ok-not_proved-in-Ok-Open.field-0) c.in-Ok-Open.why (rw c.as_slice-given.ensures at c.in-Ok-Open.ensures.room)
+    (rw c.in-Ok-Open.field-0-is at (rw c.as_bytes.ensures.value at (rw c.as_slice-given.ensures at c.in-Ok-Open.ensures.proved))) (c.in_ok-not_proved-in-Ok-Open.ensures ∙ ap not_proved c.why_word.ensures)
 
-pub returns-in-Err-Limit-clause-ends : goal.returns-in-Err-Limit-clause-ends
-returns-in-Err-Limit-clause-ends g c =
-    over_ends (option_copied c.args.root) c.args.limit c.args.problem.now (g.S.Store.files c.args.store.now) c.args.posed.now c.requires (ending_of c.in_ok-say_over.field-0) c.in-Err-Limit.name
-    (rw c.in-Err-Limit.field-0-is at (rw c.as_slice-given.ensures at c.in-Err-Limit.ensures.limit)) c.in_ok-say_over.ensures
+pub returns-in_ok-say_over-in-Err-Limit-clause-ends : goal.returns-in_ok-say_over-in-Err-Limit-clause-ends
+returns-in_ok-say_over-in-Err-Limit-clause-ends g c =
+    over_ends (option_copied c.args.root) c.args.limit c.args.problem.now (g.S.Store.files c.args.store.now) c.args.posed.now c.requires (ending_of c.in_ok-say_over-in-Err-Limit.field-0) c.in-Err-Limit.name
+    (rw c.in-Err-Limit.field-0-is at (rw c.as_slice-given.ensures at c.in-Err-Limit.ensures.limit)) c.in_ok-say_over-in-Err-Limit.ensures
 
-pub returns-in-Ok-Open-clause-status : goal.returns-in-Ok-Open-clause-status
-returns-in-Ok-Open-clause-status g c = open_answer c.in_ok-not_proved.field-0 _ c.in_ok-not_proved.ensures
+pub returns-in_ok-not_proved-in-Ok-Open-clause-status : goal.returns-in_ok-not_proved-in-Ok-Open-clause-status
+returns-in_ok-not_proved-in-Ok-Open-clause-status g c = open_answer c.in_ok-not_proved-in-Ok-Open.field-0 _ c.in_ok-not_proved-in-Ok-Open.ensures
 
-pub returns-in-Ok-Open-clause-absence : goal.returns-in-Ok-Open-clause-absence
-returns-in-Ok-Open-clause-absence g c = open_three c.in_ok-not_proved.field-0 _ _ c.in_ok-not_proved.ensures
+pub returns-in_ok-not_proved-in-Ok-Open-clause-absence : goal.returns-in_ok-not_proved-in-Ok-Open-clause-absence
+returns-in_ok-not_proved-in-Ok-Open-clause-absence g c = open_three c.in_ok-not_proved-in-Ok-Open.field-0 _ _ c.in_ok-not_proved-in-Ok-Open.ensures
 
-pub returns-in-Err-Limit-clause-status : goal.returns-in-Err-Limit-clause-status
-returns-in-Err-Limit-clause-status g c = over_answer c.in_ok-say_over.field-0 c.args.problem.now c.in-Err-Limit.name c.in_ok-say_over.ensures
+pub returns-in_ok-say_over-in-Err-Limit-clause-status : goal.returns-in_ok-say_over-in-Err-Limit-clause-status
+returns-in_ok-say_over-in-Err-Limit-clause-status g c = over_answer c.in_ok-say_over-in-Err-Limit.field-0 c.args.problem.now c.in-Err-Limit.name c.in_ok-say_over-in-Err-Limit.ensures
 
-pub returns-in-Err-Limit-clause-absence : goal.returns-in-Err-Limit-clause-absence
-returns-in-Err-Limit-clause-absence g c = over_three c.in_ok-say_over.field-0 c.args.problem.now c.in-Err-Limit.name _ c.in_ok-say_over.ensures
+pub returns-in_ok-say_over-in-Err-Limit-clause-absence : goal.returns-in_ok-say_over-in-Err-Limit-clause-absence
+returns-in_ok-say_over-in-Err-Limit-clause-absence g c = over_three c.in_ok-say_over-in-Err-Limit.field-0 c.args.problem.now c.in-Err-Limit.name _ c.in_ok-say_over-in-Err-Limit.ensures

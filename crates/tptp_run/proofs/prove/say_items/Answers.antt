@@ -1,6 +1,6 @@
-use Rattle.std.specs.Prelude.{IfOk}
-use Rattle.std.proofs.Common.{ℕ, List, ◌∙◌, ap, subst}
+use Rattle.std.proofs.Common.{List, ℕ, ◌∙◌, ap, subst}
 use Rattle.read_problems.specs.Answer.{ending_of}
+use Rattle.read_problems.specs.Stop.{IfAnswer}
 use Rattle.tptp_commands.specs.Presented.{proof_text}
 use Rattle.tptp_run.specs.Proving.{SaysProof}
 use Rattle.tptp_run.proofs.prove.say_items.Goals as goal
@@ -8,5 +8,5 @@ use Rattle.tptp_run.proofs.prove.say_items.Goals as goal
 pub returns-clause-said : goal.returns-clause-said
 returns-clause-said c =
     let source = c.args.source.now in
-    let says : List ℕ → _ = λ text. IfOk c.say_text.result (λ answer. SaysProof c.args.problem.now c.args.limit source.read source.theory source.names source.marks source.has_conjecture text (ending_of answer)) in
-    subst says (c.in_ok-text.ensures ∙ ap (λ (status : List ℕ). proof_text c.args.problem.now status c.args.items.now) c.status_word-status.ensures) c.say_text.ensures.said
+    subst (λ (text : List ℕ). IfAnswer c.say_text.result (λ answer. SaysProof c.args.problem.now c.args.limit source.read source.theory source.names source.marks source.has_conjecture text (ending_of answer)))
+    ((rw c.as_bytes.ensures.value at c.in_ok-text.ensures) ∙ ap (λ (status : List ℕ). proof_text c.args.problem.now status c.args.items.now) c.status_word-status.ensures) c.say_text.ensures.said
