@@ -54,7 +54,7 @@ word_no_dollar : (byte : ℕ) → is_alpha_numeric byte ≡ true → byte == 36 
 word_no_dollar byte h = grind (arith, nat_tests)
 
 -- none of the bytes that begin something other than a mark
-abbrev is_other : ℕ → Bool
+abbrev pub is_other : ℕ → Bool
 is_other byte = (not (is_lower_alpha byte) && (not (is_upper_alpha byte) && (not (is_blank byte) && not (is_numeric byte || is_sign byte))))
     && ((not (byte == 36) && (not (byte == 39) && not (byte == 34))) && (not (byte == 37) && (not (byte == 35) && not (byte == 47))))
 

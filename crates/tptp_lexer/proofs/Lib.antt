@@ -5,6 +5,7 @@ pub mod MarkFronts
 pub mod Nameable
 pub mod NumberFronts
 pub mod Fronts
+pub mod SingleFronts
 pub mod NumberFits
 pub mod Sound
 pub mod Cuts

@@ -157,11 +157,15 @@ behind_words style text =
     else (if first == 47 then block (drop 1 text)
     else marked (mark_at first (slice_index text 1) (slice_index text 2))))))
 
+-- a text that begins with no letter or blank
+abbrev pub behind_blanks : Style → Text → Front
+behind_blanks style text =
+    let first = slice_index text 0 in if is_numeric first || is_sign first then counted k.Number 0 (number_len text) else behind_words style text
+
 unfoldable pub front_of : Style → Text → Front
 front_of style text =
     let first = slice_index text 0 in
     if is_lower_alpha first then Found k.Lower (prefix_len is_alpha_numeric text)
     else (if is_upper_alpha first then Found k.Upper (prefix_len is_alpha_numeric text)
     else (if is_blank first then Blanks (prefix_len is_blank text)
-    else (if is_numeric first || is_sign first then counted k.Number 0 (number_len text)
-    else behind_words style text)))
+    else behind_blanks style text))

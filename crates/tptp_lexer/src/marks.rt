@@ -61,8 +61,8 @@ fn short(mark: Option<Mark>) -> Option<(Mark, usize)>
     }
 }
 
-// The mark of one byte that no longer mark begins with.
-fn single(first: u8) -> Option<Mark>
+/// The mark of one byte that no longer mark begins with.
+pub fn single(first: u8) -> Option<Mark>
     ensures { result ≡ spec.single first }
 {
     match first {

@@ -4,7 +4,7 @@ ghost use Rattle.tptp_lexer.specs.Comments as comments;
 ghost use Rattle.tptp_lexer.specs.Scan as spec;
 
 use crate::bytes::{blanks_len, byte, is_blank, line_len, word_len};
-use crate::marks::mark_at;
+use crate::marks::{mark_at, single};
 use crate::numbers::{is_sign, number_len};
 use crate::quotes::{Quote, quote_end};
 use crate::{Mark, Style};
@@ -38,6 +38,7 @@ pub enum Front {
 }
 
 /// What a text begins with.
+#[inline(always)]
 #[tactic(auto, unfolding(crate::specs::Scan::front_of))]
 pub fn front_of(style: Style, text: &[u8]) -> Front
     requires { 0 < length text.now }
@@ -50,7 +51,22 @@ pub fn front_of(style: Style, text: &[u8]) -> Front
         Front::Token(Kind::Upper, word_len(text))
     } else if is_blank(first) {
         Front::Blanks(blanks_len(text))
-    } else if first.is_ascii_digit() || is_sign(first) {
+    } else {
+        match single(first) {
+            Some(mark) => Front::Token(Kind::Mark(mark), 1),
+            None => behind_blanks(style, text),
+        }
+    }
+}
+
+// What a text begins with that begins with no letter or blank.
+#[inline(never)]
+fn behind_blanks(style: Style, text: &[u8]) -> Front
+    requires { 0 < length text.now }
+    ensures { result ≡ spec.behind_blanks style text.now }
+{
+    let first = text[0];
+    if first.is_ascii_digit() || is_sign(first) {
         counted(Kind::Number, 0, number_len(text))
     } else {
         behind_words(style, text)
