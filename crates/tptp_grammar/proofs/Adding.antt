@@ -1,5 +1,5 @@
 -- Lists to which what was read is added, where it was read.
-use Rattle.std.proofs.Common.{◌≡◌, Bool, true, if◌then◌else◌, ℕ, ◌<◌, List, [], ◌∷◌, ◌++◌, length, drop, false, Result, Ok, Err, sym, ◌∙◌, ap, subst}
+use Rattle.std.proofs.Common.{◌≡◌, true, if◌then◌else◌, ◌<◌, List, [], ◌∷◌, ◌++◌, length, drop, false, Result, Ok, Err, sym, ◌∙◌, ap, subst}
 use Rattle.first_fault.specs.code.Reading.{Outcome, Reader, and_then, mapped, expect, tail, sees, after_seen, separated}
 use Rattle.first_fault.proofs.Loops.{Steps, members, starts, turn, turn_smaller, last_member}
 use Rattle.tptp_lexer.specs.declared.token.Token.{Token}

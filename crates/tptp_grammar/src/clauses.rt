@@ -7,7 +7,7 @@ ghost use Rattle.tptp_grammar.specs.code.ReadClauses as spec;
 ghost use Rattle.tptp_grammar.specs.code.Outcomes.{Reads};
 
 use crate::cursor::Cursor;
-use crate::lists::{in_front, short_list};
+use crate::lists::{push_read, short_list};
 use crate::stop::Stop;
 use crate::terms::{atom, basic};
 use std::alloc::Global;
@@ -23,9 +23,8 @@ fn atom_open(alloc: Global, tokens: &mut Cursor<'_>, room: usize) -> Result<Surf
         return Err(Stop::TooDeep);
     }
     tokens.skip();
-    let found = atom(alloc, tokens, room - 1)?;
-    tokens.expect(Mark::Close)?;
-    Ok(found)
+    let found = atom(alloc, tokens, room - 1);
+    tokens.closed(found, Mark::Close)
 }
 
 // What follows the sign of a negative literal.
@@ -63,14 +62,22 @@ fn literal(alloc: Global, tokens: &mut Cursor<'_>, room: usize) -> Result<Surfac
     }
 }
 
-// One or more literals with bars between them.
-fn literal_list(alloc: Global, tokens: &mut Cursor<'_>, room: usize) -> Result<List<Surface>, Stop>
-    ensures { Reads (separated (is_mark Mark.Bar) (spec.literal room) tokens.old) result tokens.new }
+// The first literal and the further ones, with a bar before each of them. The cursor stands at the first bar.
+fn literal_list(
+    alloc: Global,
+    tokens: &mut Cursor<'_>,
+    room: usize,
+    first: Surface,
+) -> Result<List<Surface>, Stop>
+    ensures { Reads (mapped (λ fs. first
+        ∷ fs) (separated (is_mark Mark.Bar) (spec.literal room) (tail tokens.old))) result tokens.new }
 {
+    tokens.skip();
     let mut found = short_list(alloc);
-    found.push(literal(alloc, tokens, room)?)?;
+    found.push(first)?;
+    push_read(&mut found, literal(alloc, tokens, room))?;
     'members: while tokens.eat(Mark::Bar) {
-        found.push(literal(alloc, tokens, room)?)?;
+        push_read(&mut found, literal(alloc, tokens, room))?;
     }
     Ok(found)
 }
@@ -85,9 +92,8 @@ fn disjunction(
     ensures { Reads (mapped (λ fs. fm.Or (first
         ∷ fs)) (separated (is_mark Mark.Bar) (spec.literal room) (tail tokens.old))) result tokens.new }
 {
-    tokens.skip();
-    let others = literal_list(alloc, tokens, room)?;
-    Ok(Surface::Or(in_front(alloc, first, others)?))
+    let all = literal_list(alloc, tokens, room, first)?;
+    Ok(Surface::Or(all))
 }
 
 // What follows the first literal.

@@ -2,7 +2,6 @@ use Rattle.std.proofs.Common.{rules, arith, ◌-◌, sym, ◌∙◌, ap}
 use Rattle.first_fault.specs.code.Reading.{tail, closed, separated, mapped}
 use Rattle.tptp_base.specs.declared.item.GTerm.TheVariants as gt
 use Rattle.tptp_grammar.proofs.Nests.{reads_again, arguments_none, arguments_some, bracketed_none, bracketed_some, pair_none, pair_some}
-use Rattle.first_fault.proofs.Loops.{members}
 use Rattle.tptp_lexer.specs.declared.token.Mark.TheVariants as m
 use Rattle.tptp_grammar.specs.code.ReadTerms.{is_mark}
 use Rattle.tptp_grammar.specs.code.ReadGeneral as spec
