@@ -24,7 +24,8 @@ use Rattle.sort_check.specs.Symbols.{Text, with_symbol}
 use Rattle.sort_check.specs.Texts.{differs}
 use Rattle.sort_check.specs.code.Texts.{other_at}
 use Rattle.sort_check.proofs.Stepping.{at_ok}
-use Rattle.sort_check.specs.code.Namesakes.{found, Puts, IsFirst, IsKnown, Knows, unlike_at, noted}
+use Rattle.sort_check.specs.Namesakes.{found, IsFirst, IsKnown, Knows}
+use Rattle.sort_check.specs.code.Namesakes.{Puts, unlike_at, noted}
 
 -- ---- symbols that do not differ
 

@@ -9,12 +9,13 @@ use Rattle.sort_check.specs.declared.line.Line.{Line}
 use Rattle.sort_check.specs.declared.line.TextKind.TheVariants.{Problem}
 use Rattle.sort_check.specs.declared.namesakes.Namesakes.{Namesakes}
 use Rattle.sort_check.specs.declared.progress.Progress.{Progress}
-use Rattle.sort_check.specs.code.Namesakes.{Knows}
+use Rattle.sort_check.specs.Namesakes.{Knows}
 use Rattle.sort_check.specs.Outcomes.{Outcome, and_then, mapped}
 use Rattle.sort_check.specs.Symbols.{Text}
 use Rattle.sort_check.specs.Texts.{Declared, Reading, at_line, type_item, type_lines, line_form, line_of, line_item, with_line, lines_from, only_vocabulary, denoted}
 use Rattle.sort_check.specs.Turns.{first, kept, is_include, HaveNoInclude, AreDenoted}
-use Rattle.sort_check.specs.code.Turns.{is_type_item, is_line_item, begin, behind_types, GiveNoLine, AreTypes, AreLines, AreMistyped, AreFaulty}
+use Rattle.sort_check.specs.Stages.{begin, behind_types, GiveNoLine, AreTypes, AreLines, AreMistyped, AreFaulty}
+use Rattle.sort_check.specs.code.Turns.{is_type_item, is_line_item}
 
 -- ---- type lines
 

@@ -2,8 +2,10 @@ pub mod Bringing
 pub mod Denotation
 pub mod Given
 pub mod Laws
+pub mod Namesakes
 pub mod Outcomes
 pub mod Sorting
+pub mod Stages
 pub mod Symbols
 pub mod Texts
 pub mod Turns

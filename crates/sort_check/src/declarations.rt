@@ -5,7 +5,7 @@ ghost use Rattle.fof_terms.specs.Vocabulary.{IsDeclared, is_kind as same_kind};
 ghost use Rattle.sort_check.specs.code.Outcomes.{Answers};
 ghost use Rattle.sort_check.specs.Outcomes.{each};
 ghost use Rattle.sort_check.specs.Sorting.{Extends};
-ghost use Rattle.sort_check.specs.code.Namesakes.{Knows};
+ghost use Rattle.sort_check.specs.Namesakes.{Knows};
 ghost use Rattle.sort_check.specs.Symbols as symbols;
 ghost use Rattle.sort_check.specs.Symbols.{with_symbol};
 ghost use Rattle.sort_check.specs.Texts as spec;

@@ -1,6 +1,6 @@
 // What the formulas of a text denote.
 ghost use Rattle.std.specs.Prelude.{◌≡◌, ◌<◌, ◌≤◌, ◌^◌, length, false, IfOk, OnOk};
-ghost use Rattle.sort_check.specs.code.Namesakes.{Knows};
+ghost use Rattle.sort_check.specs.Namesakes.{Knows};
 ghost use Rattle.sort_check.specs.code.Outcomes.{Answers};
 ghost use Rattle.sort_check.specs.Sorting.{AreSorted, Extends};
 ghost use Rattle.sort_check.specs.Texts as spec;

@@ -27,7 +27,7 @@ pub struct InTurn {
 
 impl Model for InTurn {
     ghost use Rattle.sort_check.specs.Turns.{Taken, taken_code};
-    ghost use Rattle.sort_check.specs.code.Turns.{StandsAt};
+    ghost use Rattle.sort_check.specs.Stages.{StandsAt};
 
     ghost Value = { Taken };
 

@@ -1,7 +1,8 @@
 // Symbols of one name.
 ghost use Rattle.std.specs.Prelude.{◌≡◌, ◌+◌, ◌<◌, [], length, take, slice_get, Some, IfOk, OnOk};
 ghost use Rattle.std.specs.List.{list_any};
-ghost use Rattle.sort_check.specs.code.Namesakes as spec;
+ghost use Rattle.sort_check.specs.Namesakes as spec;
+ghost use Rattle.sort_check.specs.code.Namesakes.{Puts, noted, unlike_at};
 ghost use Rattle.sort_check.specs.Texts as texts;
 
 use crate::declarations::{differs, is_other};
@@ -25,7 +26,7 @@ pub struct Namesakes {
 
 impl Namesakes {
     // Those of no symbols.
-    #[tactic(auto, unfolding(crate::specs::code::Namesakes::found))]
+    #[tactic(auto, unfolding(crate::specs::Namesakes::found))]
     fn new(alloc: Global) -> Namesakes
         ensures { spec.Knows result [] }
     {
@@ -75,7 +76,7 @@ impl Namesakes {
 
     // What is known of the name of a symbol that is added, which has this number.
     fn entry_of(&self, signature: &Signature, number: SymId, symbol: &Symbol) -> Namesake
-        ensures { result ≡ spec.noted (spec.found self.now symbol.now.name) signature.now.symbols number symbol.now }
+        ensures { result ≡ noted (spec.found self.now symbol.now.name) signature.now.symbols number symbol.now }
     {
         match self.find(symbol.name.as_slice()) {
             None => Namesake {
@@ -91,14 +92,14 @@ impl Namesakes {
 
     // Notes what is known of the symbols of a name.
     fn put(&mut self, alloc: Global, name: &[u8], entry: Namesake) -> Result<(), Memory>
-        ensures { OnOk result (spec.Puts self.old name.now entry self.new) }
+        ensures { OnOk result (Puts self.old name.now entry self.new) }
     {
         self.entries.insert(Vec::from_slice(alloc, name)?, entry)?;
         Ok(())
     }
 
     // What is known of the symbols of a name.
-    #[tactic(auto, unfolding(crate::specs::code::Namesakes::found))]
+    #[tactic(auto, unfolding(crate::specs::Namesakes::found))]
     fn find(&self, name: &[u8]) -> Option<Namesake>
         ensures { result ≡ spec.found self.now name.now }
     {
@@ -123,7 +124,7 @@ impl Namesakes {
 
 // Whether the symbol differs from that of this number.
 fn is_unlike(signature: &Signature, first: SymId, symbol: &Symbol) -> bool
-    ensures { result ≡ spec.unlike_at (slice_get signature.now.symbols first) symbol.now }
+    ensures { result ≡ unlike_at (slice_get signature.now.symbols first) symbol.now }
 {
     match signature.symbol(first) {
         Some(first) => differs(first, symbol),

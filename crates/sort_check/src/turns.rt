@@ -3,7 +3,8 @@ ghost use Rattle.std.specs.Prelude.{◌≡◌, ◌∷◌, [], ◌++◌, ◌+◌,
 ghost use Rattle.sort_check.specs.declared.progress.Progress.{Progress as progress_of};
 ghost use Rattle.sort_check.specs.Turns as turns;
 ghost use Rattle.sort_check.specs.Texts.{with_line};
-ghost use Rattle.sort_check.specs.code.Turns as spec;
+ghost use Rattle.sort_check.specs.Stages as stages;
+ghost use Rattle.sort_check.specs.code.Turns.{is_type_item, is_line_item};
 
 use crate::denotation::{is_type, take_line, take_type};
 use crate::fault::SortFault;
@@ -23,8 +24,8 @@ pub fn turn(
     stage: Stage,
     progress: &mut Progress,
 ) -> Result<Stage, Memory>
-    requires { spec.StandsAt seen.now.items progress.old stage }
-    ensures stands { IfOk result (λ next. spec.StandsAt (seen.now.items ++ item.now ∷ []) progress.new next) }
+    requires { stages.StandsAt seen.now.items progress.old stage }
+    ensures stands { IfOk result (λ next. stages.StandsAt (seen.now.items ++ item.now ∷ []) progress.new next) }
     ensures keeps { progress.new.keeps ≡ progress.old.keeps }
 {
     if is_included(item) || progress.number == u32::MAX {
@@ -48,10 +49,10 @@ fn turn_types(
     namesakes: Namesakes,
     progress: &mut Progress,
 ) -> Result<Stage, Memory>
-    requires stands { spec.AreTypes seen.now.items progress.old namesakes }
+    requires stands { stages.AreTypes seen.now.items progress.old namesakes }
     requires few { progress.old.number + 1 < 2 ^ 32 }
     requires no_include { turns.is_include item.now ≡ false }
-    ensures stands { IfOk result (λ next. spec.StandsAt (seen.now.items ++ item.now ∷ []) progress.new next) }
+    ensures stands { IfOk result (λ next. stages.StandsAt (seen.now.items ++ item.now ∷ []) progress.new next) }
     ensures keeps { progress.new.keeps ≡ progress.old.keeps }
 {
     if is_line(item) {
@@ -68,10 +69,10 @@ fn turn_lines(
     item: &Item,
     progress: &mut Progress,
 ) -> Result<Stage, Memory>
-    requires stands { spec.AreLines seen.now.items progress.old }
+    requires stands { stages.AreLines seen.now.items progress.old }
     requires few { progress.old.number + 1 < 2 ^ 32 }
     requires no_include { turns.is_include item.now ≡ false }
-    ensures stands { IfOk result (λ next. spec.StandsAt (seen.now.items ++ item.now ∷ []) progress.new next) }
+    ensures stands { IfOk result (λ next. stages.StandsAt (seen.now.items ++ item.now ∷ []) progress.new next) }
     ensures keeps { progress.new.keeps ≡ progress.old.keeps }
 {
     if is_type_line(item) {
@@ -84,9 +85,9 @@ fn turn_lines(
 // Takes an item behind a formula that has a fault.
 #[tactic(auto, using(crate::proofs::Turning::faulty_stays))]
 fn turn_faulty(seen: &Seen, item: &Item, fault: SortFault) -> Stage
-    requires stands { spec.AreFaulty seen.now.items fault }
+    requires stands { stages.AreFaulty seen.now.items fault }
     requires no_include { turns.is_include item.now ≡ false }
-    ensures { (p : progress_of) → spec.StandsAt (seen.now.items ++ item.now ∷ []) p result }
+    ensures { (p : progress_of) → stages.StandsAt (seen.now.items ++ item.now ∷ []) p result }
 {
     if is_type_line(item) {
         Stage::Unknown
@@ -103,11 +104,11 @@ fn take_typing(
     namesakes: Namesakes,
     progress: &mut Progress,
 ) -> Result<Stage, Memory>
-    requires stands { spec.AreTypes seen.now.items progress.old namesakes }
+    requires stands { stages.AreTypes seen.now.items progress.old namesakes }
     requires few { progress.old.number + 1 < 2 ^ 32 }
-    requires no_line { spec.is_line_item item.now ≡ false }
+    requires no_line { is_line_item item.now ≡ false }
     requires no_include { turns.is_include item.now ≡ false }
-    ensures stands { IfOk result (λ next. spec.StandsAt (seen.now.items ++ item.now ∷ []) progress.new next) }
+    ensures stands { IfOk result (λ next. stages.StandsAt (seen.now.items ++ item.now ∷ []) progress.new next) }
     ensures keeps { progress.new.keeps ≡ progress.old.keeps }
 {
     let mut namesakes = namesakes;
@@ -136,11 +137,11 @@ fn take_formula(
     item: &Item,
     progress: &mut Progress,
 ) -> Result<Stage, Memory>
-    requires stands { spec.AreLines seen.now.items progress.old }
+    requires stands { stages.AreLines seen.now.items progress.old }
     requires few { progress.old.number + 1 < 2 ^ 32 }
-    requires no_type { spec.is_type_item item.now ≡ false }
+    requires no_type { is_type_item item.now ≡ false }
     requires no_include { turns.is_include item.now ≡ false }
-    ensures stands { IfOk result (λ next. spec.StandsAt (seen.now.items ++ item.now ∷ []) progress.new next) }
+    ensures stands { IfOk result (λ next. stages.StandsAt (seen.now.items ++ item.now ∷ []) progress.new next) }
     ensures keeps { progress.new.keeps ≡ progress.old.keeps }
 {
     match take_line(
@@ -190,7 +191,7 @@ fn is_included(item: &Item) -> bool
 }
 
 fn is_type_line(item: &Item) -> bool
-    ensures { result ≡ spec.is_type_item item.now }
+    ensures { result ≡ is_type_item item.now }
 {
     match item {
         Item::Formula(annotated) => is_type(annotated.get().role),
@@ -200,7 +201,7 @@ fn is_type_line(item: &Item) -> bool
 
 // Whether the item is a formula and no type line.
 fn is_line(item: &Item) -> bool
-    ensures { result ≡ spec.is_line_item item.now }
+    ensures { result ≡ is_line_item item.now }
 {
     match item {
         Item::Formula(annotated) => !is_type(annotated.get().role),

@@ -1,4 +1,4 @@
-use Rattle.sort_check.specs.code.Namesakes.{Knows}
+use Rattle.sort_check.specs.Namesakes.{Knows}
 use Rattle.sort_check.specs.Sorting.{Extends}
 use Rattle.sort_check.proofs.LineLoops.{TypesSoFar}
 use Rattle.sort_check.proofs.denotation.take_types.Given as goal

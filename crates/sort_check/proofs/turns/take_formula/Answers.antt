@@ -4,7 +4,7 @@ use Rattle.sort_check.specs.declared.fault.SortFault.TheVariants.{Line}
 use Rattle.sort_check.specs.declared.progress.Progress.{Progress}
 use Rattle.sort_check.specs.Texts.{with_line}
 use Rattle.sort_check.specs.Turns.{kept}
-use Rattle.sort_check.specs.code.Turns.{AreLines}
+use Rattle.sort_check.specs.Stages.{AreLines}
 use Rattle.sort_check.proofs.Turning.{formula_goes, formula_fails}
 use Rattle.sort_check.proofs.turns.take_formula.Goals as goal
 

@@ -1,5 +1,5 @@
 use Rattle.std.proofs.Common.{◌≡◌, ◌||◌, true, false, slice_get, sym, ◌∙◌, ap, subst}
-use Rattle.sort_check.specs.code.Namesakes.{IsKnown}
+use Rattle.sort_check.specs.Namesakes.{IsKnown}
 use Rattle.sort_check.specs.code.Texts.{other_at}
 use Rattle.sort_check.proofs.Alike.{first_differs}
 use Rattle.sort_check.proofs.namesakes.Namesakes.is_elsewise.Goals as goal

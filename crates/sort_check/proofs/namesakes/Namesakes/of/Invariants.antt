@@ -1,5 +1,5 @@
 use Rattle.std.proofs.Common.{take}
-use Rattle.sort_check.specs.code.Namesakes.{Knows}
+use Rattle.sort_check.specs.Namesakes.{Knows}
 use Rattle.sort_check.proofs.namesakes.Namesakes.of.Given as goal
 
 abbrev pub invariant-loop-number : goal.invariant-loop-number
