@@ -13,3 +13,4 @@ pub mod Answering
 pub mod Places
 pub mod Following
 pub mod Stepping
+pub mod Gathering

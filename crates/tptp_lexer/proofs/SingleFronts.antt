@@ -1,5 +1,5 @@
 -- A byte that is a mark of its own is found as this mark.
-use Rattle.std.proofs.Common.{◌≡◌, ℕ, ◌<◌, Bool, true, false, ◌==◌, [], ◌∷◌, length, slice_index, if◌then◌else◌, Option, Some, None, refl, sym, ap, ◌∙◌, arith}
+use Rattle.std.proofs.Common.{◌≡◌, ℕ, ◌<◌, Bool, true, false, ◌==◌, [], ◌∷◌, length, slice_index, if◌then◌else◌, Option, Some, refl, sym, ap, ◌∙◌, arith}
 use Rattle.std.proofs.lemmas.Bool.{eqb-true}
 use Rattle.tptp_lexer.specs.declared.scan.Front.TheVariants.{Token as Found}
 use Rattle.tptp_lexer.specs.declared.scan.Kind.TheVariants as k

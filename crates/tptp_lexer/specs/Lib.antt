@@ -1,6 +1,7 @@
 pub mod Answer
 pub mod Bytes
 pub mod Comments
+pub mod Dots
 pub mod Lexemes
 pub mod Marks
 pub mod Numbers

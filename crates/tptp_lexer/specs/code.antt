@@ -1,3 +1,4 @@
 -- What private contracts alone say of the code. Nothing public rests on this.
+pub mod Gathered
 pub mod Scan
 pub mod Step

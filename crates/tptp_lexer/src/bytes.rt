@@ -6,6 +6,17 @@ ghost use Rattle.tptp_lexer.specs.Bytes as spec;
 
 use memchr::memchr;
 
+// Each byte of a word stands at its own place, and a comma at every other place.
+static WORD_BYTES: [u8; 256] = *b"\
+    ,,,,,,,,,,,,,,,,,,,,,,,,,,,,,,,,\
+    ,,,,,,,,,,,,,,,,0123456789,,,,,,\
+    ,ABCDEFGHIJKLMNOPQRSTUVWXYZ,,,,_\
+    ,abcdefghijklmnopqrstuvwxyz,,,,,\
+    ,,,,,,,,,,,,,,,,,,,,,,,,,,,,,,,,\
+    ,,,,,,,,,,,,,,,,,,,,,,,,,,,,,,,,\
+    ,,,,,,,,,,,,,,,,,,,,,,,,,,,,,,,,\
+    ,,,,,,,,,,,,,,,,,,,,,,,,,,,,,,,,";
+
 /// The byte at an index, or 0 at and behind the end.
 pub fn byte(text: &[u8], at: usize) -> u8
     ensures value { result ≡ slice_index text.now at }
@@ -25,8 +36,7 @@ pub fn is_blank(byte: u8) -> bool
 fn is_alpha_numeric(byte: u8) -> bool
     ensures { result ≡ spec.is_alpha_numeric byte }
 {
-    (byte.is_ascii_lowercase() || byte.is_ascii_uppercase())
-        || (byte.is_ascii_digit() || byte == b'_')
+    WORD_BYTES[byte as usize] != b','
 }
 
 /// How many blanks the text begins with.

@@ -15,6 +15,7 @@ mod numbers;
 mod quotes;
 mod scan;
 mod style;
+mod through;
 mod token;
 mod word;
 

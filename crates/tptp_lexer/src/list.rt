@@ -1,15 +1,18 @@
 //! The tokens of a part of a text in turn. They are found in the text one by one, as they are asked for, and none is
 //! kept.
-ghost use Rattle.std.specs.Prelude.{◌≡◌, ◌↔◌, ◌+◌, ◌≤◌, ◌∷◌, [], false, length, IsTrue, MatchOption};
+ghost use Rattle.std.specs.Prelude.{◌≡◌, ◌↔◌, ◌≤◌, ◌∷◌, ◌++◌, [], false, length, IsTrue, MatchOption, OnOk};
 ghost use Rattle.tptp_base.specs.declared.place.Place.{Place};
+ghost use Rattle.tptp_lexer.specs.Dots.{through_dot, behind_dot};
 ghost use Rattle.tptp_lexer.specs.Words.{as_words};
 ghost use Rattle.tptp_lexer.specs.Lexemes as spec;
 
 use crate::advance::place_behind;
 use crate::ahead::ahead_of;
 use crate::lexeme::Lexeme;
-use crate::make::token_of;
+use crate::make::token_at;
+use crate::through::take_item;
 use crate::{Style, Token};
+use std::alloc::AllocError;
 use std::marker::Model;
 use tptp_base::Place;
 
@@ -153,6 +156,25 @@ impl<'a> Rest<'a> {
         }
     }
 
+    /// Takes the tokens through the next dot, comments left out, behind those of the list. Without a dot all are taken.
+    pub fn take_through_dot(&mut self, tokens: &mut Vec<Token<'a>>) -> Result<(), AllocError>
+        ensures ok { OnOk result (tokens.new.items ≡ tokens.old.items ++ through_dot self.old) }
+        ensures rest { OnOk result (self.new ≡ behind_dot self.old) }
+    {
+        match self.next {
+            Some(first) => {
+                let at = take_item(
+                    first, self.style, self.text, self.at, self.end, self.words, tokens,
+                )?;
+                let ahead = ahead_of(self.style, self.text, at, self.end);
+                self.next = ahead.next;
+                self.at = ahead.at;
+                Ok(())
+            }
+            None => Ok(()),
+        }
+    }
+
     /// The next token with its place, which is passed. It takes the time of the bytes between it and the last one that
     /// was given with its place.
     pub fn next_placed(&mut self) -> Option<(Token<'a>, Place)>
@@ -171,13 +193,4 @@ impl<'a> Rest<'a> {
             None => None,
         }
     }
-}
-
-// The token that is found there, with a word in place of a distinct object where `words` says so.
-fn token_at<'a>(text: &'a [u8], lexeme: Lexeme, words: bool) -> Token<'a>
-    requires { lexeme.at + lexeme.len ≤ length text.now }
-    ensures { result ≡ spec.taken words (spec.token_of lexeme.kind (spec.spelling text.now lexeme)) }
-{
-    let from = lexeme.at as usize;
-    token_of(lexeme.kind, &text[from..from + lexeme.len], words)
 }

@@ -1,7 +1,8 @@
 //! Tokens from their spellings.
-ghost use Rattle.std.specs.Prelude.{◌≡◌, ◌≤◌, ◌++◌, ◌∷◌, [], length};
+ghost use Rattle.std.specs.Prelude.{◌≡◌, ◌+◌, ◌≤◌, length};
 ghost use Rattle.tptp_lexer.specs.Lexemes as spec;
 
+use crate::lexeme::Lexeme;
 use crate::scan::Kind;
 use crate::{Chars, Token, Word};
 
@@ -20,6 +21,15 @@ pub fn token_of<'a>(kind: Kind, spelling: &'a [u8], words: bool) -> Token<'a>
         Kind::Comment => Token::Comment(Word::new(spelling)),
         Kind::Mark(mark) => Token::Mark(mark),
     }
+}
+
+/// The token that is found there, with a word in place of a distinct object where `words` says so.
+pub fn token_at<'a>(text: &'a [u8], lexeme: Lexeme, words: bool) -> Token<'a>
+    requires { lexeme.at + lexeme.len ≤ length text.now }
+    ensures { result ≡ spec.taken words (spec.token_of lexeme.kind (spec.spelling text.now lexeme)) }
+{
+    let from = lexeme.at as usize;
+    token_of(lexeme.kind, &text[from..from + lexeme.len], words)
 }
 
 // The distinct object that is written so between its quotes, or the word for it.
