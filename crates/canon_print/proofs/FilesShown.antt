@@ -13,7 +13,8 @@ use Rattle.tptp_base.specs.declared.item.Item.TheVariants as item
 use Rattle.tptp_lexer.specs.Bytes.{Text}
 use Rattle.tptp_lexer.specs.Spelled.{Spelled, lower_word, upper_word, dollar_word, dollar_dollar_word, single_quoted, distinct_object, number, comment_line, comment_block, mark, IsLongest}
 use Rattle.tptp_lexer.specs.Tokenized.{Cut, here, after_blank, after_token, placed}
-use Rattle.tptp_grammar.specs.Solid.{Placed, is_comment}
+use Rattle.tptp_grammar.specs.Solid.{Placed}
+use Rattle.tptp_lexer.specs.Dots.{is_comment}
 use Rattle.tptp_grammar.specs.Tokens.{Tokens}
 use Rattle.tptp_grammar.specs.Files as g
 use Rattle.tptp_grammar.specs.Files.{Through, IsFile, SpellsWithin}

@@ -12,7 +12,7 @@ use Rattle.tptp_lexer.specs.Numbers.{IsNumber}
 use Rattle.tptp_lexer.specs.Quotes.{IsWritten, nothing, plain, escaped as with_backslash, single_quote, double_quote, backslash, is_plain, is_escaped}
 use Rattle.tptp_lexer.specs.Spelled.{Spelled, lower_word, upper_word, dollar_word, dollar_dollar_word, single_quoted, distinct_object, number, comment_line, comment_block, mark, IsLongest}
 use Rattle.tptp_lexer.proofs.MarkFronts.{mark_of}
-use Rattle.tptp_grammar.specs.Solid.{is_comment}
+use Rattle.tptp_lexer.specs.Dots.{is_comment}
 use Rattle.tptp_grammar.specs.Tokens.{Tokens, word}
 use Rattle.canon_print.specs.Words.{escaped, quoted, is_lower_word, word_text}
 use Rattle.canon_print.proofs.Longest.{Ends, longest_lower, longest_upper, longest_dollar, longest_single, longest_double, longest_mark, longest_number}

@@ -1,5 +1,5 @@
 -- An item's tokens end with its first dot, so that it is read from the tokens through a dot as from all.
-use Rattle.std.proofs.Common.{◌≡◌, Bool, true, false, if◌then◌else◌, ℕ, ◌+◌, ◌-◌, ◌≤◌, List, [], ◌∷◌, ◌++◌, length, Ok, Err, inl, inr, refl, sym, ◌∙◌, ap, subst, append_assoc, append-nil, length-append, arith, Option}
+use Rattle.std.proofs.Common.{◌≡◌, Bool, true, false, if◌then◌else◌, ℕ, ◌≤◌, List, [], ◌∷◌, ◌++◌, length, Ok, Err, inl, inr, refl, sym, ◌∙◌, ap, subst, append_assoc, append-nil, length-append, arith}
 use Rattle.first_fault.specs.Nesting.{Nested, plain, Within}
 use Rattle.first_fault.specs.code.Reading.{Cause, Outcome, next}
 use Rattle.first_fault.proofs.Exact.{Exact, IsRead, IsFault, plain-append, within-append}
@@ -12,8 +12,8 @@ use Rattle.tptp_base.specs.declared.place.Place.{Place}
 use Rattle.tptp_base.specs.declared.item.Item.{Item}
 use Rattle.tptp_grammar.specs.Tokens.{Tokens}
 use Rattle.tptp_grammar.specs.Items.{IsItem}
-use Rattle.tptp_grammar.specs.Solid.{Placed, is_comment, is_remark, solid}
-use Rattle.tptp_grammar.specs.code.Dots.{is_dot, through_dot, behind_dot}
+use Rattle.tptp_grammar.specs.Solid.{Placed, solid}
+use Rattle.tptp_lexer.specs.Dots.{is_comment, is_dot, through_dot, behind_dot}
 use Rattle.tptp_grammar.specs.code.ReadItems.{item}
 use Rattle.tptp_grammar.proofs.ReadFile.{with_item, file}
 use Rattle.tptp_grammar.proofs.SolidItems.{DotTo, dot, earlier, no_dot, of_item}

@@ -15,7 +15,8 @@ use Rattle.tptp_base.specs.declared.item.Item.TheVariants as it
 use Rattle.tptp_grammar.specs.Tokens.{Text, Tokens}
 use Rattle.tptp_grammar.specs.Items as g
 use Rattle.tptp_grammar.specs.Items.{IsItem}
-use Rattle.tptp_grammar.specs.Solid.{Placed, is_comment, solid}
+use Rattle.tptp_grammar.specs.Solid.{Placed, solid}
+use Rattle.tptp_lexer.specs.Dots.{is_comment}
 use Rattle.tptp_grammar.specs.Files.{Through, last_token, dropped, token, IsFile, end_of_file, comment, input}
 use Rattle.tptp_grammar.specs.code.ReadItems.{item}
 use Rattle.tptp_grammar.proofs.ReadFile.{with_item, followed, file_from, file}

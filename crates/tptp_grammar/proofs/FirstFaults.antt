@@ -1,6 +1,6 @@
 -- What the reader of all tokens answers comes with a derivation, or with a way to go on from before the fault.
 use Rattle.std.proofs.Common.{◌≡◌, Bool, true, false, if◌then◌else◌, ℕ, zero, suc, ◌≤◌, ◌<◌, List, [], ◌∷◌, ◌++◌, length, Ok, Err, refl, sym, ◌∙◌, ap, subst, append_assoc, append-nil, length-append, arith}
-use Rattle.first_fault.specs.Nesting.{Nested, plain, Within}
+use Rattle.first_fault.specs.Nesting.{plain, Within}
 use Rattle.first_fault.specs.code.Reading.{Cause, Unexpected, TooDeep, Outcome, next}
 use Rattle.first_fault.proofs.Exact.{Exact, Over, within-append, plain-append, by_next}
 use Rattle.tptp_lexer.specs.declared.style.Style.{Style}
@@ -12,7 +12,8 @@ use Rattle.tptp_base.specs.declared.item.Item.TheVariants as it
 use Rattle.tptp_grammar.specs.Tokens.{Text, Tokens}
 use Rattle.tptp_grammar.specs.Items as g
 use Rattle.tptp_grammar.specs.Items.{IsItem}
-use Rattle.tptp_grammar.specs.Solid.{Placed, is_comment, is_remark, solid}
+use Rattle.tptp_grammar.specs.Solid.{Placed, is_remark, solid}
+use Rattle.tptp_lexer.specs.Dots.{is_comment}
 use Rattle.tptp_grammar.specs.Files.{IsFile, end_of_file, comment, input, SpellsWithin}
 use Rattle.tptp_grammar.specs.code.ReadItems.{item}
 use Rattle.tptp_grammar.proofs.ReadFile.{FileOutcome, with_item, file}

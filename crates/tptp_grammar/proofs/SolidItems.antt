@@ -24,7 +24,7 @@ use Rattle.tptp_base.specs.declared.item.Body.{Body}
 use Rattle.tptp_base.specs.declared.item.GTerm.{GTerm}
 use Rattle.tptp_base.specs.declared.item.Item.{Item}
 use Rattle.tptp_grammar.specs.Tokens.{Text, Tokens, word, operator, quantifier}
-use Rattle.tptp_grammar.specs.Solid.{is_comment}
+use Rattle.tptp_lexer.specs.Dots.{is_comment, is_dot}
 use Rattle.tptp_grammar.specs.Terms as t
 use Rattle.tptp_grammar.specs.Terms.{IsTerm, IsApplied, AreTerms, IsAtom, IsInequation}
 use Rattle.tptp_grammar.specs.Types as y
@@ -39,7 +39,6 @@ use Rattle.tptp_grammar.specs.GeneralTerms as g
 use Rattle.tptp_grammar.specs.GeneralTerms.{IsFormulaOf, IsGeneralData, IsGeneralTerm, IsGeneralList, AreGeneralTerms}
 use Rattle.tptp_grammar.specs.Items as i
 use Rattle.tptp_grammar.specs.Items.{IsName, IsBody, IsEnd, IsSelection, IsItem}
-use Rattle.tptp_grammar.specs.code.Dots.{is_dot}
 
 -- neither a comment nor a dot
 abbrev pub is_clear : Token → Bool

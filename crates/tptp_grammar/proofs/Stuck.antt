@@ -10,7 +10,8 @@ use Rattle.tptp_lexer.specs.declared.style.Style.{Style}
 use Rattle.tptp_lexer.specs.declared.token.Token.{Token}
 use Rattle.tptp_base.specs.declared.item.Item.{Item}
 use Rattle.tptp_grammar.specs.Tokens.{Tokens}
-use Rattle.tptp_grammar.specs.Solid.{Placed, is_comment, is_remark, solid}
+use Rattle.tptp_grammar.specs.Solid.{Placed, is_remark, solid}
+use Rattle.tptp_lexer.specs.Dots.{is_comment}
 use Rattle.tptp_grammar.specs.Files.{IsFile, SpellsWithin, IsPossible, IsPossibleWithin}
 use Rattle.tptp_grammar.proofs.ReadFile.{FileOutcome, file}
 use Rattle.tptp_grammar.proofs.Solids.{BeginsSolid}

@@ -1,5 +1,5 @@
 -- All tokens: what the parser's loop keeps, and what its answers say.
-use Rattle.std.proofs.Common.{◌≡◌, Bool, true, false, if◌then◌else◌, ℕ, zero, suc, ◌+◌, ◌-◌, ◌≤◌, List, [], ◌∷◌, ◌++◌, length, Option, Some, Ok, Err, inl, inr, refl, sym, ◌∙◌, ap, subst, append_assoc, append-nil, length-append, arith, ◌⊎◌}
+use Rattle.std.proofs.Common.{◌≡◌, Bool, true, false, if◌then◌else◌, ℕ, zero, suc, ◌+◌, ◌-◌, ◌≤◌, List, [], ◌∷◌, ◌++◌, length, Option, Some, Ok, Err, inl, inr, refl, sym, ◌∙◌, ap, subst, append_assoc, append-nil, length-append, arith}
 use Rattle.first_fault.specs.Nesting.{plain, Within, FirstOver}
 use Rattle.first_fault.specs.code.Reading.{Cause, Unexpected, TooDeep, next}
 use Rattle.tptp_lexer.specs.declared.style.Style.{Style}
@@ -12,10 +12,11 @@ use Rattle.tptp_grammar.specs.declared.stop.Stop.{Stop}
 use Rattle.tptp_grammar.specs.declared.stop.Stop.TheVariants as stop
 use Rattle.tptp_grammar.specs.declared.fault.GrammarFault.TheVariants as fault
 use Rattle.tptp_grammar.specs.Tokens.{Tokens}
-use Rattle.tptp_grammar.specs.Solid.{Placed, is_comment, is_remark, solid}
+use Rattle.tptp_grammar.specs.Solid.{Placed, is_remark, solid}
+use Rattle.tptp_lexer.specs.Dots.{is_comment, through_dot, behind_dot}
 use Rattle.tptp_grammar.specs.Files.{IsFile, Spells, SpellsWithin, IsPossible, IsPossibleWithin}
 use Rattle.tptp_grammar.specs.Faults.{max_nesting, is_outside, IsImpossible, IsUnfinished, IsDeep}
-use Rattle.tptp_grammar.specs.code.Dots.{through_dot, behind_dot, entry_behind}
+use Rattle.tptp_grammar.specs.code.Dots.{entry_behind}
 use Rattle.tptp_grammar.specs.code.Outcomes.{Fails}
 use Rattle.tptp_grammar.specs.code.ReadItems.{item}
 use Rattle.tptp_grammar.proofs.ReadFile.{FileOutcome, with_item, file}

@@ -8,7 +8,8 @@ use Rattle.tptp_base.specs.declared.place.Place.{Place}
 use Rattle.tptp_base.specs.declared.item.Item.{Item}
 use Rattle.tptp_grammar.specs.Tokens.{Text, Tokens}
 use Rattle.tptp_grammar.specs.Items.{IsItem}
-use Rattle.tptp_grammar.specs.Solid.{Placed, is_comment, solid}
+use Rattle.tptp_grammar.specs.Solid.{Placed, solid}
+use Rattle.tptp_lexer.specs.Dots.{is_comment}
 use Rattle.tptp_base.specs.declared.item.Item.TheVariants as item
 
 -- The first list, without its comments and through a token that is none, is the third list through its last token

@@ -1,16 +1,12 @@
 -- Tokens with their places, and which of them are no comments.
-use Rattle.std.specs.Prelude.{Bool, true, false, if◌then◌else◌, List, [], ◌∷◌}
+use Rattle.std.specs.Prelude.{Bool, if◌then◌else◌, List, [], ◌∷◌}
 use Rattle.tptp_lexer.specs.declared.token.Token.{Token}
-use Rattle.tptp_lexer.specs.declared.token.Token.TheVariants.{Comment}
+use Rattle.tptp_lexer.specs.Dots.{is_comment}
 use Rattle.tptp_base.specs.declared.place.Place.{Place}
 
 -- a token with its place
 abbrev pub Placed : Type 0
 Placed = Token × Place
-
-abbrev pub is_comment : Token → Bool
-is_comment (Comment text) = true
-is_comment _ = false
 
 abbrev pub is_remark : Placed → Bool
 is_remark entry = is_comment entry.0

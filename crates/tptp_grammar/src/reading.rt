@@ -1,12 +1,12 @@
 // All tokens of a text.
-ghost use Rattle.std.specs.Prelude.{◌≡◌, ◌++◌, [], ◌∷◌, List, if◌then◌else◌, IfOk, IfErr, OnOk};
+ghost use Rattle.std.specs.Prelude.{◌≡◌, ◌++◌, List, IfOk, IfErr, OnOk};
 ghost use Rattle.std.specs.List.{flat_map};
 ghost use Rattle.first_fault.specs.Nesting.{FirstOver};
 ghost use Rattle.tptp_base.specs.declared.item.Item.{Item};
+ghost use Rattle.tptp_lexer.specs.Dots.{is_comment};
 ghost use Rattle.tptp_grammar.specs.Tokens.{Tokens as NestedTokens};
 ghost use Rattle.tptp_grammar.specs.Files.{IsFile, Spells, SpellsWithin};
 ghost use Rattle.tptp_grammar.specs.Faults as faults;
-ghost use Rattle.tptp_grammar.specs.Solid as solids;
 ghost use Rattle.tptp_grammar.specs.code.Dots as dots;
 ghost use Rattle.tptp_grammar.specs.Answers as answers;
 ghost use Rattle.tptp_grammar.specs.Texts.{IsParsed};
@@ -19,7 +19,7 @@ use crate::stop::Stop;
 use crate::taker::Taker;
 use std::alloc::{AllocError, AllocFailed, Global};
 use tptp_base::{Item, List, Place};
-use tptp_lexer::{Mark, Rest, Style, Token, Tokens};
+use tptp_lexer::{Rest, Style, Token, Tokens};
 
 // How deep a text may nest.
 const MAX_NESTING: usize = 250;
@@ -60,41 +60,9 @@ impl<T: Drop> From<AllocFailed<T>> for Refusal {
 }
 
 fn is_comment(token: &Token<'_>) -> bool
-    ensures { result ≡ solids.is_comment token.now }
+    ensures { result ≡ is_comment token.now }
 {
     matches!(token, Token::Comment(_))
-}
-
-fn is_dot(token: &Token<'_>) -> bool
-    ensures { result ≡ dots.is_dot token.now }
-{
-    matches!(token, Token::Mark(Mark::Dot))
-}
-
-// Keeps the token, where it is no comment.
-fn keep<'a>(token: Token<'a>, tokens: &mut Vec<Token<'a>>) -> Result<(), AllocError>
-    ensures { OnOk result (tokens.new.items
-        ≡ (if solids.is_comment token.entry then tokens.old.items else tokens.old.items ++ token.entry ∷ [])) }
-{
-    if !is_comment(&token) {
-        tokens.push(token)?;
-    }
-    Ok(())
-}
-
-// Takes the tokens through the next dot, comments left out.
-fn gather<'a>(rest: &mut Rest<'a>, tokens: &mut Vec<Token<'a>>) -> Result<(), AllocError>
-    ensures ok { OnOk result (tokens.new.items ≡ tokens.old.items ++ dots.through_dot rest.old) }
-    ensures rest { OnOk result (rest.new ≡ dots.behind_dot rest.old) }
-{
-    'tokens: while let Some(token) = rest.next() {
-        let last = is_dot(&token);
-        keep(token, tokens)?;
-        if last {
-            return Ok(());
-        }
-    }
-    Ok(())
 }
 
 // An annotated formula or an include, from its first token on. The list has room for its tokens.
@@ -111,7 +79,7 @@ fn input<'a>(
 {
     tokens.clear();
     tokens.push(first)?;
-    gather(rest, tokens)?;
+    rest.take_through_dot(tokens)?;
     let given = tokens.len();
     let mut cursor = Cursor::new(tokens.as_slice());
     match item(alloc, &mut cursor, style, MAX_NESTING, place) {

@@ -1,5 +1,5 @@
 -- What private contracts say, beside the definitions of specs/Answers.
-use Rattle.std.specs.Prelude.{◌≡◌, ◌⊎◌, if◌then◌else◌, ℕ, ◌+◌, List, [], ◌∷◌, length, Option, Some, None, Ok}
+use Rattle.std.specs.Prelude.{◌≡◌, ◌⊎◌, if◌then◌else◌, ℕ, ◌+◌, List, ◌∷◌, length, Option, Some, None, Ok}
 use Rattle.tptp_lexer.specs.declared.style.Style.{Style}
 use Rattle.tptp_lexer.specs.declared.token.Token.{Token}
 use Rattle.tptp_lexer.specs.declared.token.Token.TheVariants.{Comment}
@@ -9,7 +9,7 @@ use Rattle.tptp_grammar.specs.declared.stop.Stop.{Stop}
 use Rattle.tptp_grammar.specs.declared.fault.GrammarFault.{GrammarFault}
 use Rattle.tptp_grammar.specs.Solid.{Placed}
 use Rattle.tptp_grammar.specs.Faults.{max_nesting, is_outside}
-use Rattle.tptp_grammar.specs.code.Dots.{through_dot, behind_dot}
+use Rattle.tptp_lexer.specs.Dots.{through_dot, behind_dot}
 use Rattle.tptp_grammar.specs.code.Outcomes.{Fails}
 use Rattle.tptp_grammar.specs.code.ReadItems.{item}
 use Rattle.tptp_base.specs.declared.item.Item.TheVariants as it

@@ -1,4 +1,4 @@
-use Rattle.std.proofs.Common.{rules, arith, ◌-◌, sym, ◌∙◌, ap}
+use Rattle.std.proofs.Common.{rules, arith, ◌-◌, sym, ◌∙◌}
 use Rattle.first_fault.specs.code.Reading.{tail, closed, separated, mapped}
 use Rattle.tptp_base.specs.declared.item.GTerm.TheVariants as gt
 use Rattle.tptp_grammar.proofs.Nests.{reads_again, arguments_none, arguments_some, bracketed_none, bracketed_some, pair_none, pair_some}
