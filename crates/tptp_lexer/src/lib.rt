@@ -23,6 +23,7 @@ pub use fault::LexFault;
 pub use law::{one_answer, one_token_list};
 pub use lexer::tokens;
 pub use list::{Rest, TokenList};
+pub use scan::{Front, Kind, front_of};
 pub use style::Style;
 pub use token::{Mark, Token, Tokens};
 pub use word::{Chars, Word};
