@@ -7,6 +7,7 @@ use crate::scan::Kind;
 use crate::{Chars, Token, Word};
 
 /// The token of a kind that is spelled so. A distinct object is given as a word where `words` says so.
+#[inline(always)]
 pub fn token_of<'a>(kind: Kind, spelling: &'a [u8], words: bool) -> Token<'a>
     ensures { result ≡ spec.taken words (spec.token_of kind spelling.now) }
 {

@@ -62,6 +62,7 @@ fn short(mark: Option<Mark>) -> Option<(Mark, usize)>
 }
 
 /// The mark of one byte that no longer mark begins with.
+#[inline(always)]
 pub fn single(first: u8) -> Option<Mark>
     ensures { result ≡ spec.single first }
 {
