@@ -1,5 +1,5 @@
 -- Formulas and terms in which some symbols do not stand, taken together and apart.
-use Rattle.std.specs.Prelude.{ℕ, ◌≡◌, ◌+◌, ◌==◌, ◌&&◌, Bool, true, false, List, [], ◌∷◌, Some, slice_get, refl}
+use Rattle.std.specs.Prelude.{ℕ, ◌≡◌, ◌+◌, ◌==◌, ◌&&◌, ◌||◌, Bool, true, false, List, [], ◌∷◌, Some, slice_get, refl}
 use Rattle.std.specs.List.{AllByRecursion, list_any}
 use Rattle.std.proofs.Common.{ap, sym, ◌∙◌, subst, eq-eqb, zero, suc, inl, inr}
 use Rattle.std.proofs.lemmas.Bool.{lt-ltb, le-ltb}
@@ -61,24 +61,36 @@ module _ (K : ℕ → Type 0) where
   abbrev pub AreFreeTerms : List Term → Type 0
   AreFreeTerms ts = (k : ℕ) → K k → list_any (occurs_in_term k) ts ≡ false
 
-  -- the head of an application, and its arguments
-  pub app_head : (f : ℕ) (ts : List Term) → IsFreeTerm (App f ts) → K f → ⊥
-  app_head f ts free is =
-      let none = or_false (f == f) (list_any (occurs_in_term f) ts) (sym (occurs_in_term-App f f ts) ∙ free f is) in
-      let one : true ≡ false = sym (eq-eqb f f refl) ∙ none.0 in
+  -- none of the symbols is the head, or stands in an argument
+  abbrev LackHeadAndArguments : ℕ → List Term → Type 0
+  LackHeadAndArguments f ts = (k : ℕ) → K k → ((f == k) || list_any (occurs_in_term k) ts) ≡ false
+
+  no_head : (f : ℕ) (ts : List Term) → LackHeadAndArguments f ts → K f → ⊥
+  no_head f ts lack is =
+      let one : true ≡ false = sym (eq-eqb f f refl) ∙ (or_false (f == f) (list_any (occurs_in_term f) ts) (lack f is)).0 in
       absurd (cc)
+
+  free_arguments : (f : ℕ) (ts : List Term) → LackHeadAndArguments f ts → AreFreeTerms ts
+  free_arguments f ts lack k is = (or_false (f == k) (list_any (occurs_in_term k) ts) (lack k is)).1
+
+  app_lacks : (f : ℕ) (ts : List Term) → IsFreeTerm (App f ts) → LackHeadAndArguments f ts
+  app_lacks f ts free k is = sym (occurs_in_term-App k f ts) ∙ free k is
+
+  atom_lacks : (p : ℕ) (ts : List Term) → IsFree (Atom p ts) → LackHeadAndArguments p ts
+  atom_lacks p ts free k is = sym (occurs_in-Atom k p ts) ∙ free k is
+
+  -- the head of an application or an atom, and its arguments
+  pub app_head : (f : ℕ) (ts : List Term) → IsFreeTerm (App f ts) → K f → ⊥
+  app_head f ts free = no_head f ts (app_lacks f ts free)
 
   pub app_args : (f : ℕ) (ts : List Term) → IsFreeTerm (App f ts) → AreFreeTerms ts
-  app_args f ts free k is = (or_false (f == k) (list_any (occurs_in_term k) ts) (sym (occurs_in_term-App k f ts) ∙ free k is)).1
+  app_args f ts free = free_arguments f ts (app_lacks f ts free)
 
   pub atom_head : (p : ℕ) (ts : List Term) → IsFree (Atom p ts) → K p → ⊥
-  atom_head p ts free is =
-      let none = or_false (p == p) (list_any (occurs_in_term p) ts) (sym (occurs_in-Atom p p ts) ∙ free p is) in
-      let one : true ≡ false = sym (eq-eqb p p refl) ∙ none.0 in
-      absurd (cc)
+  atom_head p ts free = no_head p ts (atom_lacks p ts free)
 
   pub atom_args : (p : ℕ) (ts : List Term) → IsFree (Atom p ts) → AreFreeTerms ts
-  atom_args p ts free k is = (or_false (p == k) (list_any (occurs_in_term k) ts) (sym (occurs_in-Atom k p ts) ∙ free k is)).1
+  atom_args p ts free = free_arguments p ts (atom_lacks p ts free)
 
   pub first_term : (t : Term) (ts : List Term) → AreFreeTerms (t ∷ ts) → IsFreeTerm t
   first_term t ts free k is = (or_false (occurs_in_term k t) (list_any (occurs_in_term k) ts) (free k is)).0

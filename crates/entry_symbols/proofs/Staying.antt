@@ -149,6 +149,13 @@ module _ (K Hidden : ℕ → Type 0) where
     added = kept t u like [] (choice j symbol a) (choice_free K j symbol a apart free) may.added;
   }
 
+  -- of an entry that tells of a symbol by a formula: the symbol is none of them, and the formula has none of them
+  abbrev Told : ℕ → Form → Type 0
+  Told j a = (K j → ⊥) × (((k : ℕ) → K k → j ≡ k → ⊥) × IsFree K a)
+
+  told_of : (j : ℕ) (a : Form) (rest : ℕ → Type 0) → ((k : ℕ) → K k → ((j ≡ k → ⊥) × (occurs_in k a ≡ false)) × rest k) → Told j a
+  told_of j a rest lack = (λ here. (lack j here).0.0 refl, (λ k here. (lack k here).0.0, λ k here. (lack k here).0.1))
+
   pub entries_stay : (t u : Statements) (es : List Entry) (after : Statements) → IsLike t u K Hidden → ((k : ℕ) → K k → DoNotMention k es) → ((n : ℕ) → Hidden n → DoNotCite n es) → Admits t es after → Takes u es
   entries_stay t u [] after like lack spare admits = (u, refl)
   entries_stay t u (Declare (decl.Sort name) ∷ es) after like lack spare (legal, (next, is, rest)) =
@@ -165,14 +172,12 @@ module _ (K Hidden : ℕ → Type 0) where
       let later = entries_stay next (with_formula u a) es after (on_from t u a next is like free) (λ k here. (lack k here).1) (λ n here. (spare n here).1) rest in
       (later.0, ((a, own), (with_formula u a, (a, own, refl), later.1)))
   entries_stay t u (Name j a ∷ es) after like lack spare (legal, (next, (symbol, found, is), rest)) =
-      let other : K j → ⊥ = λ here. (lack j here).0.0 refl in
-      let apart : (k : ℕ) → K k → j ≡ k → ⊥ = λ k here. (lack k here).0.0 in
-      let free : IsFree K a = λ k here. (lack k here).0.1 in
-      let later = entries_stay next (with_formula u (naming j symbol a)) es after (on_from t u (naming j symbol a) next is like (naming_free K j symbol a apart free)) (λ k here. (lack k here).1) (λ n here. (spare n here).1) rest in
-      (later.0, ((legal.0, named t u j legal.0 a like other apart free legal.1), (with_formula u (naming j symbol a), (symbol, like.symbols j other ∙ found, refl), later.1)))
+      let told = told_of j a (λ k. DoNotMention k es) lack in
+      let on = on_from t u (naming j symbol a) next is like (naming_free K j symbol a told.1.0 told.1.1) in
+      let later = entries_stay next (with_formula u (naming j symbol a)) es after on (λ k here. (lack k here).1) (λ n here. (spare n here).1) rest in
+      (later.0, ((legal.0, named t u j legal.0 a like told.0 told.1.0 told.1.1 legal.1), (with_formula u (naming j symbol a), (symbol, like.symbols j told.0 ∙ found, refl), later.1)))
   entries_stay t u (Choice j a ∷ es) after like lack spare (legal, (next, (symbol, found, is), rest)) =
-      let other : K j → ⊥ = λ here. (lack j here).0.0 refl in
-      let apart : (k : ℕ) → K k → j ≡ k → ⊥ = λ k here. (lack k here).0.0 in
-      let free : IsFree K a = λ k here. (lack k here).0.1 in
-      let later = entries_stay next (with_formula u (choice j symbol a)) es after (on_from t u (choice j symbol a) next is like (choice_free K j symbol a apart free)) (λ k here. (lack k here).1) (λ n here. (spare n here).1) rest in
-      (later.0, ((legal.0, chosen t u j legal.0 a like other apart free legal.1), (with_formula u (choice j symbol a), (symbol, like.symbols j other ∙ found, refl), later.1)))
+      let told = told_of j a (λ k. DoNotMention k es) lack in
+      let on = on_from t u (choice j symbol a) next is like (choice_free K j symbol a told.1.0 told.1.1) in
+      let later = entries_stay next (with_formula u (choice j symbol a)) es after on (λ k here. (lack k here).1) (λ n here. (spare n here).1) rest in
+      (later.0, ((legal.0, chosen t u j legal.0 a like told.0 told.1.0 told.1.1 legal.1), (with_formula u (choice j symbol a), (symbol, like.symbols j told.0 ∙ found, refl), later.1)))
