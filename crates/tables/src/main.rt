@@ -11,6 +11,7 @@ mod graphs;
 mod kits;
 mod line;
 mod pairs;
+mod pieces;
 mod saturating;
 mod scene;
 mod searches;

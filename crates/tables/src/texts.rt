@@ -3,6 +3,7 @@ ghost use Rattle.std.specs.Prelude.{◌≤◌, length};
 
 use crate::graphs;
 use crate::line::Line;
+use crate::pieces::fed;
 use crate::scene::{items_of, tokens_of};
 use crate::tokens::{listed, placed, push_place};
 use canon_print::{print_formula, print_general};
@@ -14,6 +15,7 @@ use tptp_lexer::{Style, tokens};
 /// The answer of a call on a text:
 ///
 /// - `tokens`, `derivation`: the tokens of the text in a problem or in a derivation, or the fault
+/// - `fed`: the tokens of a problem's text that is fed in pieces of so many bytes, or the fault
 /// - `part`: the places of the tokens in the middle one of three texts, and of its end; the text is that of file 2
 /// - `place`: the place of an offset in file 7
 /// - `cuts`: what is answered where the text is cut before a blank, or not cut, and does not end too early; cuts are
@@ -27,6 +29,7 @@ pub fn found(alloc: Global, line: &Line<'_>) -> Option<String> {
     match line.call {
         "tokens" => listed(alloc, tokens_of(alloc, text, Style::Problem)).ok(),
         "derivation" => listed(alloc, tokens_of(alloc, text, Style::Derivation)).ok(),
+        "fed" => fed(alloc, text, line.parts),
         "part" => part(alloc, line.parts),
         "place" => place(alloc, text, line.parts),
         "cuts" => cuts(alloc, text.as_bytes()),

@@ -1,0 +1,9 @@
+pub mod Parting
+pub mod Tails
+pub mod Joined
+pub mod Unfinished
+pub mod Growing
+pub mod Stopping
+pub mod Ends
+pub mod Waiting
+pub mod Reaching
