@@ -16,6 +16,7 @@ mod proofs;
 mod quoted;
 mod reader;
 mod room;
+mod rule_names;
 mod stop;
 mod term_reader;
 mod words;

@@ -1,8 +1,9 @@
 // The names that begin the lines and the trees of a log.
-ghost use Rattle.std.specs.Prelude.{◌≡◌, ◌∷◌, ℕ, List};
+ghost use Rattle.std.specs.Prelude.{◌≡◌, ℕ, List, IfSome};
 ghost use Rattle.proof_log.specs.code.Names as spec;
-ghost use Rattle.proof_log.specs.code.ReadWords.{find};
+ghost use Rattle.proof_log.specs.code.ReadWords.{BeginsAs};
 
+use crate::rule_names::{behind_a, behind_ex, behind_i, behind_not, behind_or, behind_r};
 use crate::write::HEADER;
 
 /// What is written by a name.
@@ -21,9 +22,9 @@ pub trait Spelled: Copy + 'static {
     fn all() -> &'static [Self]
         ensures { result.now ≡ names };
 
-    /// Names among which a text that begins with the byte finds what it finds among all.
-    fn beginning(byte: u8) -> &'static [Self]
-        ensures { (rest : List ℕ) → find spell result.now (byte ∷ rest) ≡ find spell names (byte ∷ rest) };
+    /// The name that the text begins with, where its bytes tell at once which it is, and what stands behind it.
+    fn at_once(text: &[u8]) -> Option<(Self, &[u8])>
+        ensures { IfSome result (λ found. BeginsAs spell names text.now found.0 found.1.now) };
 }
 
 /// The terms.
@@ -51,11 +52,11 @@ impl Spelled for TermName {
         &TERM_NAMES
     }
 
-    fn beginning(byte: u8) -> &'static [TermName] {
-        match byte {
-            b'v' => &[TermName::Var],
-            b'f' => &[TermName::App],
-            _ => &TERM_NAMES,
+    fn at_once(text: &[u8]) -> Option<(TermName, &[u8])> {
+        match text {
+            [b'v', rest @ ..] => Some((TermName::Var, rest)),
+            [b'f', rest @ ..] => Some((TermName::App, rest)),
+            _ => None,
         }
     }
 }
@@ -109,18 +110,18 @@ impl Spelled for FormName {
         &FORM_NAMES
     }
 
-    fn beginning(byte: u8) -> &'static [FormName] {
-        match byte {
-            b'a' => &[FormName::Atom],
-            b'=' => &[FormName::Eq],
-            b'~' => &[FormName::Not],
-            b'&' => &[FormName::And],
-            b'|' => &[FormName::Or],
-            b'>' => &[FormName::Imp],
-            b'<' => &[FormName::Iff],
-            b'!' => &[FormName::All],
-            b'?' => &[FormName::Ex],
-            _ => &FORM_NAMES,
+    fn at_once(text: &[u8]) -> Option<(FormName, &[u8])> {
+        match text {
+            [b'a', rest @ ..] => Some((FormName::Atom, rest)),
+            [b'~', rest @ ..] => Some((FormName::Not, rest)),
+            [b'|', rest @ ..] => Some((FormName::Or, rest)),
+            [b'&', rest @ ..] => Some((FormName::And, rest)),
+            [b'=', rest @ ..] => Some((FormName::Eq, rest)),
+            [b'>', rest @ ..] => Some((FormName::Imp, rest)),
+            [b'!', rest @ ..] => Some((FormName::All, rest)),
+            [b'?', rest @ ..] => Some((FormName::Ex, rest)),
+            [b'<', b'>', rest @ ..] => Some((FormName::Iff, rest)),
+            _ => None,
         }
     }
 }
@@ -210,30 +211,18 @@ impl Spelled for ProofName {
         &PROOF_NAMES
     }
 
-    fn beginning(byte: u8) -> &'static [ProofName] {
-        match byte {
-            b'l' => &[ProofName::Line],
-            b'h' => &[ProofName::Hyp],
-            b'a' => &[
-                ProofName::AndI,
-                ProofName::AndE,
-                ProofName::AllI,
-                ProofName::AllE,
-            ],
-            b'o' => &[ProofName::OrI, ProofName::OrE],
-            b'i' => &[
-                ProofName::ImpI,
-                ProofName::ImpE,
-                ProofName::IffI,
-                ProofName::IffL,
-                ProofName::IffR,
-                ProofName::Inhabit,
-            ],
-            b'n' => &[ProofName::NotI, ProofName::NotE],
-            b'r' => &[ProofName::Raa, ProofName::Refl],
-            b'e' => &[ProofName::ExI, ProofName::ExE],
-            b's' => &[ProofName::Subst],
-            _ => &PROOF_NAMES,
+    fn at_once(text: &[u8]) -> Option<(ProofName, &[u8])> {
+        match text {
+            [b'h', b'y', b'p', rest @ ..] => Some((ProofName::Hyp, rest)),
+            [b'i', rest @ ..] => behind_i(rest),
+            [b'l', b'i', b'n', b'e', rest @ ..] => Some((ProofName::Line, rest)),
+            [b'n', b'o', b't', rest @ ..] => behind_not(rest),
+            [b'a', rest @ ..] => behind_a(rest),
+            [b'o', b'r', rest @ ..] => behind_or(rest),
+            [b'e', b'x', rest @ ..] => behind_ex(rest),
+            [b'r', rest @ ..] => behind_r(rest),
+            [b's', b'u', b'b', b's', b't', rest @ ..] => Some((ProofName::Subst, rest)),
+            _ => None,
         }
     }
 }
@@ -265,8 +254,8 @@ impl Spelled for DeclName {
         &DECL_NAMES
     }
 
-    fn beginning(_byte: u8) -> &'static [DeclName] {
-        &DECL_NAMES
+    fn at_once(_text: &[u8]) -> Option<(DeclName, &[u8])> {
+        None
     }
 }
 
@@ -304,8 +293,11 @@ impl Spelled for EntryName {
         &ENTRY_NAMES
     }
 
-    fn beginning(_byte: u8) -> &'static [EntryName] {
-        &ENTRY_NAMES
+    fn at_once(text: &[u8]) -> Option<(EntryName, &[u8])> {
+        match text {
+            [b'L', rest @ ..] => Some((EntryName::Lemma, rest)),
+            _ => None,
+        }
     }
 }
 
@@ -332,7 +324,7 @@ impl Spelled for LogVersion {
         &VERSIONS
     }
 
-    fn beginning(_byte: u8) -> &'static [LogVersion] {
-        &VERSIONS
+    fn at_once(_text: &[u8]) -> Option<(LogVersion, &[u8])> {
+        None
     }
 }

@@ -54,16 +54,6 @@ fn find_among<N: Spelled>(some: &[N], text: &[u8]) -> Option<N>
     None
 }
 
-// The first name that the text begins with. Its first byte tells which names to try.
-fn find<N: Spelled>(text: &[u8]) -> Option<N>
-    ensures { result ≡ spec.find N.spell N.names text.now }
-{
-    match text {
-        [byte, ..] => find_among(N::beginning(*byte), text),
-        [] => find_among(N::all(), text),
-    }
-}
-
 // How far the text begins as one of the names.
 fn reach<N: Spelled>(text: &[u8]) -> usize
     ensures { result ≡ spec.reach N.spell N.names text.now }
@@ -84,7 +74,22 @@ fn reach<N: Spelled>(text: &[u8]) -> usize
 pub fn name<N: Spelled>(text: &mut Cursor<'_>) -> Result<N, Stop>
     ensures { Reads (spec.name N.spell N.names text.old) result text.new }
 {
-    match find::<N>(text.text()) {
+    match N::at_once(text.text()) {
+        Some((found, rest)) => {
+            *text = Cursor::new(rest);
+            Ok(found)
+        }
+        None => name_among_all(text),
+    }
+}
+
+// One of the names, which is looked for among all.
+#[inline(never)]
+#[tactic(auto, unfolding(crate::specs::code::ReadWords::name))]
+fn name_among_all<N: Spelled>(text: &mut Cursor<'_>) -> Result<N, Stop>
+    ensures { Reads (spec.name N.spell N.names text.old) result text.new }
+{
+    match find_among(N::all(), text.text()) {
         Some(found) => {
             text.advance(found.spelling().len());
             Ok(found)
@@ -151,11 +156,13 @@ fn more_digits(text: &mut Cursor<'_>, most: u64, first: u64) -> u64
     requires { 9 ≤ most }
     ensures { spec.more_digits most first text.old ≡ Ok (result, text.new) }
 {
+    let mut rest = Cursor::new(text.text());
     let mut number = first;
-    'digits: while let Some(longer) = next_digit(text, most, number) {
+    'digits: while let Some(longer) = next_digit(&rest, most, number) {
         number = longer;
-        text.skip();
+        rest.skip();
     }
+    *text = rest;
     number
 }
 

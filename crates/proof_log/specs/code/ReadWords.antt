@@ -1,6 +1,6 @@
 -- What the functions that read words compute.
 use Rattle.std.specs.Prelude.{ℕ, zero, suc, ◌+◌, ◌*◌, ◌-◌, ◌==◌, ◌&&◌, nat_le, max, Bool, if◌then◌else◌, List, [], ◌∷◌}
-use Rattle.std.specs.Prelude.{length, drop, Option, Some, None, Ok, Err}
+use Rattle.std.specs.Prelude.{◌≡◌, length, drop, Option, Some, None, Ok, Err}
 use Rattle.std.specs.Char.{is_ascii_digit}
 use Rattle.first_fault.specs.code.Reading.{Unexpected, TooDeep, Reader, refuse, and_then, mapped, opened}
 
@@ -55,6 +55,10 @@ found_or spell n (Some w) text = Ok (w, drop (length (spell w)) text)
 -- one of the names
 unfoldable pub name : {W : Type 0} → (W → List ℕ) → List W → Reader ℕ W
 name spell table text = found_or spell (reach spell table text) (find spell table text) text
+
+-- the first name that a text begins with is this one, and the rest stands behind it
+abbrev pub BeginsAs : {W : Type 0} → (W → List ℕ) → List W → List ℕ → W → List ℕ → Type 0
+BeginsAs spell table text w rest = (find spell table text ≡ Some w) × (rest ≡ drop (length (spell w)) text)
 
 -- one of the names, where it is nested too deep
 unfoldable pub deep_name : {W : Type 0} → (W → List ℕ) → List W → Reader ℕ W
