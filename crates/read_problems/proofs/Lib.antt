@@ -1,6 +1,7 @@
 pub mod Absences
 pub mod FirstFaults
 pub mod Givens
+pub mod GivenForms
 pub mod MarksFit
 pub mod NoRefusal
 pub mod OneProblem

@@ -2,6 +2,7 @@
 ghost use Rattle.std.specs.Prelude.{◌≡◌, ◌⊎◌, ◌≤◌, ◌∷◌, [], ◌++◌, IfOk, OnOk, map, reverse};
 ghost use Rattle.std.specs.Option.{option_copied};
 ghost use Rattle.tptp_base.specs.Count.{Rose};
+ghost use Rattle.sort_check.specs.Given.{given_entries};
 ghost use Rattle.sort_check.specs.Sorting.{AreSorted};
 ghost use Rattle.read_problems.specs.Answer.{ending_of};
 ghost use Rattle.read_problems.specs.Given.{given_theory, IsGiven};
@@ -16,7 +17,7 @@ use fof_terms::{Form, Signature};
 use proof_check::Theory;
 use sort_check::{GivenEntry, Line, give_all};
 use std::alloc::Global;
-use tptp_base::{List, Memory, Store};
+use tptp_base::{List, Memory, Role, Store};
 
 /// The theory of what a problem gives, and how many bytes its files have.
 #[derive(Drop)]
@@ -61,21 +62,63 @@ fn theory_of(alloc: Global, signature: Signature, lines: List<Line>) -> Result<T
     requires sorted { AreSorted signature lines }
     ensures { IfOk result (λ theory. theory ≡ given_theory lines signature) }
 {
-    let entries = give_all(alloc, lines)?;
-    let forms = forms_of(alloc, entries)?;
+    let forms = forms_of(alloc, lines)?;
     Theory::start(alloc, signature, forms)
 }
 
-// The formulas of the entries, which are let go on the way.
-fn forms_of(alloc: Global, entries: List<GivenEntry>) -> Result<List<Form>, Memory>
-    ensures { IfOk result (λ forms. forms ≡ map (λ entry. entry.form) entries) }
+// The formulas that the lines give, which are let go on the way.
+fn forms_of(alloc: Global, lines: List<Line>) -> Result<List<Form>, Memory>
+    ensures { IfOk result (λ forms. forms ≡ map (λ entry. entry.form) (given_entries lines)) }
 {
-    let mut left = reversed(alloc, entries)?;
+    let mut left = forms_reversed(alloc, lines)?;
     let mut forms = List::new(alloc);
-    while let Some(entry) = left.pop() {
-        forms.push(entry.form)?;
+    while let Some(form) = left.pop() {
+        forms.push(form)?;
     }
     Ok(forms)
+}
+
+// The same, the last one first.
+#[tactic(auto, using(crate::proofs::GivenForms::given_before))]
+fn forms_reversed(alloc: Global, lines: List<Line>) -> Result<List<Form>, Memory>
+    ensures { IfOk result (λ forms. reverse forms ≡ map (λ entry. entry.form) (given_entries lines)) }
+{
+    let mut forms = List::new(alloc);
+    let mut left = lines;
+    while let Some(line) = left.pop() {
+        give(alloc, line, &mut forms)?;
+    }
+    Ok(forms)
+}
+
+// Adds the formula that the line gives, if it gives one. An axiom, as most lines are, gives its own.
+#[tactic(auto, using(crate::proofs::GivenForms::axiom_gives))]
+fn give(alloc: Global, line: Line, forms: &mut List<Form>) -> Result<(), Memory>
+    ensures { OnOk result (forms.new ≡ forms.old ++ map (λ entry. entry.form) (given_entries (line ∷ []))) }
+{
+    if line.role == Role::Axiom {
+        forms.push(line.form)?;
+        Ok(())
+    } else {
+        give_one(alloc, line, forms)
+    }
+}
+
+// The same for a line of any role.
+#[tactic(auto, using(crate::proofs::GivenForms::one_given, crate::proofs::GivenForms::none_given))]
+fn give_one(alloc: Global, line: Line, forms: &mut List<Form>) -> Result<(), Memory>
+    ensures { OnOk result (forms.new ≡ forms.old ++ map (λ entry. entry.form) (given_entries (line ∷ []))) }
+{
+    let mut lines = List::new(alloc);
+    lines.push(line)?;
+    let mut given = give_all(alloc, lines)?;
+    match given.pop() {
+        Some(entry) => {
+            forms.push(entry.form)?;
+            Ok(())
+        }
+        None => Ok(()),
+    }
 }
 
 /// The entries, the last one first.
