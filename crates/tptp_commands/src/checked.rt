@@ -13,6 +13,7 @@ use proof_check::Theory;
 use proof_log::{LogCheckFault, check_log};
 use read_problems::{Answer, Given, Halt, Stop, TOTAL_SIZE, read_given, read_text};
 use std::alloc::{AllocError, Global};
+use std::mem::forget;
 use tptp_base::{FILE_SIZE, Store};
 
 /// Reads a problem with all that it includes, and a log, and says whether the log leads from the problem to falsehood.
@@ -34,7 +35,10 @@ pub fn check<S: Store>(
     ensures cause { IfStopped result (λ stop. HasCause stop (Rose (S.faults store.old) (S.faults store.new)) ⊥) }
 {
     let mut given = read_given(alloc, store, root, problem)?;
-    check_file(alloc, store, &mut given, log)
+    let said = check_file(alloc, store, &mut given, log);
+    // The program ends with this answer, and its memory with it: the theory is not taken apart formula by formula.
+    forget(given);
+    said
 }
 
 // What is said of the file of a log.
