@@ -17,7 +17,7 @@ use Rattle.sort_check.specs.declared.line.GivenEntry.{GivenEntry}
 use Rattle.sort_check.specs.declared.line.TextKind.TheVariants as kind
 use Rattle.sort_check.specs.Given.{given_entries}
 use Rattle.sort_check.proofs.LineSorts.{text_fits}
-use Rattle.sort_check.specs.Sorting.{AreSorted, AreGivenSorted, IsSentence}
+use Rattle.sort_check.specs.Sorting.{AreDeclared, AreSorted, AreGivenSorted, IsSentence}
 use Rattle.sort_check.specs.Texts.{denoted}
 use Rattle.read_problems.specs.Denotations.{IsDenotation}
 use Rattle.read_problems.specs.Given.{given_theory, IsGiven}
@@ -75,3 +75,6 @@ module _ (told : Option Files) (root : Option (List ℕ)) (file : List ℕ) wher
 
     pub kept_sorted : AreSorted d.signature d.lines
     kept_sorted = subst (AreSorted d.signature) (sym is.kept_lines) (text_fits is.whole.items first_vocabulary d.signature kind.Problem is.lines (omega arith) is.denotes).1
+
+    pub all_declared : AreDeclared d.signature
+    all_declared = (text_fits is.whole.items first_vocabulary d.signature kind.Problem is.lines (omega arith) is.denotes).0.declared (omega arith) tt

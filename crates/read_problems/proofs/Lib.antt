@@ -1,4 +1,5 @@
 pub mod Absences
+pub mod FewGiven
 pub mod FirstFaults
 pub mod Givens
 pub mod GivenForms

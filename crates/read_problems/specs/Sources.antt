@@ -12,12 +12,17 @@ use Rattle.sort_check.specs.Texts.{is_conjecture, denoted}
 use Rattle.std.specs.declared.option.Option.{Option}
 use Rattle.tptp_base.specs.Store.{Files}
 use Rattle.fof_terms.specs.Vocabulary.{Vocabulary}
+use Rattle.kernel.specs.Statements.{Statements}
 use Rattle.include_resolve.specs.declared.problem.Problem.{Problem}
 use Rattle.include_resolve.specs.Resolved.{Resolves}
 use Rattle.read_problems.specs.Given.{given_theory}
 use Rattle.read_problems.specs.Denoted.{first_vocabulary}
 use Rattle.read_problems.specs.declared.sources.Source.{Source}
 use Rattle.sort_check.specs.declared.line.TextKind.TheVariants as kind
+
+-- the theory of entries over this vocabulary
+abbrev pub entry_theory : Vocabulary → List GivenEntry → Statements
+entry_theory v entries = record { vocabulary = v; formulas = map (λ (entry : GivenEntry). entry.form) entries }
 
 abbrev pub entry_names : List GivenEntry → List Name
 entry_names entries = map (λ (entry : GivenEntry). entry.name) entries
@@ -38,6 +43,10 @@ entry_marks entries = map (λ (entry : GivenEntry). is_of_conjecture entry.role)
 -- for each given formula whether its role is one of these
 abbrev pub conjecture_marks : List Line → List Bool
 conjecture_marks lines = entry_marks (given_entries lines)
+
+-- one of the entries comes of a conjecture
+abbrev pub have_conjecture : List GivenEntry → Bool
+have_conjecture entries = list_any (λ (entry : GivenEntry). is_conjecture entry.role) entries
 
 -- the problem has a conjecture
 abbrev pub has_conjecture : List Line → Bool

@@ -22,6 +22,6 @@ pub use posed::{Posed, read_posed};
 pub use refusals::{TOTAL_SIZE, read_text};
 pub use resolved::read_files;
 pub use saying::{over_limit, say_at, say_of_file};
-pub use sources::{Source, read_source};
+pub use sources::{Source, read_source, source_of};
 pub use spelled::{print_text, say_grammar_fault, say_lex_fault};
 pub use stop::{Answer, Halt, Stop};

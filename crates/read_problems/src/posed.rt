@@ -1,7 +1,8 @@
 // What a problem poses: its signature, and the formulas that it gives.
-ghost use Rattle.std.specs.Prelude.{◌≡◌, ◌⊎◌, ◌≤◌, IfOk};
+ghost use Rattle.std.specs.Prelude.{◌≡◌, ◌⊎◌, ◌≤◌, ◌<◌, ◌^◌, IfOk, length};
 ghost use Rattle.std.specs.Option.{option_copied};
 ghost use Rattle.tptp_base.specs.Count.{Rose};
+ghost use Rattle.sort_check.specs.Sorting.{AreDeclared, AreGivenSorted};
 ghost use Rattle.read_problems.specs.Answer.{ending_of};
 ghost use Rattle.read_problems.specs.Posed.{IsPosed};
 ghost use Rattle.read_problems.specs.Denoted.{IsProblemRefusal};
@@ -25,7 +26,7 @@ pub struct Posed {
 }
 
 /// What the problem in the file poses, with all that it includes. The first fault is refused.
-#[tactic(auto, using(crate::proofs::Givens::denoted_posed))]
+#[tactic(auto, using(crate::proofs::FewGiven::few_given, crate::proofs::Givens::denoted_posed))]
 pub fn read_posed<S: Store>(
     alloc: Global,
     store: &mut S,
@@ -33,6 +34,9 @@ pub fn read_posed<S: Store>(
     file: &str,
 ) -> Result<Posed, Halt>
     ensures is { IfOk result (λ posed. IsPosed (S.files store.old) (option_copied root.entry) file.now posed) }
+    ensures few { IfOk result (λ posed. length posed.given < 2 ^ 32) }
+    ensures sorted { IfOk result (λ posed. AreGivenSorted posed.signature posed.given) }
+    ensures declared { IfOk result (λ posed. AreDeclared posed.signature) }
     ensures in_budget { IfOk result (λ posed. posed.read ≤ TOTAL_SIZE) }
     ensures refused { IfRefused result (λ answer.
         IsProblemRefusal (S.files store.old) (option_copied root.entry) file.now (ending_of answer)) }

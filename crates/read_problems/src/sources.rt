@@ -1,12 +1,11 @@
 // What a problem gives to a derivation from it.
 ghost use Rattle.std.specs.Prelude.{◌≡◌, ◌⊎◌, ◌≤◌, ◌<◌, ◌^◌, ◌∷◌, [], ◌++◌, IfOk, OnOk, length, map};
-ghost use Rattle.std.specs.List.{All, list_any};
+ghost use Rattle.std.specs.List.{All};
 ghost use Rattle.std.specs.Option.{option_copied};
 ghost use Rattle.tptp_base.specs.Count.{Rose};
-ghost use Rattle.sort_check.specs.Sorting.{AreDeclared, AreSorted, IsSentence};
+ghost use Rattle.sort_check.specs.Sorting.{AreDeclared, AreGivenSorted, IsSentence};
 ghost use Rattle.sort_check.specs.Texts as texts;
 ghost use Rattle.read_problems.specs.Answer.{ending_of};
-ghost use Rattle.read_problems.specs.Given.{given_theory};
 ghost use Rattle.read_problems.specs.Denoted.{IsProblemRefusal};
 ghost use Rattle.read_problems.specs.OtherFaults.{SaysProblemFault};
 ghost use Rattle.read_problems.specs.Sources as spec;
@@ -15,12 +14,12 @@ ghost use Rattle.read_problems.specs.Stop.{HasCause, IfRefused, IfStopped};
 ghost use Rattle.read_problems.specs.declared.refusals.TheConstants.{TOTAL_SIZE};
 
 use crate::copied::copy_signature;
-use crate::denotations::{Denotation, read_denotation};
 use crate::given::reversed;
+use crate::posed::{Posed, read_posed};
 use crate::stop::Halt;
 use fof_terms::{Form, Signature};
 use proof_check::Theory;
-use sort_check::{GivenEntry, Line, give_all};
+use sort_check::GivenEntry;
 use std::alloc::Global;
 use tptp_base::{List, Memory, Name, Role, Store};
 
@@ -42,7 +41,7 @@ pub struct Source {
 }
 
 /// What the problem in the file gives, with all that it includes. The first fault is refused.
-#[tactic(auto, using(crate::proofs::Sourced::denoted_source, crate::proofs::Sourced::few_names))]
+#[tactic(auto, using(crate::proofs::Sourced::posed_source, crate::proofs::Sourced::few_names))]
 pub fn read_source<S: Store>(
     alloc: Global,
     store: &mut S,
@@ -64,29 +63,28 @@ pub fn read_source<S: Store>(
     ensures more_absents { S.absents store.old ≤ S.absents store.new }
     ensures more_faults { S.faults store.old ≤ S.faults store.new }
 {
-    let denotation = read_denotation(alloc, store, root, file, true)?;
-    let source = source_of(alloc, denotation)?;
+    let posed = read_posed(alloc, store, root, file)?;
+    let source = source_of(alloc, posed)?;
     Ok(source)
 }
 
-// What the lines of a problem give. The signature is copied, and no formula.
-fn source_of(alloc: Global, denotation: Denotation) -> Result<Source, Memory>
-    requires sorted { AreSorted denotation.signature denotation.lines }
-    ensures theory { IfOk result (λ source. source.theory ≡ given_theory denotation.lines denotation.signature) }
-    ensures signature { IfOk result (λ source. source.signature ≡ denotation.signature) }
-    ensures names { IfOk result (λ source. source.names ≡ spec.given_names denotation.lines) }
-    ensures marks { IfOk result (λ source. source.marks ≡ spec.conjecture_marks denotation.lines) }
-    ensures conjecture { IfOk result (λ source. source.has_conjecture ≡ spec.has_conjecture denotation.lines) }
-    ensures read { IfOk result (λ source. source.read ≡ denotation.read) }
+/// What a problem gives that poses this. The signature is copied, and no formula.
+pub fn source_of(alloc: Global, posed: Posed) -> Result<Source, Memory>
+    requires { AreGivenSorted posed.signature posed.given }
+    ensures theory { IfOk result (λ source. source.theory ≡ spec.entry_theory posed.signature posed.given) }
+    ensures signature { IfOk result (λ source. source.signature ≡ posed.signature) }
+    ensures names { IfOk result (λ source. source.names ≡ spec.entry_names posed.given) }
+    ensures marks { IfOk result (λ source. source.marks ≡ spec.entry_marks posed.given) }
+    ensures conjecture { IfOk result (λ source. source.has_conjecture ≡ spec.have_conjecture posed.given) }
+    ensures read { IfOk result (λ source. source.read ≡ posed.read) }
 {
-    let Denotation {
-        lines,
+    let Posed {
         signature,
+        given,
         read,
-        ..
-    } = denotation;
-    let has_conjecture = has_conjecture(lines.as_slice());
-    let parts = parts_of(alloc, give_all(alloc, lines)?)?;
+    } = posed;
+    let has_conjecture = have_conjecture(given.as_slice());
+    let parts = parts_of(alloc, given)?;
     let Parts {
         names,
         marks,
@@ -150,11 +148,11 @@ fn is_of_conjecture(role: Role) -> bool
     matches!(role, Role::Conjecture | Role::NegatedConjecture)
 }
 
-// Whether one of the lines is a conjecture.
-fn has_conjecture(lines: &[Line]) -> bool
-    ensures { result ≡ spec.has_conjecture lines.now }
+// Whether one of the entries comes of a conjecture.
+fn have_conjecture(entries: &[GivenEntry]) -> bool
+    ensures { result ≡ spec.have_conjecture entries.now }
 {
-    lines.iter().any(|line| is_conjecture(line.role))
+    entries.iter().any(|entry| is_conjecture(entry.role))
 }
 
 // Whether the role is conjecture.

@@ -6,6 +6,5 @@ use Rattle.read_problems.proofs.sources.source_of.Goals as goal
 
 pub start-requires : goal.start-requires
 start-requires c =
-    let entries = c.in_ok-give_all.field-0 in
-    forms_sorted c.in_ok-copy_signature.field-0 entries c.in_ok-parts.parts.forms c.in_ok-parts.ensures.forms
-    (subst (λ (v : Vocabulary). AreGivenSorted v entries) (sym c.in_ok-copy_signature.ensures) (c.in_ok-give_all.ensures.sorted c.args.denotation.signature c.requires.sorted))
+    let given = c.args.posed.given in
+    forms_sorted c.in_ok-copy_signature.field-0 given c.in_ok-parts.parts.forms c.in_ok-parts.ensures.forms (subst (λ (v : Vocabulary). AreGivenSorted v given) (sym c.in_ok-copy_signature.ensures) c.requires)
