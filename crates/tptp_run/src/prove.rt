@@ -1,32 +1,34 @@
 // The command `prove`.
-ghost use Rattle.std.specs.Prelude.{◌≡◌, ◌⊎◌, ◌≤◌, ◌<◌, ◌^◌, IfSome, OnOk, length, true};
+ghost use Rattle.std.specs.Prelude.{◌≡◌, ◌⊎◌, ◌≤◌, ◌<◌, ◌^◌, IfSome, List as list, OnOk, length, true};
 ghost use Rattle.std.specs.List.{All};
 ghost use Rattle.std.specs.Option.{option_copied};
 ghost use Rattle.tptp_base.specs.Count.{Rose};
 ghost use Rattle.tptp_base.specs.declared.read.TheConstants.{FILE_SIZE as file_size};
-ghost use Rattle.sort_check.specs.Sorting.{AreDeclared, IsSentence};
+ghost use Rattle.sort_check.specs.Given.{given_entries};
+ghost use Rattle.sort_check.specs.Sorting.{AreDeclared, AreGivenSorted, IsSentence};
+ghost use Rattle.sort_check.specs.declared.line.Line.{Line as line};
+ghost use Rattle.problem_proofs.specs.declared.proved.Proved.TheVariants.{Proof};
 ghost use Rattle.verifier.specs.Claim.{default_word};
 ghost use Rattle.read_problems.specs.Answer.{ending_of};
 ghost use Rattle.read_problems.specs.Ending.{IsAnswer};
 ghost use Rattle.read_problems.specs.OtherFaults.{SaysProblemFault};
-ghost use Rattle.read_problems.specs.Posed.{IsPosed};
 ghost use Rattle.read_problems.specs.Stop.{HasCause, IfAnswer, IfStopped};
 ghost use Rattle.tptp_commands.specs.Presented as printed;
 ghost use Rattle.tptp_commands.specs.Refuted.{IsInBudget};
-ghost use Rattle.tptp_run.specs.Proving.{EndsProve, IsVerified, SaysProof, why_word as word_of};
-ghost use Rattle.tptp_run.specs.code.Proving.{EndsProof};
+ghost use Rattle.tptp_run.specs.Proving.{EndsProve, IsVerified, SaysProof, SaysProved, SaysSearched};
+ghost use Rattle.tptp_run.specs.Proving.{why_word as word_of};
 
 use crate::report::report_on;
 use derivation_check::Report;
 use problem_proofs::{ProveFault, Proved, Why};
-use read_problems::{Answer, Halt, Posed, Source, Stop, TOTAL_SIZE, read_posed, read_source};
+use read_problems::{Answer, Halt, Posed, Source, Stop, TOTAL_SIZE, read_posed, source_of};
 use std::alloc::Global;
 use tptp_base::{Item, Memory, NullSink, Store, Text};
 use tptp_commands::{not_proved, over_size, proof_text, say_over};
 
 /// Reads a problem with all that it includes, searches among at most so many clauses for a proof of it, and prints the
-/// proof as a derivation. The text is checked before it is printed, as `verify` checks it, from the problem as it is read
-/// again. Where not all of it is verified, the run gives up as it does without memory.
+/// proof as a derivation. The text is checked before it is printed, as `verify` checks it, from what was read. Where not
+/// all of it is verified, the run gives up as it does without memory.
 pub fn prove<S: Store>(
     alloc: Global,
     store: &mut S,
@@ -44,33 +46,25 @@ pub fn prove<S: Store>(
     ensures cause { IfStopped result (λ stop. HasCause stop (Rose (S.faults store.old) (S.faults store.new)) ⊥) }
 {
     match read_posed(alloc, store, root, problem) {
-        Ok(posed) => prove_posed(alloc, store, root, problem, &posed, limit),
+        Ok(posed) => prove_posed(alloc, problem, posed, limit),
         Err(halt) => Err(halt),
     }
 }
 
-// Searches for a proof of what the problem poses.
-fn prove_posed<S: Store>(
-    alloc: Global,
-    store: &mut S,
-    root: Option<&str>,
-    problem: &str,
-    posed: &Posed,
-    limit: u32,
-) -> Result<Answer, Halt>
-    requires { IsPosed (S.files store.old) (option_copied root) problem.now posed.now }
-    ensures ends { IfAnswer result (λ answer.
-        IfSome (S.files store.old) (λ files.
-        EndsProve files (option_copied root.entry) limit problem.now (ending_of answer))) }
-    ensures status { IfAnswer result (λ answer. IsAnswer answer.status) }
-    ensures absence { IfAnswer result (λ answer. answer.status ≡ 3
-        → Rose (S.absents store.old) (S.absents store.new)
-        ⊎ SaysProblemFault (S.files store.old) (option_copied root.entry) problem.now (ending_of answer)) }
-    ensures cause { IfStopped result (λ stop. HasCause stop (Rose (S.faults store.old) (S.faults store.new)) ⊥) }
+// Searches for a proof of what the problem poses. What is posed is what lines of the problem give.
+fn prove_posed(alloc: Global, problem: &str, posed: Posed, limit: u32) -> Result<Answer, Halt>
+    requires budget { posed.read ≤ TOTAL_SIZE }
+    requires few { length posed.given < 2 ^ 32 }
+    requires sorted { AreGivenSorted posed.signature posed.given }
+    requires declared { AreDeclared posed.signature }
+    ensures said { IfAnswer result (λ answer. (lines : list line) → posed.given ≡ given_entries lines
+        → SaysSearched problem.now limit posed.read lines posed.signature (ending_of answer)) }
+    ensures status { IfAnswer result (λ answer. (answer.status ≤ 1) ⊎ (answer.status ≡ 7)) }
+    ensures cause { IfStopped result (λ stop. HasCause stop ⊥ ⊥) }
 {
     let given = posed.given.as_slice();
     match problem_proofs::prove(alloc, &posed.signature, given, problem.as_bytes(), limit) {
-        Ok(Proved::Proof(items)) => say_proof(alloc, store, root, problem, items.as_slice(), limit),
+        Ok(Proved::Proof(items)) => say_proof(alloc, problem, posed, items.as_slice(), limit),
         Ok(Proved::Open(why)) => Ok(not_proved(alloc, why_word(why))?),
         Err(ProveFault::Limit(name)) => Ok(say_over(alloc, problem, name)?),
         Err(ProveFault::Memory) => Err(Halt::Stopped(Stop::Memory)),
@@ -89,31 +83,25 @@ fn why_word(why: Why) -> &'static str
     }
 }
 
-// What is said of the items of a derivation from the problem.
-fn say_proof<S: Store>(
+// What is said of the items of a derivation from what the problem poses.
+fn say_proof(
     alloc: Global,
-    store: &mut S,
-    root: Option<&str>,
     problem: &str,
+    posed: Posed,
     items: &[Item],
     limit: u32,
 ) -> Result<Answer, Halt>
-    ensures ends { IfAnswer result (λ answer.
-        IfSome (S.files store.old) (λ files.
-        EndsProof files (option_copied root.entry) limit problem.now items.now (ending_of answer))) }
-    ensures status { IfAnswer result (λ answer. IsAnswer answer.status) }
-    ensures absence { IfAnswer result (λ answer. answer.status ≡ 3
-        → Rose (S.absents store.old) (S.absents store.new)
-        ⊎ SaysProblemFault (S.files store.old) (option_copied root.entry) problem.now (ending_of answer)) }
-    ensures cause { IfStopped result (λ stop. HasCause stop (Rose (S.faults store.old) (S.faults store.new)) ⊥) }
+    requires budget { posed.read ≤ TOTAL_SIZE }
+    requires few { length posed.given < 2 ^ 32 }
+    requires sorted { AreGivenSorted posed.signature posed.given }
+    requires declared { AreDeclared posed.signature }
+    ensures said { IfAnswer result (λ answer. (lines : list line) → posed.given ≡ given_entries lines
+        → SaysProved problem.now limit posed.read lines posed.signature (Proof items.now) (ending_of answer)) }
+    ensures status { IfAnswer result (λ answer. (answer.status ≡ 0) ⊎ (answer.status ≡ 7)) }
+    ensures cause { IfStopped result (λ stop. HasCause stop ⊥ ⊥) }
 {
-    match read_source(alloc, store, root, problem) {
-        Ok(source) => {
-            let mut source = source;
-            say_items(alloc, &mut source, problem, items, limit)
-        }
-        Err(halt) => Err(halt),
-    }
+    let mut source = source_of(alloc, posed)?;
+    say_items(alloc, &mut source, problem, items, limit)
 }
 
 // The same from what the problem gives.

@@ -1,5 +1,5 @@
 // The whole of a run: words, files and sinks in, a status out.
-ghost use Rattle.std.specs.Prelude.{⊤, ◌≡◌, ◌⊎◌, ◌≤◌, ℕ, List, None, IfOk, IfErr, IfSome};
+ghost use Rattle.std.specs.Prelude.{◌≡◌, ◌⊎◌, ◌≤◌, ℕ, List, None, IfOk, IfErr, IfSome};
 ghost use Rattle.std.specs.declared.option.Option.{Option};
 ghost use Rattle.tptp_base.specs.Count.{Rose};
 ghost use Rattle.read_problems.specs.Answer.{ending_of};
