@@ -1,5 +1,5 @@
--- A clause without variables, the opposites of its literals, and falsehood by them.
-use Rattle.std.specs.Prelude.{ℕ, ◌≡◌, ◌⊎◌, ◌+◌, ◌<◌, ◌≤◌, Bool, true, false, not, List, [], ◌∷◌, ◌++◌, length, map, take, get_or, Option, Some, None, slice_get, slice_set, refl}
+-- A clause whose literals have no variables, their opposites, and what is needed for these.
+use Rattle.std.specs.Prelude.{ℕ, ◌≡◌, ◌⊎◌, ◌+◌, ◌<◌, ◌≤◌, Bool, true, not, List, [], ◌∷◌, ◌++◌, length, take, get_or, Option, Some, None, slice_get, slice_set, refl}
 use Rattle.std.specs.List.{All as Each, AllZip, AllByRecursion}
 use Rattle.std.proofs.Common.{ap, sym, subst, ◌∙◌, arith, inl, inr, zero, suc}
 use Rattle.std.proofs.lemmas.List.{take_more}
@@ -7,28 +7,19 @@ use Rattle.std.proofs.lemmas.List.Elements.{All-from_recursion}
 use Rattle.std.proofs.lemmas.Slice.Zip.{all_zipped_more}
 use Rattle.std.proofs.lemmas.Option.{slice_get_within, slice_get-get_or}
 use Rattle.fof_terms.specs.Sorts.{Sorted}
-use Rattle.fof_terms.specs.declared.form.Form.{Form, Or, Not}
+use Rattle.fof_terms.specs.Vocabulary.{Vocabulary}
+use Rattle.fof_terms.specs.declared.form.Form.{Form}
 use Rattle.fof_terms.specs.declared.term.Term.{Term}
-use Rattle.fof_terms.proofs.Scoped.{or_sorted, sorted_of_or}
 use Rattle.clause_form.specs.declared.clause.AtomOf.{AtomOf}
 use Rattle.clause_form.specs.declared.clause.AtomOf.TheVariants.{Pred}
 use Rattle.clause_form.specs.declared.clause.Clause.{Clause}
 use Rattle.clause_form.specs.declared.clause.Lit.{Lit}
-use Rattle.clause_form.specs.ClauseView.{closed_by, form_of_atom, form_of_lit}
 use Rattle.clause_form.specs.Covers.{AreComplementary, negated, turned, turned_atom}
-use Rattle.clause_form.specs.Norm.{signed}
 use Rattle.clause_form.specs.Paths.{is_plain}
 use Rattle.clause_proofs.specs.Bodies.{body_of}
-use Rattle.input_proofs.specs.Formulas.{formula_of, has_or}
-use Rattle.kernel.specs.Proves.{Proves}
-use Rattle.kernel.specs.Rules.{ProveEach}
-use Rattle.kernel.specs.Statements.{Statements}
-use Rattle.kernel.specs.declared.proof.Proof.{Proof, Line, Hyp, NotE}
-use Rattle.kernel.proofs.Building.{by_line, by_hyp, by_not_e}
 use Rattle.saturation.specs.declared.member.Member.{Member}
-use Rattle.search_proofs.specs.Needed.{AreNeeded, IsMarked}
-use Rattle.search_proofs.specs.code.Clashes.{clash_tree, clash_trees}
-use Rattle.search_proofs.specs.code.Contradictions.{AreNeededFor, Contradicts, IsAlone, IsByContradiction, IsListed, IsOpposite, IsPlainly, IsUnitOf, NamedBy, StandIn, Suffice}
+use Rattle.search_proofs.specs.Needed.{IsMarked}
+use Rattle.search_proofs.specs.code.Contradictions.{AreNeededFor, Contradicts, ContradictsIn, IsAlone, IsClosed, IsListed, IsOpposite, IsPlainly, NamedBy, Suffice}
 use Rattle.search_proofs.specs.code.Ended.{IsSound}
 use Rattle.search_proofs.specs.code.Marks.{IsSweptFrom, IsUnmarked, MarksAll, NameMarked}
 use Rattle.search_proofs.specs.declared.contradicting.Contradiction.{Contradiction}
@@ -36,10 +27,6 @@ use Rattle.search_proofs.proofs.Passing.{member_there}
 use Rattle.search_proofs.proofs.Sweeping.{set_count, set_here, set_keeps}
 
 -- Lists.
-none_long : {X : Type 0} (xs : List X) → length xs ≡ 0 → xs ≡ []
-none_long [] e = refl
-none_long (x ∷ xs) e = absurd (omega arith)
-
 pub one_long : {X : Type 0} (xs : List X) (x : X) → length xs ≡ 1 → x ≡ get_or xs 0 x → xs ≡ x ∷ []
 one_long [] x e is = absurd (omega arith)
 one_long (y ∷ []) x e is = ap (λ z. z ∷ []) (sym is)
@@ -72,18 +59,17 @@ pub listed_within : (members : List Member) (c : Contradiction) → Contradicts 
 listed_within members c h i at = listed_there members h.member.clause.lits c.opposites at.0 i h.opposed at.1
 
 -- What is found.
-pub found_opposite : (members : List Member) (at : ℕ) (m : Member) (l : Lit) → at < length members → m ≡ get_or members at m → IsUnitOf (negated l) m.clause → IsOpposite members l at
+pub found_opposite : (members : List Member) (at : ℕ) (m : Member) (l : Lit) → at < length members → m ≡ get_or members at m → IsAlone (negated l) m.clause.lits → IsOpposite members l at
 found_opposite members at m l lt is unit = record { member = m; there = member_there members at m lt is; unit = unit }
 
-pub opposites_more : (members : List Member) (lits : List Lit) (k : ℕ) (l : Lit) (places new : List ℕ) (i : ℕ) → k < length lits → l ≡ get_or lits k l → AllZip (IsOpposite members) (take k lits) places → IsOpposite members l i
-    → new ≡ places ++ i ∷ [] → AllZip (IsOpposite members) (take (k + 1) lits) new
-opposites_more members lits k l places new i lt is all own new_is =
-    let R : Lit → ℕ → Type 0 = IsOpposite members in
-    let longer : take k lits ++ l ∷ [] ≡ take (k + 1) lits = ap (λ (d : Lit). take k lits ++ d ∷ []) is ∙ sym (take_more lits k l lt) in
-    subst (AllZip R (take (k + 1) lits)) (sym new_is) (subst (λ (ls : List Lit). AllZip R ls (places ++ i ∷ [])) longer (all_zipped_more R (take k lits) places l i all own))
+-- relations of two lists, of which the one is walked
+pub zip_more : {X Y : Type 0} (R : X → Y → Type 0) (xs : List X) (k : ℕ) (x : X) (ys new : List Y) (y : Y) → k < length xs → x ≡ get_or xs k x → AllZip R (take k xs) ys → R x y → new ≡ ys ++ y ∷ [] → AllZip R (take (k + 1) xs) new
+zip_more R xs k x ys new y lt is all own new_is =
+    let longer = ap (λ d. take k xs ++ d ∷ []) is ∙ sym (take_more xs k x lt) in
+    subst (AllZip R (take (k + 1) xs)) (sym new_is) (subst (λ zs. AllZip R zs (ys ++ y ∷ [])) longer (all_zipped_more R (take k xs) ys x y all own))
 
-pub opposites_done : (members : List Member) (lits : List Lit) (k : ℕ) (places : List ℕ) → length lits ≤ k → AllZip (IsOpposite members) (take k lits) places → AllZip (IsOpposite members) lits places
-opposites_done members lits k places le all = subst (λ (ls : List Lit). AllZip (IsOpposite members) ls places) (whole_front lits k le) all
+pub zip_done : {X Y : Type 0} (R : X → Y → Type 0) (xs : List X) (k : ℕ) (ys : List Y) → length xs ≤ k → AllZip R (take k xs) ys → AllZip R xs ys
+zip_done R xs k ys le all = subst (λ zs. AllZip R zs ys) (whole_front xs k le) all
 
 pub denied_predicate : (k l : Lit) (q : ℕ) (ts : List Term) → k.atom ≡ Pred q ts → AreComplementary k l → IsPlainly (negated k) l
 denied_predicate k l q ts is (inl e) = record { same = sym e; plain = ap is_plain is }
@@ -94,8 +80,11 @@ denied_predicate k l q ts is (inr e) =
 pub alone_of : (lits : List Lit) (l k : Lit) → length lits ≡ 1 → l ≡ get_or lits 0 l → IsPlainly k l → IsAlone k lits
 alone_of lits l k one is h = record { same = one_long lits l one is ∙ ap (λ (x : Lit). x ∷ []) h.same; plain = h.plain }
 
-pub unit_of : (c : Clause) (sorts : List ℕ) (lits : List Lit) (k : Lit) → sorts ≡ c.sorts → lits ≡ c.lits → length sorts ≡ 0 → IsAlone k lits → IsUnitOf k c
-unit_of c sorts lits k sorts_are lits_are none h = record { ground = ap (λ (ss : List ℕ). length ss) (sym sorts_are) ∙ none; alone = subst (IsAlone k) lits_are h }
+pub closed_longer : (v : Vocabulary) (lits lent : List Lit) (body : Form) (most : ℕ) → lent ≡ lits → body ≡ body_of true lent → most < length lent → Sorted v [] body → IsClosed v lits × (most < length lits)
+closed_longer v lits lent body most lent_is body_is lt sorted = (
+  subst (Sorted v []) (body_is ∙ ap (body_of true) lent_is) sorted,
+  subst (λ (ls : List Lit). most < length ls) lent_is lt,
+)
 
 -- Marks of all that a contradiction needs.
 pub marked_none : (places : List ℕ) (marks : List Bool) → MarksAll (take 0 places) marks marks
@@ -143,110 +132,18 @@ needed_for members c lent none first all marks h lent_is u first_is m s = record
   mark i (inl e) = m.kept i (subst (IsMarked first) (sym e) own)
   mark i (inr at) = m.marked at.0 i (ap (λ (ps : List ℕ). slice_get ps at.0) lent_is ∙ at.1)
 
-pub enough_count : (members : List Member) (last : Member) (found : Option Contradiction) (marks : List Bool) → Suffice members last found marks → length marks ≡ length members
-enough_count members last None marks h = h.count
-enough_count members last (Some c) marks h = h.1.count
+module _ (v : Vocabulary) (members : List Member) (last : Member) where
+  pub enough_count : (found : Option Contradiction) (marks : List Bool) → Suffice v members last found marks → length marks ≡ length members
+  enough_count None marks h = h.count
+  enough_count (Some c) marks h = h.1.count
 
-pub enough_names : (members : List Member) (last : Member) (found : Option Contradiction) (marks : List Bool) → Suffice members last found marks → NameMarked members marks
-enough_names members last None marks h = h.of_each
-enough_names members last (Some c) marks h = h.1.of_each
+  pub enough_names : (found : Option Contradiction) (marks : List Bool) → Suffice v members last found marks → NameMarked members marks
+  enough_names None marks h = h.of_each
+  enough_names (Some c) marks h = h.1.of_each
 
-pub enough_sound : (members : List Member) (last : Member) (found : Option Contradiction) (marks : List Bool) → Suffice members last found marks → IsSound members found
-enough_sound members last None marks h = tt
-enough_sound members last (Some c) marks h = h.0
-
--- Falsehood by a contradiction.
-ground_form : (c : Clause) → length c.sorts ≡ 0 → formula_of c ≡ body_of (has_or c.lits) c.lits
-ground_form c e = ap (λ (sorts : List ℕ). closed_by sorts (body_of (has_or c.lits) c.lits)) (none_long c.sorts e)
-
-long_form : (lits : List Lit) → 1 < length lits → body_of (has_or lits) lits ≡ Or (map form_of_lit lits)
-long_form [] lt = absurd (omega arith)
-long_form (l ∷ []) lt = absurd (omega arith)
-long_form (l ∷ k ∷ lits) lt = refl
-
-unit_form : (k : Lit) (c : Clause) → IsUnitOf k c → formula_of c ≡ form_of_lit k
-unit_form k c unit =
-    ground_form c unit.ground ∙ (ap (λ (lits : List Lit). body_of (has_or lits) lits) unit.alone.same ∙ ap (λ (b : Bool). body_of (not b) (k ∷ [])) unit.alone.plain)
-
--- by a literal and its opposite
-clash_shows : (t : Statements) (h : List Form) (l : Lit) (n : ℕ) → Sorted t.vocabulary [] (form_of_lit l) → Sorted t.vocabulary [] (form_of_lit (negated l)) → slice_get t.formulas n ≡ Some (form_of_lit (negated l))
-    → Proves t [] (form_of_lit l ∷ h) (clash_tree l.positive n) (Or [])
-clash_shows t h l n own other at = by l.positive refl where
-  by : (b : Bool) → l.positive ≡ b → Proves t [] (form_of_lit l ∷ h) (clash_tree b n) (Or [])
-  by true e =
-      let a = form_of_atom l.atom in
-      let lit : form_of_lit l ≡ a = ap (λ (b : Bool). signed b a) e in
-      let opposite : form_of_lit (negated l) ≡ Not a = ap (λ (b : Bool). signed (not b) a) e in
-      by_not_e t [] (form_of_lit l ∷ h) (Line n) (Hyp 0) a
-      (by_line t [] (form_of_lit l ∷ h) n (Not a) (subst (Sorted t.vocabulary []) opposite other) (at ∙ ap Some opposite))
-      (by_hyp t [] (form_of_lit l ∷ h) 0 a (subst (Sorted t.vocabulary []) lit own) (ap Some lit))
-  by false e =
-      let a = form_of_atom l.atom in
-      let lit : form_of_lit l ≡ Not a = ap (λ (b : Bool). signed b a) e in
-      let opposite : form_of_lit (negated l) ≡ a = ap (λ (b : Bool). signed (not b) a) e in
-      by_not_e t [] (form_of_lit l ∷ h) (Hyp 0) (Line n) a
-      (by_hyp t [] (form_of_lit l ∷ h) 0 (Not a) (subst (Sorted t.vocabulary []) lit own) (ap Some lit))
-      (by_line t [] (form_of_lit l ∷ h) n a (subst (Sorted t.vocabulary []) opposite other) (at ∙ ap Some opposite))
-
--- the trees of the literals, one by one
-trees_step : (numbers : List ℕ) (lits : List Lit) (places : List ℕ) (k : ℕ) (l : Lit) → k < length lits → k < length places → l ≡ get_or lits k l
-    → clash_trees numbers (take (suc k) lits) (take (suc k) places) ≡ clash_trees numbers (take k lits) (take k places) ++ clash_tree l.positive (get_or numbers (get_or places k 0) 0) ∷ []
-trees_step numbers [] places k l lt within is = absurd (omega arith)
-trees_step numbers (m ∷ lits) [] k l lt within is = absurd (omega arith)
-trees_step numbers (m ∷ lits) (i ∷ places) zero l lt within is = ap (λ (x : Lit). clash_tree x.positive (get_or numbers i 0) ∷ []) (sym is)
-trees_step numbers (m ∷ lits) (i ∷ places) (suc k) l lt within is = ap (λ (ps : List Proof). clash_tree m.positive (get_or numbers i 0) ∷ ps) (trees_step numbers lits places k l (omega arith) (omega arith) is)
-
-pub trees_more : (numbers : List ℕ) (lits : List Lit) (places : List ℕ) (k : ℕ) (l : Lit) (arms new : List Proof) (p q : Proof) → k < length lits → length places ≡ length lits → l ≡ get_or lits k l → arms ≡ clash_trees numbers (take k lits) (take k places)
-    → p ≡ clash_tree l.positive (get_or numbers (get_or places k 0) 0) → q ≡ p → new ≡ arms ++ q ∷ [] → new ≡ clash_trees numbers (take (k + 1) lits) (take (k + 1) places)
-trees_more numbers lits places k l arms new p q lt many is so p_is q_is new_is =
-    let step = trees_step numbers lits places k l lt (omega (arith, many)) is in
-    let next : suc k ≡ k + 1 = omega arith in
-    new_is
-    ∙ (ap (λ (ps : List Proof). ps ++ q ∷ []) so
-    ∙ (ap (λ (x : Proof). clash_trees numbers (take k lits) (take k places) ++ x ∷ []) (q_is ∙ p_is)
-    ∙ (sym step ∙ ap (λ n. clash_trees numbers (take n lits) (take n places)) next)))
-
-pub trees_done : (numbers : List ℕ) (lits : List Lit) (places : List ℕ) (k : ℕ) (arms : List Proof) → length lits ≤ k → length places ≡ length lits → arms ≡ clash_trees numbers (take k lits) (take k places) → arms ≡ clash_trees numbers lits places
-trees_done numbers lits places k arms le many so =
-    so ∙ (ap (λ (ls : List Lit). clash_trees numbers ls (take k places)) (whole_front lits k le) ∙ ap (λ (ps : List ℕ). clash_trees numbers lits ps) (whole_front places k (omega (arith, many))))
-
-module _ (members : List Member) (numbers : List ℕ) (c : Contradiction) (size : length numbers ≡ length members) where
-  number_there : (i : ℕ) (m : Member) → slice_get members i ≡ Some m → slice_get numbers i ≡ Some (get_or numbers i 0)
-  number_there i m at = slice_get-get_or numbers i 0 (let lt = slice_get_within members i m at in omega (arith, size))
-
-  module _ (t : Statements) (stand : StandIn t members numbers c) where
-    arm_shows : (l : Lit) (i : ℕ) → Sorted t.vocabulary [] (form_of_lit l) → IsListed c.opposites i → IsOpposite members l i → Proves t [] (form_of_lit l ∷ []) (clash_tree l.positive (get_or numbers i 0)) (Or [])
-    arm_shows l i sorted listed own =
-        let m = own.member in
-        let form : formula_of m.clause ≡ form_of_lit (negated l) = unit_form (negated l) m.clause own.unit in
-        let stands = stand i m (get_or numbers i 0) (inr listed) own.there (number_there i m own.there) in
-        clash_shows t [] l (get_or numbers i 0) sorted (subst (Sorted t.vocabulary []) form stands.0) (stands.1 ∙ ap Some form)
-
-    arms_show : (lits : List Lit) (places : List ℕ) → AllZip (IsOpposite members) lits places → ((k i : ℕ) → slice_get places k ≡ Some i → IsListed c.opposites i) → AllByRecursion (Sorted t.vocabulary []) (map form_of_lit lits)
-        → ProveEach t [] [] (clash_trees numbers lits places) (map form_of_lit lits) (Or [])
-    arms_show [] [] all listed sorted = tt
-    arms_show [] (i ∷ places) all listed sorted = absurd all
-    arms_show (l ∷ lits) [] all listed sorted = absurd all
-    arms_show (l ∷ lits) (i ∷ places) all listed sorted = (arm_shows l i sorted.0 (listed 0 i refl) all.0, arms_show lits places all.1 (λ k j at. listed (suc k) j at) sorted.1)
-
-  pub contradiction_shows : (h : Contradicts members c) (clause : Clause) (lits : List Lit) (places : List ℕ) (n : ℕ) (arms : List Proof) (choice made : Proof) (g : Form) → ((m : Member) → slice_get members c.clause ≡ Some m → clause ≡ m.clause) → lits ≡ clause.lits → places ≡ c.opposites
-      → arms ≡ clash_trees numbers lits places → n ≡ get_or numbers c.clause 0 → choice ≡ Line n → g ≡ Or []
-      → ((t : Statements) (v : List ℕ) (hs as_ : List Form) → Sorted t.vocabulary v g → Proves t v hs choice (Or as_) → ProveEach t v hs arms as_ g → Proves t v hs made g) → IsByContradiction members numbers c made
-  contradiction_shows h clause lits places n arms choice made g clause_is lits_is places_are arms_are n_is choice_is g_is by t stand =
-      let m = h.member in
-      let own = stand c.clause m (get_or numbers c.clause 0) (inl refl) h.there (number_there c.clause m h.there) in
-      let form : formula_of m.clause ≡ Or (map form_of_lit m.clause.lits) = ground_form m.clause h.ground ∙ long_form m.clause.lits h.long in
-      let sorted : Sorted t.vocabulary [] (Or (map form_of_lit m.clause.lits)) = subst (Sorted t.vocabulary []) form own.0 in
-      let lits_same : lits ≡ m.clause.lits = lits_is ∙ ap (λ (x : Clause). x.lits) (clause_is m h.there) in
-      let arms_same : arms ≡ clash_trees numbers m.clause.lits c.opposites = arms_are ∙ (ap (λ (ls : List Lit). clash_trees numbers ls places) lits_same ∙ ap (λ (ps : List ℕ). clash_trees numbers m.clause.lits ps) places_are) in
-      let each = sorted_of_or t.vocabulary [] 2147483647 (map form_of_lit m.clause.lits) sorted in
-      let show = arms_show t stand m.clause.lits c.opposites h.opposed (λ k i at. (k, at)) each in
-      let chosen = by_line t [] [] (get_or numbers c.clause 0) (Or (map form_of_lit m.clause.lits)) sorted (own.1 ∙ ap Some form) in
-      let false_sorted : Sorted t.vocabulary [] (Or []) = or_sorted t.vocabulary [] 2147483647 sorted.scope_fits [] tt in
-      subst (λ (b : Form). Proves t [] [] made b) g_is
-      (by t [] [] (map form_of_lit m.clause.lits) (subst (Sorted t.vocabulary []) (sym g_is) false_sorted)
-      (subst (λ (q : Proof). Proves t [] [] q (Or (map form_of_lit m.clause.lits))) (sym (choice_is ∙ ap Line n_is)) chosen)
-      (subst (λ (b : Form). ProveEach t [] [] arms (map form_of_lit m.clause.lits) b) (sym g_is) (subst (λ (ps : List Proof). ProveEach t [] [] ps (map form_of_lit m.clause.lits) (Or [])) (sym arms_same) show)))
+  pub enough_sound : (found : Option Contradiction) (marks : List Bool) → Suffice v members last found marks → IsSound members found
+  enough_sound None marks h = tt
+  enough_sound (Some c) marks h = h.0.found
 
 -- what the calls need
 pub places_long : (members : List Member) (c : Contradiction) (h : Contradicts members c) (clause : Clause) (lits : List Lit) (places : List ℕ) → ((m : Member) → slice_get members c.clause ≡ Some m → clause ≡ m.clause) → lits ≡ clause.lits → places ≡ c.opposites → length places ≡ length lits
@@ -259,12 +156,18 @@ places_within members c h count places size are = subst (Each (λ i. i < count))
   some [] f = tt
   some (p ∷ ps) f = (f 0 p refl, some ps (λ k i at. f (suc k) i at))
 
-pub long_contradiction : (members : List Member) (at : ℕ) (m : Member) (lits : List Lit) (places : List ℕ) → at < length members → m ≡ get_or members at m → (length m.clause.sorts ≡ 0) × (2 < length m.clause.lits) → lits ≡ m.clause.lits → AllZip (IsOpposite members) lits places
-    → Contradicts members (record { clause = at; opposites = places })
-long_contradiction members at m lits places lt is long lits_is all = record {
-  member = m;
-  there = member_there members at m lt is;
-  ground = long.0;
-  long = let more = long.1 in omega arith;
-  opposed = subst (λ (ls : List Lit). AllZip (IsOpposite members) ls places) lits_is all;
+pub lits_opposed : (members : List Member) (c : Contradiction) (h : Contradicts members c) (clause : Clause) (lits : List Lit) (places : List ℕ) → ((m : Member) → slice_get members c.clause ≡ Some m → clause ≡ m.clause) → lits ≡ clause.lits → places ≡ c.opposites → AllZip (IsOpposite members) lits places
+lits_opposed members c h clause lits places clause_is lits_is places_are =
+    subst (λ (ls : List Lit). AllZip (IsOpposite members) ls places) (sym (lits_is ∙ ap (λ (x : Clause). x.lits) (clause_is h.member h.there))) (subst (AllZip (IsOpposite members) h.member.clause.lits) (sym places_are) h.opposed)
+
+pub long_contradiction : (v : Vocabulary) (members : List Member) (at : ℕ) (m : Member) (lits : List Lit) (places : List ℕ) → at < length members → m ≡ get_or members at m → IsClosed v m.clause.lits × (2 < length m.clause.lits) → lits ≡ m.clause.lits → AllZip (IsOpposite members) lits places
+    → ContradictsIn v members (record { clause = at; opposites = places })
+long_contradiction v members at m lits places lt is long lits_is all = record {
+  found = record {
+    member = m;
+    there = member_there members at m lt is;
+    long = let more = long.1 in omega arith;
+    opposed = subst (λ (ls : List Lit). AllZip (IsOpposite members) ls places) lits_is all;
+  };
+  closed = long.0;
 }

@@ -23,7 +23,7 @@ use Rattle.saturation.specs.declared.member.Origin.TheVariants.{Input}
 use Rattle.superpose.specs.Drafts.{IsClause}
 use Rattle.search_proofs.specs.Falsehood.{IsFalsehoodBy}
 use Rattle.search_proofs.specs.Needed.{Names, AreNeeded}
-use Rattle.search_proofs.specs.code.Contradictions.{AreNeededFor, IsByContradiction, StandIn, Suffice}
+use Rattle.search_proofs.specs.code.Contradictions.{AreNeededFor, ContradictsIn, IsByContradiction, StandIn, Suffice}
 use Rattle.search_proofs.specs.code.Ended.{IsEnded, IsEndedByLast}
 use Rattle.search_proofs.specs.code.Facts.{Setting, IsOf, StandsAt}
 use Rattle.search_proofs.specs.code.Marks.{NameMarked}
@@ -71,14 +71,19 @@ module _ (w : Vocabulary) (start : ℕ) (members : List Member) (needed : List B
         own_stands s all facts mid more own i k o e = stands_on s (IsMembers members) mid facts all k (formula_of last.clause) more (own i k o e)
 
 -- by a contradiction among the members
-module _ (w : Vocabulary) (start : ℕ) (members : List Member) (needed : List Bool) (last : Member) (of_inputs numbers : List ℕ) (c : Contradiction) (needs : AreNeededFor members c needed) where
+module _ (w : Vocabulary) (start : ℕ) (members : List Member) (needed : List Bool) (last : Member) (of_inputs numbers : List ℕ) (c : Contradiction) (found : ContradictsIn w members c) (needs : AreNeededFor members c needed) where
   named_stand : Each (λ m. IsClause w m.clause) members → (s : Setting) (all : List Form) → s.vocabulary ≡ w → MembersStand s all members needed numbers → (t : Statements) → IsOf s t → StandIn (with_denied t s.line all) members numbers c
-  named_stand fit s all voc stand t of i m n named at number =
+  named_stand fit s all voc stand t of i named m n at number =
       let form = formula_of m.clause in
       let own : IsClause w m.clause = member_of (λ (x : Member). IsClause w x.clause) members i m (recursion_from_All (λ (x : Member). IsClause w x.clause) members fit) at in
-      let ready : IsReady w form = formula_ready w m.clause own in (
-        subst (λ (v : Vocabulary). Sorted v [] form) (sym (of.vocabulary ∙ voc)) (raised w [] 1000000000 2147483647 form (omega arith) ready),
-        stands_in s all n form t of (stand i m n at (needs.named i named) number),
+      let ready : IsReady w form = formula_ready w m.clause own in
+      let there : IsClause t.vocabulary m.clause = subst (λ (v : Vocabulary). IsClause v m.clause) (sym (of.vocabulary ∙ voc)) own in (
+        there,
+        record {
+          sorted = subst (λ (v : Vocabulary). Sorted v [] form) (sym (of.vocabulary ∙ voc)) (raised w [] 1000000000 2147483647 form (omega arith) ready);
+          lits_sorted = there.fit.sorted;
+          there = stands_in s all n form t of (stand i m n at (needs.named i named) number);
+        },
       )
 
   pub leads_by : (first mid proofs : List Proof) (p : Proof) → Each (λ m. IsClause w m.clause) members → PassMembers w start members needed of_inputs numbers first mid → IsByContradiction members numbers c p → proofs ≡ mid ++ p ∷ []
@@ -88,7 +93,7 @@ module _ (w : Vocabulary) (start : ℕ) (members : List Member) (needed : List B
       let so_far = before s voc starts facts shown inputs in
       let all = so_far.0 in
       let begun : ShowMore s P mid facts all = shown_as s (IsMembers members) P (λ a m. inl m) mid facts all so_far.1 in
-      let shows = λ (t : Statements) (of : IsOf s t). falsehood (with_denied t s.line all) (named_stand fit s all voc so_far.2 t of) in
+      let shows = λ (t : Statements) (of : IsOf s t). falsehood (with_denied t s.line all) (subst (λ (v : Vocabulary). ContradictsIn v members c) (sym (of.vocabulary ∙ voc)) found) (named_stand fit s all voc so_far.2 t of) in
       let ended = one_of s P mid proofs all p (Or []) so_far.1.shown shows (inr (inr refl)) is in
       record {
         facts = all ++ Or [] ∷ [];
@@ -98,19 +103,19 @@ module _ (w : Vocabulary) (start : ℕ) (members : List Member) (needed : List B
       }
 
 -- by the one or by the other
-leads_either : (w : Vocabulary) (start : ℕ) (members : List Member) (needed : List Bool) (last : Member) (of_inputs numbers : List ℕ) (found : Option Contradiction) (first mid proofs : List Proof) → Suffice members last found needed → Each (λ m. IsClause w m.clause) members → IsClause w last.clause
+leads_either : (w : Vocabulary) (start : ℕ) (members : List Member) (needed : List Bool) (last : Member) (of_inputs numbers : List ℕ) (found : Option Contradiction) (first mid proofs : List Proof) → Suffice w members last found needed → Each (λ m. IsClause w m.clause) members → IsClause w last.clause
     → last.clause.lits ≡ [] → PassMembers w start members needed of_inputs numbers first mid → IsEnded w start members numbers of_inputs last found mid proofs → LeadOn w start members needed last of_inputs first proofs
 leads_either w start members needed last of_inputs numbers None first mid proofs needs each fit empty passes e = leads_on w start members needed last needs of_inputs numbers first mid e.mid proofs e.number e.proof fit empty passes e.passed e.falsehood e.is
-leads_either w start members needed last of_inputs numbers (Some c) first mid proofs needs each fit empty passes e = leads_by w start members needed last of_inputs numbers c needs.1 first mid proofs e.proof each passes e.falsehood e.is
+leads_either w start members needed last of_inputs numbers (Some c) first mid proofs needs each fit empty passes e = leads_by w start members needed last of_inputs numbers c needs.0 needs.1 first mid proofs e.proof each passes e.falsehood e.is
 
 -- as code has it
 pub leads_as : (w : Vocabulary) (start : ℕ) (members : List Member) (needed : List Bool) (last : Member) (found : Option Contradiction) (of_inputs lent numbers lent_numbers : List ℕ) (facts first mid proofs : List Proof) (inputs : List (Option Proof))
-    → Suffice members last found needed → Each (λ m. IsClause w m.clause) members → IsClause w last.clause → last.clause.lits ≡ [] → of_inputs ≡ numbers_from (start + length facts) inputs → first ≡ facts ++ there inputs → lent ≡ of_inputs → lent_numbers ≡ numbers
+    → Suffice w members last found needed → Each (λ m. IsClause w m.clause) members → IsClause w last.clause → last.clause.lits ≡ [] → of_inputs ≡ numbers_from (start + length facts) inputs → first ≡ facts ++ there inputs → lent ≡ of_inputs → lent_numbers ≡ numbers
     → (NameMarked members needed → PassMembers w start members needed lent numbers first mid) → IsEnded w start members lent_numbers lent last found mid proofs
     → LeadOn w start members needed last (numbers_from (start + length facts) inputs) (facts ++ there inputs) proofs
 leads_as w start members needed last found of_inputs lent numbers lent_numbers facts first mid proofs inputs needs each fit empty placed first_is lent_is numbers_is passes ended =
     let own : IsEnded w start members numbers lent last found mid proofs = subst (λ (ns : List ℕ). IsEnded w start members ns lent last found mid proofs) numbers_is ended in
-    let whole = leads_either w start members needed last lent numbers found first mid proofs needs each fit empty (passes (enough_names members last found needed needs)) own in
+    let whole = leads_either w start members needed last lent numbers found first mid proofs needs each fit empty (passes (enough_names w members last found needed needs)) own in
     subst (λ (ns : List ℕ). LeadOn w start members needed last ns (facts ++ there inputs) proofs) (lent_is ∙ placed) (subst (λ (ps : List Proof). LeadOn w start members needed last lent ps proofs) first_is whole)
 
 -- ended by the last member, as code has it

@@ -1,3 +1,5 @@
+pub mod Clashing
+pub mod ClauseBodies
 pub mod Contradicted
 pub mod DeclaredFacts
 pub mod Empty

@@ -19,7 +19,7 @@ use Rattle.clause_rules.proofs.ListPlaces.{before, get_lifted}
 use Rattle.clause_rules.specs.Steps.{IsReady}
 use Rattle.derive_kit.specs.Derived.{AreOfTheory, HasCited, numbers_of, with_formulas}
 use Rattle.kernel.specs.Statements.{Statements, IsRefuted}
-use Rattle.kernel.specs.Entries.{Admits, MayDeclare, declared}
+use Rattle.kernel.specs.Entries.{Admits, MayDeclare}
 use Rattle.kernel.specs.declared.entry.Decl.TheVariants.{Symbol as NewSymbol}
 use Rattle.kernel.specs.declared.entry.Entry.{Entry}
 use Rattle.kernel.specs.declared.entry.Entry.TheVariants.{Declare, Lemma}

@@ -1,4 +1,5 @@
 -- What private contracts alone say of the code. Nothing public rests on this.
+pub mod Bodies
 pub mod Clashes
 pub mod Contradictions
 pub mod Ended

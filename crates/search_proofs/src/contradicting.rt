@@ -1,15 +1,17 @@
-//! A clause without variables each of whose literals a unit of the refutation contradicts.
+//! A clause whose literals have no variables, and each of them a unit of the refutation contradicts.
 ghost use Rattle.std.specs.Prelude.{◌≡◌, ◌<◌, IsTrue, length, IfOk, IfSome};
 ghost use Rattle.std.specs.List.{AllZip};
 ghost use Rattle.clause_form.specs.Covers.{negated as opposite};
-ghost use Rattle.search_proofs.specs.code.Contradictions.{Contradicts, IsAlone, IsOpposite, IsPlainly, IsUnitOf};
+ghost use Rattle.search_proofs.specs.code.Contradictions.{ContradictsIn, IsAlone, IsClosed, IsOpposite, IsPlainly};
 
 use clause_form::{AtomOf, Clause, Lit, are_complementary};
+use clause_proofs::form_of_body;
+use fof_terms::{Signature, well_sorted};
 use saturation::Member;
 use std::alloc::Global;
 use tptp_base::{List, Memory};
 
-/// A member without variables, and for each of its literals a member that is the opposite of it alone.
+/// A member whose literals have no variables, and for each of them a member that is its opposite alone.
 #[derive(Drop)]
 pub(crate) struct Contradiction {
     /// The number of the member.
@@ -18,65 +20,80 @@ pub(crate) struct Contradiction {
     pub(crate) opposites: List<usize>,
 }
 
-/// The longest of the needed members without variables, if it has more than two literals and needed members contradict
-/// each of them. To resolve them away one by one takes as many proofs, and each of these names all literals that are
-/// left once for each of them.
+/// The longest of the needed members whose literals have no variables, if it has more than two literals and needed
+/// members contradict each of them. To resolve them away one by one takes as many proofs, and each of these names all
+/// literals that are left once for each of them. The members may have variables that occur in no literal, as what an
+/// inference gives often has.
 pub(crate) fn find_contradiction(
     alloc: Global,
+    signature: &Signature,
     members: &[Member],
     needed: &[bool],
 ) -> Result<Option<Contradiction>, Memory>
     requires { length needed.now ≡ length members.now }
-    ensures { IfOk result (λ found. IfSome found (Contradicts members.now)) }
+    ensures { IfOk result (λ found. IfSome found (ContradictsIn signature.now members.now)) }
 {
-    let clause = longest(members, needed);
+    let clause = longest(alloc, signature, members, needed)?;
     if clause >= members.len() {
         return Ok(None);
     }
-    contradiction_of(alloc, members, needed, clause)
+    contradiction_of(alloc, signature, members, needed, clause)
 }
 
-// The number of the needed member without variables that has the most literals, the first of several. That it is the
-// longest is not promised: a contradiction of any other member is one too.
-fn longest(members: &[Member], needed: &[bool]) -> usize
+// The number of the needed member without variables in its literals that has the most of them, but at least three; the
+// first of several. That it is the longest is not promised: a contradiction of any other member is one too.
+fn longest(
+    alloc: Global,
+    signature: &Signature,
+    members: &[Member],
+    needed: &[bool],
+) -> Result<usize, Memory>
     requires { length needed.now ≡ length members.now }
 {
     let mut best = 0;
-    let mut most = 0;
+    let mut most = 2;
     for at in 0..members.len() {
-        if needed[at] && is_longer(&members[at].clause, most) {
+        if needed[at] && is_longer(alloc, signature, &members[at].clause, most)? {
             best = at;
             most = members[at].clause.lits.len();
         }
     }
-    best
+    Ok(best)
 }
 
-// Whether the clause has no variables and more literals than so many.
-fn is_longer(clause: &Clause, most: usize) -> bool
-    ensures { IsTrue result → (length clause.now.sorts ≡ 0) × (most < length clause.now.lits) }
+// Whether the clause has more literals than so many, and no variables in them.
+fn is_longer(
+    alloc: Global,
+    signature: &Signature,
+    clause: &Clause,
+    most: usize,
+) -> Result<bool, Memory>
+    ensures { IfOk result (λ longer. IsTrue longer
+        → IsClosed signature.now clause.now.lits × (most < length clause.now.lits)) }
 {
-    let sorts = clause.sorts.as_slice();
-    if sorts.len() == 0 {
-        return most < clause.lits.len();
+    let lits = clause.lits.as_slice();
+    if lits.len() <= most {
+        return Ok(false);
     }
-    false
+    let body = form_of_body(alloc, true, lits)?;
+    Ok(well_sorted(signature, &[], &body))
 }
 
-// The contradiction of this member, if it has no variables, more than two literals, and needed members contradict each
-// of them.
+// The contradiction of this member, if it has more than two literals, no variables in them, and needed members
+// contradict each of them.
 fn contradiction_of(
     alloc: Global,
+    signature: &Signature,
     members: &[Member],
     needed: &[bool],
     clause: usize,
 ) -> Result<Option<Contradiction>, Memory>
     requires size { length needed.now ≡ length members.now }
     requires within { clause < length members.now }
-    ensures { IfOk result (λ found. IfSome found (Contradicts members.now)) }
+    ensures { IfOk result (λ found. IfSome found (ContradictsIn signature.now members.now)) }
 {
     let member = &members[clause];
-    if !is_longer(&member.clause, 2) {
+    if !is_longer(alloc, signature, &member.clause, 2)? {
         return Ok(None);
     }
     match opposites_of(alloc, members, needed, member.clause.lits.as_slice())? {
@@ -120,23 +137,12 @@ fn opposite_of(members: &[Member], needed: &[bool], lit: &Lit) -> Option<usize>
 
 // Whether the member is needed, and the literal's opposite alone.
 fn is_needed_opposite(is_needed: bool, member: &Member, lit: &Lit) -> bool
-    ensures { IsTrue result → IsUnitOf (opposite lit.now) member.now.clause }
+    ensures { IsTrue result → IsAlone (opposite lit.now) member.now.clause.lits }
 {
     if !is_needed {
         return false;
     }
-    is_opposite(&member.clause, lit)
-}
-
-// Whether the clause has no variables and is the literal's opposite alone.
-fn is_opposite(clause: &Clause, lit: &Lit) -> bool
-    ensures { IsTrue result → IsUnitOf (opposite lit.now) clause.now }
-{
-    let sorts = clause.sorts.as_slice();
-    if sorts.len() == 0 {
-        return is_alone(clause.lits.as_slice(), lit);
-    }
-    false
+    is_alone(member.clause.lits.as_slice(), lit)
 }
 
 // Whether the literal's opposite stands alone.

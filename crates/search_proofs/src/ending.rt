@@ -5,12 +5,13 @@ ghost use Rattle.clause_form.specs.declared.clause.Clause.{Clause as Disjunction
 ghost use Rattle.saturation.specs.Members.{clauses_of};
 ghost use Rattle.saturation.specs.Origins.{AreMade, IsMade};
 ghost use Rattle.saturation.specs.declared.member.Member.{Member as Listed};
-ghost use Rattle.search_proofs.specs.code.Contradictions.{AreNeededFor, Contradicts, IsListed, Suffice};
+ghost use Rattle.search_proofs.specs.code.Contradictions.{AreNeededFor, Contradicts, ContradictsIn, IsListed, Suffice};
 ghost use Rattle.search_proofs.specs.code.Marks.{MarksAll};
 ghost use Rattle.search_proofs.specs.code.Naming.{NameEarlier};
 
 use crate::contradicting::{Contradiction, find_contradiction};
 use crate::needing::{needed_members, sweep, unmarked};
+use fof_terms::Signature;
 use saturation::Member;
 use std::alloc::Global;
 use tptp_base::{List, Memory};
@@ -25,13 +26,19 @@ pub(crate) struct Ending {
 
 /// How the refutation that ends with the further member is to end. Of the members that this one needs, a contradiction
 /// among them needs no others.
-pub(crate) fn ending_of(alloc: Global, members: &[Member], last: &Member) -> Result<Ending, Memory>
+pub(crate) fn ending_of(
+    alloc: Global,
+    signature: &Signature,
+    members: &[Member],
+    last: &Member,
+) -> Result<Ending, Memory>
     requires { (v : Vocabulary) × (inputs : Clauses Disjunction) × AreMade v inputs members.now
         × IsMade v inputs (clauses_of members.now) last.now }
-    ensures { IfOk result (λ ending. Suffice members.now last.now ending.found ending.needed) }
+    ensures { IfOk result (λ ending. Suffice signature.now members.now last.now ending.found
+        ending.needed) }
 {
     let needed = needed_members(alloc, members, last)?;
-    match find_contradiction(alloc, members, needed.as_slice())? {
+    match find_contradiction(alloc, signature, members, needed.as_slice())? {
         Some(contradiction) => ended_by(alloc, members, contradiction),
         None => {
             let found = None;
@@ -48,7 +55,8 @@ fn ended_by(
 ) -> Result<Ending, Memory>
     requires earlier { NameEarlier members.now }
     requires contradicts { Contradicts members.now contradiction }
-    ensures { IfOk result (λ ending. (last : Listed) → Suffice members.now last ending.found ending.needed) }
+    ensures { IfOk result (λ ending. (v : Vocabulary) (last : Listed) → ContradictsIn v members.now contradiction
+        → Suffice v members.now last ending.found ending.needed) }
 {
     let needed = needed_for(alloc, members, &contradiction)?;
     let found = Some(contradiction);

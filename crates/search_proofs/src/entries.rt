@@ -56,7 +56,7 @@ pub fn refutation_entries(
     ensures { IfOk result (λ entries. IsSearchedFrom theory.now parents.now entries line.now) }
 {
     signature.is_vocabulary();
-    let ending = ending_of(alloc, members, empty)?;
+    let ending = ending_of(alloc, signature, members, empty)?;
     let needed = ending.needed.as_slice();
     let wanted = wanted_inputs(alloc, inputs.len(), members, needed, empty)?;
     let opened = open_inputs(alloc, theory, parents, line, wanted.as_slice())?;

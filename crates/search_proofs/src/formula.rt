@@ -20,8 +20,8 @@ pub fn formula_of(alloc: Global, clause: &Clause) -> Result<Form, Memory>
     closed_by(alloc, clause.sorts.as_slice(), body)
 }
 
-// Whether the literals stand in a disjunction.
-fn has_or(lits: &[Lit]) -> bool
+/// Whether the literals stand in a disjunction.
+pub(crate) fn has_or(lits: &[Lit]) -> bool
     ensures { result ≡ keeps_or lits.now }
 {
     if lits.len() == 1 {

@@ -1,6 +1,7 @@
 //! From a refutation that a search hands out to entries.
 #![tactic(auto)]
 
+mod bodies;
 mod contradicting;
 mod declaring;
 mod ending;

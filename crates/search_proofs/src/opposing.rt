@@ -1,13 +1,13 @@
-//! Falsehood by a clause without variables and the opposites of its literals.
+//! Falsehood by a clause whose literals have no variables, and their opposites.
 ghost use Rattle.std.specs.Prelude.{◌≡◌, ◌<◌, Some, length, slice_get, get_or, IfOk};
-ghost use Rattle.std.specs.List.{All as Each};
+ghost use Rattle.std.specs.List.{All as Each, AllZip};
 ghost use Rattle.saturation.specs.declared.member.Member.{Member as Listed};
-ghost use Rattle.search_proofs.specs.code.Clashes.{clash_tree, clash_trees};
-ghost use Rattle.search_proofs.specs.code.Contradictions.{Contradicts, IsByContradiction};
+ghost use Rattle.search_proofs.specs.code.Clashes.{AreArms, IsArm, clash_tree};
+ghost use Rattle.search_proofs.specs.code.Contradictions.{Contradicts, IsByContradiction, IsOpposite};
 
+use crate::bodies::{body_by, without_variables};
 use crate::contradicting::Contradiction;
 use clause_form::{Clause, Lit};
-use clause_proofs::line;
 use derive_kit::{Part, cases, hyp, not_e};
 use fof_terms::Form;
 use kernel::Proof;
@@ -30,9 +30,10 @@ pub(crate) fn by_contradiction(
     let clause = clause_at(members, found.clause);
     let lits = clause.lits.as_slice();
     let places = found.opposites.as_slice();
-    let arms = clashes(alloc, lits, numbers, places)?;
-    let choice = line(alloc, number_at(numbers, found.clause))?;
-    cases(alloc, choice, arms, Form::Or(List::new(alloc)))
+    let arms = clashes(alloc, members, numbers, lits, places)?;
+    let choice = body_by(alloc, number_at(numbers, found.clause), clause)?;
+    let falsehood = cases(alloc, choice, arms, Form::Or(List::new(alloc)))?;
+    without_variables(alloc, clause.sorts.as_slice(), falsehood)
 }
 
 // The clause of the member.
@@ -51,34 +52,46 @@ fn number_at(numbers: &[u64], at: usize) -> u64
     numbers[at]
 }
 
-// Falsehood for each of the literals as hypothesis 0, by its opposite. The places have, for each literal, where the
-// number of that stands.
+// Falsehood for each of the literals as hypothesis 0, by its opposite, which is the member at the literal's place.
 fn clashes(
     alloc: Global,
-    lits: &[Lit],
+    members: &[Member],
     numbers: &[u64],
+    lits: &[Lit],
     places: &[usize],
 ) -> Result<List<Proof>, Memory>
+    requires opposed { AllZip (IsOpposite members.now) lits.now places.now }
     requires many { length places.now ≡ length lits.now }
     requires within { Each (λ i. i < length numbers.now) places.now }
-    ensures { IfOk result (λ arms. arms ≡ clash_trees numbers.now lits.now places.now) }
+    requires size { length numbers.now ≡ length members.now }
+    ensures { IfOk result (AreArms members.now numbers.now places.now lits.now) }
 {
     let mut arms = List::new(alloc);
     for k in 0..lits.len() {
-        let arm = clash(alloc, &lits[k], numbers[places[k]])?;
+        let place = places[k];
+        let opposite = clause_at(members, place);
+        let arm = clash(alloc, &lits[k], number_at(numbers, place), opposite)?;
         arms.push(arm.into_inner())?;
     }
     Ok(arms)
 }
 
-// Falsehood, by the literal as hypothesis 0 and its opposite, which is the formula of this number.
-fn clash(alloc: Global, lit: &Lit, opposite: u64) -> Result<Part, Memory>
-    ensures { IfOk result (λ part. part ≡ clash_tree lit.now.positive opposite) }
+// Falsehood, by the literal as hypothesis 0 and its opposite, which the clause of this number is alone.
+fn clash(alloc: Global, lit: &Lit, number: u64, opposite: &Clause) -> Result<Part, Memory>
+    ensures { IfOk result (IsArm number opposite.now lit.now) }
+{
+    let body = body_by(alloc, number, opposite)?;
+    let falsehood = denied(alloc, lit.positive, body)?;
+    without_variables(alloc, opposite.sorts.as_slice(), falsehood)
+}
+
+// Falsehood, by the literal of this sign as hypothesis 0 and a part that shows its opposite.
+fn denied(alloc: Global, positive: bool, opposite: Part) -> Result<Part, Memory>
+    ensures { IfOk result (λ part. part ≡ clash_tree positive opposite) }
 {
     let own = hyp(alloc, 0)?;
-    let other = line(alloc, opposite)?;
-    if lit.positive {
-        return not_e(alloc, other, own);
+    if positive {
+        return not_e(alloc, opposite, own);
     }
-    not_e(alloc, own, other)
+    not_e(alloc, own, opposite)
 }

@@ -36,7 +36,7 @@ pub(crate) fn proofs_of_refutation(
 ) -> Result<List<Proof>, Memory>
     requires clauses { Each (λ m. IsClause signature.now m.clause) members.now }
     requires clause { IsClause signature.now empty.now.clause }
-    requires needed { Suffice members.now empty.now found.now needed.now }
+    requires needed { Suffice signature.now members.now empty.now found.now needed.now }
     requires made { (clauses : Clauses Disjunction) × (length clauses ≡ length inputs)
         × AreMade signature.now clauses members.now
         × IsMade signature.now clauses (clauses_of members.now) empty.now }

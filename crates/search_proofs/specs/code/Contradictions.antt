@@ -1,18 +1,20 @@
--- A clause without variables and the opposites of its literals, and what is shown by them.
-use Rattle.std.specs.Prelude.{ℕ, ◌≡◌, ◌⊎◌, ◌<◌, true, Bool, List, [], ◌∷◌, length, Option, Some, None, slice_get}
+-- A clause whose literals have no variables, their opposites, and what is shown by them.
+use Rattle.std.specs.Prelude.{ℕ, ◌≡◌, ◌⊎◌, ◌<◌, true, Bool, List, [], ◌∷◌, length, map, Option, Some, None, slice_get}
 use Rattle.std.specs.List.{AllZip}
 use Rattle.fof_terms.specs.Sorts.{Sorted}
+use Rattle.fof_terms.specs.Vocabulary.{Vocabulary}
 use Rattle.fof_terms.specs.declared.form.Form.{Or}
+use Rattle.clause_form.specs.ClauseView.{form_of_lit}
 use Rattle.clause_form.specs.Covers.{negated}
 use Rattle.clause_form.specs.Paths.{is_plain}
-use Rattle.clause_form.specs.declared.clause.Clause.{Clause}
 use Rattle.clause_form.specs.declared.clause.Lit.{Lit}
-use Rattle.input_proofs.specs.Formulas.{formula_of}
 use Rattle.kernel.specs.Proves.{Proves}
 use Rattle.kernel.specs.Statements.{Statements}
 use Rattle.kernel.specs.declared.proof.Proof.{Proof}
 use Rattle.saturation.specs.declared.member.Member.{Member}
+use Rattle.superpose.specs.Drafts.{IsClause}
 use Rattle.search_proofs.specs.Needed.{AreNeeded, IsMarked}
+use Rattle.search_proofs.specs.code.Bodies.{StandsAs}
 use Rattle.search_proofs.specs.code.Marks.{NameMarked}
 use Rattle.search_proofs.specs.declared.contradicting.Contradiction.{Contradiction}
 
@@ -26,24 +28,27 @@ pub record IsAlone (k : Lit) (lits : List Lit) : Type 0 where
   pub same : lits ≡ k ∷ []
   pub plain : is_plain k.atom ≡ true
 
--- the clause has no variables, and this literal alone
-pub record IsUnitOf (k : Lit) (c : Clause) : Type 0 where
-  pub ground : length c.sorts ≡ 0
-  pub alone : IsAlone k c.lits
+-- the literals have no variables
+abbrev pub IsClosed : Vocabulary → List Lit → Type 0
+IsClosed v lits = Sorted v [] (Or (map form_of_lit lits))
 
 -- the member of this number is the literal's opposite alone
 pub record IsOpposite (members : List Member) (l : Lit) (i : ℕ) : Type 0 where
   pub member : Member
   pub there : slice_get members i ≡ Some member
-  pub unit : IsUnitOf (negated l) member.clause
+  pub unit : IsAlone (negated l) member.clause.lits
 
 -- the clause has more than one literal, and each has its opposite
 pub record Contradicts (members : List Member) (c : Contradiction) : Type 0 where
   pub member : Member
   pub there : slice_get members c.clause ≡ Some member
-  pub ground : length member.clause.sorts ≡ 0
   pub long : 1 < length member.clause.lits
   pub opposed : AllZip (IsOpposite members) member.clause.lits c.opposites
+
+-- and its literals have no variables
+pub record ContradictsIn (v : Vocabulary) (members : List Member) (c : Contradiction) : Type 0 where
+  pub found : Contradicts members c
+  pub closed : IsClosed v found.member.clause.lits
 
 -- a number of the list
 abbrev pub IsListed : List ℕ → ℕ → Type 0
@@ -60,16 +65,21 @@ pub record AreNeededFor (members : List Member) (c : Contradiction) (marks : Lis
   pub of_each : NameMarked members marks
 
 -- which members are needed for falsehood: by a contradiction, or else by the last member
-abbrev pub Suffice : List Member → Member → Option Contradiction → List Bool → Type 0
-Suffice members last None marks = AreNeeded members last marks
-Suffice members last (Some c) marks = Contradicts members c × AreNeededFor members c marks
+abbrev pub Suffice : Vocabulary → List Member → Member → Option Contradiction → List Bool → Type 0
+Suffice v members last None marks = AreNeeded members last marks
+Suffice v members last (Some c) marks = ContradictsIn v members c × AreNeededFor members c marks
 
--- the members that the contradiction names stand in the theory at their numbers
+-- the member of this number is a clause over the theory's symbols, and stands in the theory at its own number
+abbrev pub Stands : Statements → List Member → List ℕ → ℕ → Type 0
+Stands t members numbers i =
+    (m : Member) (n : ℕ) → slice_get members i ≡ Some m → slice_get numbers i ≡ Some n
+    → IsClause t.vocabulary m.clause × StandsAs t n m.clause
+
+-- so do those that the contradiction names
 abbrev pub StandIn : Statements → List Member → List ℕ → Contradiction → Type 0
-StandIn t members numbers c =
-    (i : ℕ) (m : Member) (n : ℕ) → NamedBy c i → slice_get members i ≡ Some m → slice_get numbers i ≡ Some n
-    → Sorted t.vocabulary [] (formula_of m.clause) × (slice_get t.formulas n ≡ Some (formula_of m.clause))
+StandIn t members numbers c = (i : ℕ) → NamedBy c i → Stands t members numbers i
 
--- the proof shows falsehood wherever they do
+-- the proof shows falsehood wherever they do, and the literals have no variables
 abbrev pub IsByContradiction : List Member → List ℕ → Contradiction → Proof → Type 0
-IsByContradiction members numbers c p = (t : Statements) → StandIn t members numbers c → Proves t [] [] p (Or [])
+IsByContradiction members numbers c p =
+    (t : Statements) → ContradictsIn t.vocabulary members c → StandIn t members numbers c → Proves t [] [] p (Or [])

@@ -14,7 +14,8 @@ IsSound members None = Unit {0}
 IsSound members (Some c) = Contradicts members c
 
 -- the last member was passed, and falsehood was added, which the proof shows by it
-pub record IsEndedByLast (w : Vocabulary) (start : ℕ) (members : List Member) (numbers of_inputs : List ℕ) (last : Member) (old new : List Proof) : Type 0 where
+pub record IsEndedByLast (w : Vocabulary) (start : ℕ) (members : List Member) (numbers of_inputs : List ℕ) (last : Member)
+    (old new : List Proof) : Type 0 where
   pub mid : List Proof
   pub number : ℕ
   pub proof : Proof
@@ -23,12 +24,15 @@ pub record IsEndedByLast (w : Vocabulary) (start : ℕ) (members : List Member) 
   pub is : new ≡ mid ++ proof ∷ []
 
 -- falsehood was added, which the proof shows by the contradiction
-pub record IsEndedBy (members : List Member) (numbers : List ℕ) (c : Contradiction) (old new : List Proof) : Type 0 where
+pub record IsEndedBy (members : List Member) (numbers : List ℕ) (c : Contradiction) (old new : List Proof)
+    : Type 0 where
   pub proof : Proof
   pub falsehood : IsByContradiction members numbers c proof
   pub is : new ≡ old ++ proof ∷ []
 
 -- falsehood was added, by the contradiction, or else by the last member
-abbrev pub IsEnded : Vocabulary → ℕ → List Member → List ℕ → List ℕ → Member → Option Contradiction → List Proof → List Proof → Type 0
-IsEnded w start members numbers of_inputs last None old new = IsEndedByLast w start members numbers of_inputs last old new
+abbrev pub IsEnded : Vocabulary → ℕ → List Member → List ℕ → List ℕ → Member → Option Contradiction → List Proof
+    → List Proof → Type 0
+IsEnded w start members numbers of_inputs last None old new =
+    IsEndedByLast w start members numbers of_inputs last old new
 IsEnded w start members numbers of_inputs last (Some c) old new = IsEndedBy members numbers c old new

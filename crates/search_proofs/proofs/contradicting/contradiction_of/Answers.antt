@@ -7,5 +7,5 @@ use Rattle.search_proofs.proofs.contradicting.contradiction_of.Goals as goal
 
 pub returns-in-Some : goal.returns-in-Some
 returns-in-Some c =
-    long_contradiction c.args.members.now c.args.clause c.index-members-clause.result c.as_slice.result.now c.in-Some.opposites c.requires.within c.index-members-clause.is (c.is_longer.ensures c.if-not-is_longer.false) c.as_slice.ensures
+    long_contradiction c.args.signature.now c.args.members.now c.args.clause c.index-members-clause.result c.as_slice.result.now c.in-Some.opposites c.requires.within c.index-members-clause.is (c.in_ok-is_longer.ensures c.if-not-branch.false) c.as_slice.ensures
     (subst (λ found. IfSome found (λ places. AllZip (IsOpposite c.args.members.now) c.as_slice.result.now places)) c.in-Some.is c.in_ok-opposites.ensures)

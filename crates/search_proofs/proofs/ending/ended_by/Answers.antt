@@ -1,4 +1,4 @@
 use Rattle.search_proofs.proofs.ending.ended_by.Goals as goal
 
 pub returns : goal.returns
-returns c = λ last. (c.requires.contradicts, c.in_ok-needed.ensures)
+returns c = λ v last found. (found, c.in_ok-needed.ensures)

@@ -1,7 +1,7 @@
 use Rattle.std.proofs.Common.{ap, ◌∙◌, subst, length}
 use Rattle.std.specs.Prelude.{Bool, List, IfSome}
 use Rattle.derive_kit.proofs.Built.{ok_map}
-use Rattle.search_proofs.specs.code.Contradictions.{Contradicts}
+use Rattle.search_proofs.specs.code.Contradictions.{ContradictsIn}
 use Rattle.search_proofs.proofs.Sweeping.{each_names}
 use Rattle.search_proofs.proofs.ending.ending_of.Goals as goal
 
@@ -12,7 +12,9 @@ pub ended_by-requires-clause-earlier : goal.ended_by-requires-clause-earlier
 ended_by-requires-clause-earlier c = each_names c.requires.0 c.requires.1 c.args.members.now c.requires.2
 
 pub ended_by-requires-clause-contradicts : goal.ended_by-requires-clause-contradicts
-ended_by-requires-clause-contradicts c = subst (λ found. IfSome found (Contradicts c.args.members.now)) c.in-Some.is c.in_ok-contradiction.ensures
+ended_by-requires-clause-contradicts c = (subst (λ found. IfSome found (ContradictsIn c.args.signature.now c.args.members.now)) c.in-Some.is c.in_ok-contradiction.ensures).found
 
 pub returns-in-Some : goal.returns-in-Some
-returns-in-Some c = ok_map c.ended_by.result (λ ending enough. enough c.args.last.now) c.ended_by.ensures
+returns-in-Some c =
+    let found = subst (λ found. IfSome found (ContradictsIn c.args.signature.now c.args.members.now)) c.in-Some.is c.in_ok-contradiction.ensures in
+    ok_map c.ended_by.result (λ ending enough. enough c.args.signature.now c.args.last.now found) c.ended_by.ensures

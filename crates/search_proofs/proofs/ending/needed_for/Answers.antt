@@ -1,5 +1,5 @@
-use Rattle.std.proofs.Common.{ap, sym, subst, ◌∙◌, ◌<◌, List, ℕ, length, arith}
-use Rattle.std.specs.Prelude.{Bool, Some, slice_get}
+use Rattle.std.proofs.Common.{ap, sym, ◌∙◌, List, ℕ, length, arith}
+use Rattle.std.specs.Prelude.{Bool, slice_get}
 use Rattle.search_proofs.proofs.Contradicted.{clause_within, listed_within, needed_for}
 use Rattle.search_proofs.proofs.Sweeping.{set_count}
 use Rattle.search_proofs.proofs.ending.needed_for.Goals as goal

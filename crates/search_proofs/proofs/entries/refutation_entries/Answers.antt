@@ -24,13 +24,13 @@ pub wanted_inputs-requires-clause-each : goal.wanted_inputs-requires-clause-each
 wanted_inputs-requires-clause-each c = each_input c.args.signature.now c.args.inputs.now c.args.members.now c.requires.members
 
 pub wanted_inputs-requires-clause-needed : goal.wanted_inputs-requires-clause-needed
-wanted_inputs-requires-clause-needed c = ap (λ (bs : List Bool). length bs) c.as_slice-needed.ensures ∙ enough_count c.args.members.now c.args.empty.now c.in_ok-ending.ending.found c.in_ok-ending.ending.needed c.in_ok-ending.ensures
+wanted_inputs-requires-clause-needed c = ap (λ (bs : List Bool). length bs) c.as_slice-needed.ensures ∙ enough_count c.args.signature.now c.args.members.now c.args.empty.now c.in_ok-ending.ending.found c.in_ok-ending.ending.needed c.in_ok-ending.ensures
 
 pub open_inputs-requires-clause-wanted : goal.open_inputs-requires-clause-wanted
 open_inputs-requires-clause-wanted c = ap (λ (bs : List Bool). length bs) c.as_slice.ensures ∙ (c.in_ok-wanted.ensures.size ∙ ap (λ (cs : List Clause). length cs) c.requires.inputs)
 
 pub proofs_of_refutation-requires-clause-needed : goal.proofs_of_refutation-requires-clause-needed
-proofs_of_refutation-requires-clause-needed c = subst (Suffice c.args.members.now c.args.empty.now c.in_ok-ending.ending.found) (sym c.as_slice-needed.ensures) c.in_ok-ending.ensures
+proofs_of_refutation-requires-clause-needed c = subst (Suffice c.args.signature.now c.args.members.now c.args.empty.now c.in_ok-ending.ending.found) (sym c.as_slice-needed.ensures) c.in_ok-ending.ensures
 
 pub proofs_of_refutation-requires-clause-made : goal.proofs_of_refutation-requires-clause-made
 proofs_of_refutation-requires-clause-made c =

@@ -10,10 +10,10 @@ pub push_falsehood-requires-clause-made : goal.push_falsehood-requires-clause-ma
 push_falsehood-requires-clause-made c = last_made c.args.signature.now c.args.members.now c.args.empty.now (c.args.start + length c.args.facts) c.args.inputs c.in_ok-of_inputs.of_inputs c.as_slice-of_inputs.result.now c.requires.made c.in_ok-of_inputs.ensures.numbers c.as_slice-of_inputs.ensures
 
 pub push_members-requires-clause-needed : goal.push_members-requires-clause-needed
-push_members-requires-clause-needed c = enough_count c.args.members.now c.args.empty.now c.args.found.now c.args.needed.now c.requires.needed
+push_members-requires-clause-needed c = enough_count c.args.signature.now c.args.members.now c.args.empty.now c.args.found.now c.args.needed.now c.requires.needed
 
 pub push_falsehood-requires-clause-sound : goal.push_falsehood-requires-clause-sound
-push_falsehood-requires-clause-sound c = enough_sound c.args.members.now c.args.empty.now c.args.found.now c.args.needed.now c.requires.needed
+push_falsehood-requires-clause-sound c = enough_sound c.args.signature.now c.args.members.now c.args.empty.now c.args.found.now c.args.needed.now c.requires.needed
 
 pub push_falsehood-requires-clause-size : goal.push_falsehood-requires-clause-size
 push_falsehood-requires-clause-size c = ap (λ (ns : List ℕ). length ns) c.as_slice.ensures ∙ c.in_ok-numbers.ensures.size

@@ -1,6 +1,6 @@
 use Rattle.std.proofs.Common.{refl}
-use Rattle.search_proofs.proofs.Empty.{no_variables, one_variable_more}
-use Rattle.search_proofs.proofs.falsehood.variables.Goals as goal
+use Rattle.search_proofs.proofs.ClauseBodies.{no_variables, one_variable_more}
+use Rattle.search_proofs.proofs.bodies.variables.Goals as goal
 
 pub loop-i-init : goal.loop-i-init
 loop-i-init c = no_variables c.new-images.result c.new-images.ensures

@@ -1,5 +1,5 @@
 use Rattle.search_proofs.specs.code.Variables.{AreVariables}
-use Rattle.search_proofs.proofs.falsehood.variables.Given as goal
+use Rattle.search_proofs.proofs.bodies.variables.Given as goal
 
 abbrev pub invariant-loop-i : goal.invariant-loop-i
 invariant-loop-i l = AreVariables l.i l.images
