@@ -26,7 +26,7 @@ pub struct Posed {
 }
 
 /// What the problem in the file poses, with all that it includes. The first fault is refused.
-#[tactic(auto, using(crate::proofs::FewGiven::few_given, crate::proofs::Givens::denoted_posed))]
+#[tactic(auto, using(crate::proofs::Givens::denoted_posed))]
 pub fn read_posed<S: Store>(
     alloc: Global,
     store: &mut S,

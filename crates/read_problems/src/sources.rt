@@ -41,7 +41,6 @@ pub struct Source {
 }
 
 /// What the problem in the file gives, with all that it includes. The first fault is refused.
-#[tactic(auto, using(crate::proofs::Sourced::posed_source, crate::proofs::Sourced::few_names))]
 pub fn read_source<S: Store>(
     alloc: Global,
     store: &mut S,
