@@ -1,0 +1,6 @@
+//! What the items of a derivation denote: its lines, over the vocabulary of the problem with its new functions.
+#![tactic(auto)]
+
+mod laws;
+
+pub use laws::{items_denote_lines, places_change_no_formula};
