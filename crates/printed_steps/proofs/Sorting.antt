@@ -22,7 +22,7 @@ use Rattle.clause_form.specs.declared.clause.AtomOf.TheVariants.{Pred, Eq as Equ
 use Rattle.clause_form.specs.declared.clause.Lit.{Lit}
 use Rattle.clause_form.specs.declared.clause.Clause.{Clause}
 use Rattle.clause_form.specs.ClauseView.{closed_by, form_of_atom, form_of_lit, form_of_lits}
-use Rattle.clause_form.specs.Covers.{at_terms, in_lit, is_sorted_atom, scope_of}
+use Rattle.clause_form.specs.Covers.{at_terms, in_lit, is_sorted_atom, scope_of, AreSorted}
 use Rattle.clause_form.specs.Norm.{signed}
 use Rattle.clause_form.proofs.ImagesFacts.{kept_answers}
 use Rattle.clause_rules.specs.Places.{args_of_atom}
@@ -34,7 +34,7 @@ use Rattle.superpose.specs.Drafts.{SortsExist}
 use Rattle.printed_clauses.specs.Renumbered.{renumbered, renumbered_clause}
 use Rattle.printed_clauses.specs.Trimmed.{count_below, kept_sorts, occurs_in, trimmed}
 use Rattle.printed_clauses.proofs.RenumberedFacts.{renumbered-Var, renumbered-App}
-use Rattle.printed_steps.specs.Carried.{HasItsVariables, IsCarried, KeepsPredicates, is_headed_by}
+use Rattle.printed_steps.specs.Carried.{AreCarried, HasItsVariables, IsCarried, KeepsPredicates, is_headed_by}
 use Rattle.printed_steps.specs.Printed.{IsPrintable, printed, printed_clause}
 use Rattle.printed_steps.proofs.Carrying.{same_applied}
 use Rattle.printed_steps.proofs.Kept.{sort_kept}
@@ -210,19 +210,25 @@ kept_fewer occurs (s ∷ inner) = go (occurs (length inner)) (kept_fewer occurs 
   go true h = omega arith
   go false h = omega arith
 
+-- it is well-sorted, however many sorts the clause has
+pub printed_fits : (v w : Vocabulary) (number : ℕ → ℕ) (c : Clause) → AreSorted v (scope_of c) c.lits → AreCarried v w number c → KeepsPredicates v w c → SortsExist w c.sorts → is_sorted w [] (printed number c) ≡ true
+printed_fits v w number c sorted functions predicates exist =
+    let d : Clause = renumbered_clause number c in
+    let own = renumbered_own number c (sorted_own v c sorted) in
+    let old = recursion_from_All (λ (l : Lit). is_sorted_atom v (scope_of c) l.atom ≡ true) c.lits sorted.fits in
+    let carried = lits_kept v w (scope_of c) (scope_of c) (renumbered number) occurs_in_term (λ f. IsCarried v w f (number f)) (renumbered_sort v w number (scope_of c)) c.lits (λ p e. carried_holds v w p (predicates p e)) functions old in
+    let kept = lits_kept w w (scope_of d) (scope_of (trimmed d)) (instance (numbers d)) has_in_term (λ k. occurs_in d.lits k ≡ true) (trimmed_sort w d own) d.lits (λ p e found g. g) (all_occur d) carried in
+    let sorts = kept_exist (occurs_in d.lits) (λ s. s < length w.sorts) c.sorts (recursion_from_All (λ s. s < length w.sorts) c.sorts exist) in
+    closed_sorted w (printed_clause number c).sorts (printed_clause number c).lits [] sorts
+    (subst (λ (xs : List ℕ). AllByRecursion (λ (l : Lit). is_sorted_atom w xs l.atom ≡ true) (printed_clause number c).lits) (sym (append-nil (scope_of (trimmed d)))) kept)
+
 pub printed_ready : (v w : Vocabulary) (number : ℕ → ℕ) (c : Clause) → IsPrintable v w number c → KeepsPredicates v w c → SortsExist w c.sorts → length c.sorts ≤ 1000000000 → IsReady w (printed number c)
 printed_ready v w number c h predicates exist few =
     let d : Clause = renumbered_clause number c in
-    let own = renumbered_own number c (sorted_own v c h.sorted) in
-    let old = recursion_from_All (λ (l : Lit). is_sorted_atom v (scope_of c) l.atom ≡ true) c.lits h.sorted.fits in
-    let carried = lits_kept v w (scope_of c) (scope_of c) (renumbered number) occurs_in_term (λ f. IsCarried v w f (number f)) (renumbered_sort v w number (scope_of c)) c.lits (λ p e. carried_holds v w p (predicates p e)) h.carried old in
-    let kept = lits_kept w w (scope_of d) (scope_of (trimmed d)) (instance (numbers d)) has_in_term (λ k. occurs_in d.lits k ≡ true) (trimmed_sort w d own) d.lits (λ p e found g. g) (all_occur d) carried in
-    let sorts = kept_exist (occurs_in d.lits) (λ s. s < length w.sorts) c.sorts (recursion_from_All (λ s. s < length w.sorts) c.sorts exist) in
     let fewer = kept_fewer (occurs_in d.lits) c.sorts in
     let depth = closed_depth (printed_clause number c).sorts (printed_clause number c).lits in
     record {
       scope_fits = record { few_variables = omega arith; sorts_exist = tt };
       few_binders = omega (arith, depth, fewer, few);
-      fits = closed_sorted w (printed_clause number c).sorts (printed_clause number c).lits [] sorts
-          (subst (λ (xs : List ℕ). AllByRecursion (λ (l : Lit). is_sorted_atom w xs l.atom ≡ true) (printed_clause number c).lits) (sym (append-nil (scope_of (trimmed d)))) kept);
+      fits = printed_fits v w number c h.sorted h.carried predicates exist;
     }
