@@ -4,3 +4,11 @@ pub mod Whole
 pub mod Found
 pub mod Room
 pub mod Placing
+pub mod Alike
+pub mod Linked
+pub mod Owned
+pub mod Standing
+pub mod Members
+pub mod Skolems
+pub mod Sorted
+pub mod Reading

@@ -5,7 +5,7 @@ ghost use Rattle.tptp_base.specs.declared.item.Item.{Item};
 ghost use Rattle.tptp_base.specs.declared.place.Place.{Place};
 ghost use Rattle.fof_terms.specs.Sorts.{is_sorted};
 ghost use Rattle.fof_terms.specs.Vocabulary.{Vocabulary};
-ghost use Rattle.canon_print.specs.RoundTrip.{at_place};
+ghost use Rattle.canon_print.specs.RoundTrip.{at_place, AreSame};
 ghost use Rattle.clause_rules.specs.Steps.{IsReady};
 ghost use Rattle.sort_check.specs.Symbols.{Text};
 ghost use Rattle.sort_check.specs.Texts.{denoted};
@@ -14,22 +14,42 @@ ghost use Rattle.sort_check.specs.declared.line.Line.{Line as TextLine};
 ghost use Rattle.sort_check.specs.declared.line.TextKind.{TextKind};
 ghost use Rattle.sort_check.specs.declared.line.TextKind.TheVariants as text_kind;
 ghost use Rattle.prove_out.specs.Unambiguous.{IsUnambiguous};
+ghost use Rattle.derivation_items.specs.Items.{first_place};
 ghost use Rattle.derivation_items.specs.Typings.{typings_of};
 ghost use Rattle.refutation_lines.specs.declared.derivation.Derivation.{Derivation};
 ghost use Rattle.limited_items.specs.Limits.{AreWithin};
 ghost use Rattle.problem_proofs.specs.Found.{IsFound, vocabulary_of};
 ghost use Rattle.derivation_sentences.specs.Denoted.{denoted_lines, lines_at};
 
+/// Each line of a derivation that is found is closed and well-sorted over the vocabulary of the problem with the new
+/// functions, where the given formulas are so over that of the problem.
+pub fn lines_are_sorted()
+    ensures { (v : Vocabulary) (given : List GivenEntry) (limit : ℕ) (d : Derivation)
+        → Each (λ g. IsReady v g.form) given → IsFound v given limit d
+        → Each (λ l. is_sorted (vocabulary_of v d) [] l.form ≡ true) d.lines }
+{}
+
 /// The items of a derivation that is found denote its lines, each by its name and its form, over the vocabulary of the
 /// problem with the new functions: if the names of the problem's vocabulary say what they mean, and the given formulas
-/// and the lines are closed and well-sorted.
+/// are closed and well-sorted.
 pub fn items_denote_lines()
     ensures { (v : Vocabulary) (given : List GivenEntry) (file : Text) (limit : ℕ) (d : Derivation) (items : List Item)
         → IsUnambiguous v → Each (λ g. IsReady v g.form) given → IsFound v given limit d
         → AreWithin file (vocabulary_of v d) (length v.symbols) given d.lines items
-        → Each (λ l. is_sorted (vocabulary_of v d) [] l.form ≡ true) d.lines
         → denoted items v text_kind.Derivation
         ≡ Ok (denoted_lines (length (typings_of (vocabulary_of v d) (length v.symbols))) d.lines, vocabulary_of v d) }
+{}
+
+/// So do the items that its text is read as: those that are the same but for their places.
+pub fn read_items_denote_lines()
+    ensures { (v : Vocabulary) (given : List GivenEntry) (file : Text) (limit : ℕ) (d : Derivation)
+        (items others : List Item)
+        → IsUnambiguous v → Each (λ g. IsReady v g.form) given → IsFound v given limit d
+        → AreWithin file (vocabulary_of v d) (length v.symbols) given d.lines items → AreSame others items
+        → (lines : List TextLine)
+        × (denoted others v text_kind.Derivation ≡ Ok (lines, vocabulary_of v d))
+        × (lines_at first_place lines
+        ≡ denoted_lines (length (typings_of (vocabulary_of v d) (length v.symbols))) d.lines) }
 {}
 
 /// Items that stand elsewhere denote the same, but for the places of their lines.

@@ -3,4 +3,6 @@
 
 mod laws;
 
-pub use laws::{items_denote_lines, places_change_no_formula};
+pub use laws::{
+    items_denote_lines, lines_are_sorted, places_change_no_formula, read_items_denote_lines,
+};
