@@ -12,3 +12,4 @@ pub mod Members
 pub mod Skolems
 pub mod Sorted
 pub mod Reading
+pub mod Telling

@@ -2,6 +2,7 @@
 ghost use Rattle.std.specs.Prelude.{◌≡◌, ℕ, List, [], Ok, length, map, true};
 ghost use Rattle.std.specs.List.{All as Each};
 ghost use Rattle.tptp_base.specs.declared.item.Item.{Item};
+ghost use Rattle.tptp_base.specs.declared.name.Name.TheVariants.{Word};
 ghost use Rattle.tptp_base.specs.declared.place.Place.{Place};
 ghost use Rattle.fof_terms.specs.Sorts.{is_sorted};
 ghost use Rattle.fof_terms.specs.Vocabulary.{Vocabulary};
@@ -16,6 +17,8 @@ ghost use Rattle.sort_check.specs.declared.line.TextKind.TheVariants as text_kin
 ghost use Rattle.prove_out.specs.Unambiguous.{IsUnambiguous};
 ghost use Rattle.derivation_items.specs.Items.{first_place};
 ghost use Rattle.derivation_items.specs.Typings.{typings_of};
+ghost use Rattle.derivation_items.specs.declared.line.ProofLine.{ProofLine as OwnLine};
+ghost use Rattle.derivation_text.specs.Derivations.{denied_forms, names_of};
 ghost use Rattle.refutation_lines.specs.declared.derivation.Derivation.{Derivation};
 ghost use Rattle.limited_items.specs.Limits.{AreWithin};
 ghost use Rattle.problem_proofs.specs.Found.{IsFound, vocabulary_of};
@@ -57,4 +60,14 @@ pub fn places_change_no_formula()
     ensures { (place : Place) (items : List Item) (v w : Vocabulary) (kind : TextKind) (lines : List TextLine)
         → denoted (map (at_place place) items) v kind ≡ Ok (lines, w)
         → (others : List TextLine) × (denoted items v kind ≡ Ok (others, w)) × (lines ≡ lines_at place others) }
+{}
+
+/// Lines that are those of a derivation but for their places have its names and forms, as a derivation's text has them.
+pub fn read_lines_tell()
+    ensures names { (place : Place) (number : ℕ) (read : List TextLine) (lines : List OwnLine)
+        → lines_at place read ≡ denoted_lines number lines
+        → names_of read ≡ map (λ (l : OwnLine). Word l.name) lines }
+    ensures forms { (place : Place) (number : ℕ) (read : List TextLine) (lines : List OwnLine)
+        → lines_at place read ≡ denoted_lines number lines
+        → denied_forms read ≡ map (λ (l : OwnLine). l.form) lines }
 {}

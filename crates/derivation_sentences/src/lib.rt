@@ -5,4 +5,5 @@ mod laws;
 
 pub use laws::{
     items_denote_lines, lines_are_sorted, places_change_no_formula, read_items_denote_lines,
+    read_lines_tell,
 };
