@@ -1,0 +1,4 @@
+pub mod Clauses
+pub mod Functions
+pub mod ListsFacts
+pub mod Norms
