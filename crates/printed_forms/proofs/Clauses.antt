@@ -2,7 +2,7 @@
 use Rattle.std.specs.Prelude.{ℕ, ◌≡◌, Bool, true, false, List, [], ◌∷◌, map}
 use Rattle.std.specs.List.{AllByRecursion}
 use Rattle.std.proofs.Common.{◌∙◌}
-use Rattle.fof_terms.specs.declared.form.Form.{Form, Or, And}
+use Rattle.fof_terms.specs.declared.form.Form.{Form}
 use Rattle.clause_form.specs.Norm.{signed}
 use Rattle.clause_form.specs.ClauseView.{closed, closed_by, form_of_atom, form_of_lit, form_of_lits}
 use Rattle.clause_form.specs.declared.clause.AtomOf.{AtomOf}

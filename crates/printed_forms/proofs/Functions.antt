@@ -1,5 +1,5 @@
 -- New functions in place of existential variables leave lists as long as they are.
-use Rattle.std.specs.Prelude.{ℕ, ◌+◌, ◌≡◌, Bool, List, [], ◌∷◌, map, refl}
+use Rattle.std.specs.Prelude.{ℕ, ◌+◌, ◌≡◌, List, [], ◌∷◌, map, refl}
 use Rattle.std.specs.List.{AllByRecursion}
 use Rattle.fof_terms.proofs.Induction.{form_induction}
 use Rattle.fof_terms.specs.declared.term.Term.{Term, Var, App}

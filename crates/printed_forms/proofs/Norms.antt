@@ -7,7 +7,7 @@ use Rattle.fof_terms.proofs.Induction.{form_induction}
 use Rattle.fof_terms.proofs.Walks.{FormWalk, placing}
 use Rattle.fof_terms.specs.Variables.{has_variable}
 use Rattle.fof_terms.specs.declared.term.Term.{Term, Var}
-use Rattle.fof_terms.specs.declared.form.Form.{Form, Atom, Eq, And, Or}
+use Rattle.fof_terms.specs.declared.form.Form.{Form, Atom, Eq}
 use Rattle.clause_form.specs.Norm.{alone, ends, join, joined_flat, members_of, node, norm_of, quantified, quantifier, signed}
 use Rattle.clause_form.proofs.Joined.{members_cases}
 use Rattle.clause_form.proofs.NormFacts.{quantified-kept, quantified-dropped, norm_of-Atom, norm_of-Eq, norm_of-Not, norm_of-And, norm_of-Or, norm_of-Imp, norm_of-Iff, norm_of-All, norm_of-Ex}

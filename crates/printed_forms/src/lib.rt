@@ -5,4 +5,5 @@ mod laws;
 
 pub use laws::{
     a_clause_has_no_list_of_one, a_normal_form_has_no_list_of_one, new_functions_keep_lists,
+    what_is_denoted_has_no_list_of_one, what_is_spelled_has_no_list_of_one,
 };
