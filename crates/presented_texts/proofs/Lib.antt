@@ -1,0 +1,4 @@
+pub mod Feeds
+pub mod LinesApart
+pub mod Regions
+pub mod Whole
