@@ -60,7 +60,7 @@ beside_ok {A = A} n (Ok p) x t is = at_ok {E = SortRule} (λ y u. (w : Vocabular
 atom_listed : (here : Setting) (scope : List Variable) (name : Text) (args : List STerm) (v w : Vocabulary) (form : Form) → atom here scope name args v ≡ Ok (form, w) → IsListed form
 atom_listed here scope name args v w form e =
     let parts = then_ok (head here.declared name Predicate (length args) (new_symbol here.by_place v name Predicate (map (known_sort scope v) args) None) v)
-        (λ p u. mapped (Atom p) (each (λ place t. argument p place (denoted_term here scope t)) 0 args u)) form w e in
+    (λ p u. mapped (Atom p) (each (λ place t. argument p place (denoted_term here scope t)) 0 args u)) form w e in
     let last = mapped_ok (Atom parts.0) (each (λ place t. argument parts.0 place (denoted_term here scope t)) 0 args parts.1) form w parts.3 in
     subst IsListed last.2 (listed-Atom parts.0 last.0)
 
