@@ -1,0 +1,9 @@
+mod Firsts
+mod Following
+mod InTurn
+mod Whole
+mod Plainly
+mod Fitting
+mod Inferences
+mod Applying
+mod Cases

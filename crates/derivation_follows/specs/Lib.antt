@@ -1,0 +1,4 @@
+pub mod Sure
+pub mod Applied
+pub mod Stepping
+pub mod Members

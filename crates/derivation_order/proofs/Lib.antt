@@ -1,0 +1,14 @@
+pub mod Chosen
+pub mod Behind
+pub mod Words
+pub mod Ranks
+pub mod Naming
+pub mod Marked
+pub mod Linked
+pub mod Found
+pub mod Order
+pub mod Sourced
+pub mod Nodes
+pub mod Graphed
+pub mod Cited
+pub mod Rooms
