@@ -12,3 +12,4 @@ pub mod Nodes
 pub mod Graphed
 pub mod Cited
 pub mod Rooms
+pub mod Alike

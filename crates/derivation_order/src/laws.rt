@@ -4,7 +4,9 @@ ghost use Rattle.fof_terms.specs.Vocabulary.{Vocabulary};
 ghost use Rattle.sort_check.specs.declared.line.GivenEntry.{GivenEntry as Entry};
 ghost use Rattle.problem_proofs.specs.Found.{IsFound};
 ghost use Rattle.refutation_lines.specs.declared.derivation.Derivation.{Derivation as Found};
+ghost use Rattle.canon_print.specs.RoundTrip.{AreSame};
 ghost use Rattle.tptp_base.specs.declared.item.Item.{Item};
+ghost use Rattle.tptp_base.specs.declared.name.Name.{Name};
 ghost use Rattle.tstp_graph.specs.declared.shape.Graph.{Graph};
 ghost use Rattle.tstp_graph.specs.Graphs.{IsGraph};
 ghost use Rattle.derivation_items.specs.Typings.{typings_of};
@@ -52,4 +54,10 @@ pub fn linked_lines_have_room()
     ensures { (w : Vocabulary) (given : List Entry) (lines : List ProofLine) (types : ℕ) (graph : Graph) (limit : ℕ)
         → AreLinked given lines → IsGraphOf given types lines graph
         → room.HaveRoom (length w.symbols) given lines → HaveRoom w (derivation_by given lines graph limit) }
+{}
+
+/// Items that differ in their places alone have one graph.
+pub fn items_alike_have_one_graph()
+    ensures { (items others : List Item) (given : List Name) (graph : Graph) → AreSame items others
+        → IsGraph items given graph → IsGraph others given graph }
 {}

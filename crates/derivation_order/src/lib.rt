@@ -5,6 +5,6 @@
 mod laws;
 
 pub use laws::{
-    lines_are_linked, linked_lines_have_a_graph, linked_lines_have_room,
-    linked_lines_have_their_sources, linked_names_differ,
+    items_alike_have_one_graph, lines_are_linked, linked_lines_have_a_graph,
+    linked_lines_have_room, linked_lines_have_their_sources, linked_names_differ,
 };
