@@ -1,7 +1,9 @@
-use Rattle.std.proofs.Common.{◌∙◌, ap}
+use Rattle.std.proofs.Common.{List, ◌∙◌, ap, subst}
+use Rattle.tptp_base.specs.declared.item.Item.{Item}
 use Rattle.read_problems.specs.Answer.{ending_of}
+use Rattle.read_problems.specs.Stop.{IfAnswer}
 use Rattle.tptp_commands.specs.Presented.{not_proved}
-use Rattle.tptp_run.proofs.Proves.{open_said, open_search, over_said, over_search, posed_ready, proof_said, proofs_search}
+use Rattle.tptp_run.proofs.Proves.{Proves, open_said, open_search, over_said, over_search, posed_ready, proof_said, proofs_search}
 use Rattle.tptp_run.proofs.prove.prove_posed.Goals as goal
 
 pub prove-requires : goal.prove-requires
@@ -10,23 +12,24 @@ prove-requires c = posed_ready c.args.posed.signature c.args.posed.given _ c.as_
 pub returns-in-Ok-Proof-clause-said : goal.returns-in-Ok-Proof-clause-said
 returns-in-Ok-Proof-clause-said c =
     proof_said c.args.limit c.args.problem.now c.args.posed (rw c.as_slice-given.ensures at c.in-Ok-Proof.ensures.room) c.in-Ok-Proof.items
-    (rw c.in-Ok-Proof.field-0-is at (rw c.as_bytes.ensures.value at (rw c.as_slice-given.ensures at c.in-Ok-Proof.ensures.proved))) c.say_proof.result (rw c.as_slice.ensures at c.say_proof.ensures.said)
+    (rw c.in-Ok-Proof.field-0-is at (rw c.as_bytes.ensures.value at (rw c.as_slice-given.ensures at c.in-Ok-Proof.ensures.proved))) c.say_proof.result
+    (subst (λ (items : List Item). IfAnswer c.say_proof.result (λ answer. Proves c.args.limit c.args.problem.now c.args.posed items (ending_of answer))) c.as_slice.ensures c.say_proof.ensures.said)
 
 pub returns-in-Ok-Proof-clause-status : goal.returns-in-Ok-Proof-clause-status
 returns-in-Ok-Proof-clause-status c = proofs_search c.say_proof.result c.say_proof.ensures.status
 
-pub returns-in_ok-not_proved-in-Ok-Open-clause-said : goal.returns-in_ok-not_proved-in-Ok-Open-clause-said
-returns-in_ok-not_proved-in-Ok-Open-clause-said c =
+pub returns-in-Ok-Open-clause-said : goal.returns-in-Ok-Open-clause-said
+returns-in-Ok-Open-clause-said c =
     open_said c.args.limit c.args.problem.now c.args.posed (rw c.as_slice-given.ensures at c.in-Ok-Open.ensures.room) (ending_of c.in_ok-not_proved-in-Ok-Open.field-0) c.in-Ok-Open.why
     (rw c.in-Ok-Open.field-0-is at (rw c.as_bytes.ensures.value at (rw c.as_slice-given.ensures at c.in-Ok-Open.ensures.proved))) (c.in_ok-not_proved-in-Ok-Open.ensures ∙ ap not_proved c.why_word.ensures)
 
-pub returns-in_ok-not_proved-in-Ok-Open-clause-status : goal.returns-in_ok-not_proved-in-Ok-Open-clause-status
-returns-in_ok-not_proved-in-Ok-Open-clause-status c = open_search c.in_ok-not_proved-in-Ok-Open.field-0 _ c.in_ok-not_proved-in-Ok-Open.ensures
+pub returns-in-Ok-Open-clause-status : goal.returns-in-Ok-Open-clause-status
+returns-in-Ok-Open-clause-status c = open_search c.in_ok-not_proved-in-Ok-Open.field-0 _ c.in_ok-not_proved-in-Ok-Open.ensures
 
-pub returns-in_ok-say_over-in-Err-Limit-clause-said : goal.returns-in_ok-say_over-in-Err-Limit-clause-said
-returns-in_ok-say_over-in-Err-Limit-clause-said c =
+pub returns-in-Err-Limit-clause-said : goal.returns-in-Err-Limit-clause-said
+returns-in-Err-Limit-clause-said c =
     over_said c.args.limit c.args.problem.now c.args.posed (ending_of c.in_ok-say_over-in-Err-Limit.field-0) c.in-Err-Limit.name
     (rw c.in-Err-Limit.field-0-is at (rw c.as_slice-given.ensures at c.in-Err-Limit.ensures.limit)) c.in_ok-say_over-in-Err-Limit.ensures
 
-pub returns-in_ok-say_over-in-Err-Limit-clause-status : goal.returns-in_ok-say_over-in-Err-Limit-clause-status
-returns-in_ok-say_over-in-Err-Limit-clause-status c = over_search c.in_ok-say_over-in-Err-Limit.field-0 c.args.problem.now c.in-Err-Limit.name c.in_ok-say_over-in-Err-Limit.ensures
+pub returns-in-Err-Limit-clause-status : goal.returns-in-Err-Limit-clause-status
+returns-in-Err-Limit-clause-status c = over_search c.in_ok-say_over-in-Err-Limit.field-0 c.args.problem.now c.in-Err-Limit.name c.in_ok-say_over-in-Err-Limit.ensures
