@@ -67,12 +67,17 @@ fn input(
     search_input(alloc, parents, line, signature.symbol_count())
 }
 
-// The closed clauses, joined.
+// The closed clause, or the conjunction of the closed clauses.
 fn conjunction(alloc: Global, clauses: &[Clause]) -> Option<String> {
     match clauses {
-        [only] => logged(alloc, close(alloc, only).ok()?),
-        _ => logged(alloc, Form::And(closed(alloc, clauses).ok()?)),
+        [only] => logged(alloc, close(alloc, only).ok()),
+        _ => logged(alloc, joined(alloc, clauses).ok()),
     }
+}
+
+// The conjunction of the closed clauses.
+fn joined(alloc: Global, clauses: &[Clause]) -> Result<Form, Memory> {
+    Ok(Form::And(closed(alloc, clauses)?))
 }
 
 fn closed(alloc: Global, clauses: &[Clause]) -> Result<List<Form>, Memory> {

@@ -16,9 +16,9 @@ use tptp_base::{List, Memory};
 /// - `weight`: how many symbols and variables the right side has of an equation
 pub fn found(alloc: Global, call: &str, form: &Form) -> Option<String> {
     match call {
-        "norm" => logged(alloc, norm(alloc, form).ok()?),
-        "strip" => logged(alloc, strip(alloc, form).ok()?),
-        "copy" => logged(alloc, form.copy(alloc).ok()?),
+        "norm" => logged(alloc, norm(alloc, form).ok()),
+        "strip" => logged(alloc, strip(alloc, form).ok()),
+        "copy" => logged(alloc, form.copy(alloc).ok()),
         "clause" => closed_again(alloc, form),
         "symbols" => symbols(alloc, form).ok(),
         _ => number(call, form)?.to_string(alloc).ok(),
@@ -27,7 +27,7 @@ pub fn found(alloc: Global, call: &str, form: &Form) -> Option<String> {
 
 fn closed_again(alloc: Global, form: &Form) -> Option<String> {
     match as_clause(alloc, form).ok()? {
-        Some(clause) => logged(alloc, close(alloc, &clause).ok()?),
+        Some(clause) => logged(alloc, close(alloc, &clause).ok()),
         None => String::from_str(alloc, "none").ok(),
     }
 }

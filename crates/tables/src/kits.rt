@@ -41,7 +41,7 @@ fn concluded(alloc: Global, theory: &mut Theory, proof: Part) -> Option<String> 
 
 fn conclusion(alloc: Global, theory: &mut Theory, lemma: &Entry) -> Option<String> {
     theory.admit(lemma).ok()?;
-    logged(alloc, theory.formula(0)?.copy(alloc).ok()?)
+    logged(alloc, theory.formula(0)?.copy(alloc).ok())
 }
 
 fn proof(

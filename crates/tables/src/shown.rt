@@ -5,9 +5,9 @@ use proof_log::write_entry;
 use std::alloc::{AllocError, Global};
 use tptp_base::{Boxed, SteadySink};
 
-/// The formula as logs have it.
-pub fn logged(alloc: Global, form: Form) -> Option<String> {
-    let entry = Boxed::new(alloc, Entry::Name(0, form)).ok()?;
+/// The formula as logs have it, where there is one.
+pub fn logged(alloc: Global, form: Option<Form>) -> Option<String> {
+    let entry = Boxed::new(alloc, Entry::Name(0, form?)).ok()?;
     written(alloc, entry.get())
 }
 

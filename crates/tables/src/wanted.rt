@@ -32,5 +32,5 @@ fn implied(alloc: Global, scene: &mut Scene, left: &str, right: &str) -> Option<
 fn as_logged(alloc: Global, scene: &mut Scene, text: &str) -> Option<String> {
     scene.add(alloc, text)?;
     let last = scene.forms.pop()?;
-    logged(alloc, last.form)
+    logged(alloc, Some(last.form))
 }
