@@ -23,7 +23,7 @@ use Rattle.sort_check.specs.Denotation.{Setting, Meaning, bind, State, FormOutco
 use Rattle.sort_check.proofs.Equations.{denoted_form-Bind}
 use Rattle.prove_out.specs.Unambiguous.{IsUnambiguous}
 use Rattle.prove_out.specs.Denoting.{bound_count}
-use Rattle.prove_out.specs.Variables.{variable_name, is_numbered, are_numbered}
+use Rattle.prove_out.specs.Variables.{variable_name, has_some, is_numbered, are_numbered}
 use Rattle.prove_out.specs.code.Named.{variable_of}
 use Rattle.prove_out.specs.code.Written.{named_variables, state, WritesForm, WritesBehind}
 use Rattle.prove_out.proofs.Finding.{sort_named}
@@ -125,7 +125,7 @@ more_written v depth quant sort a more w part = record { denotes = of_binders; n
     numbers : is_numbered depth (fm.Bind quant (variable_of v sort depth ∷ more) w) ≡ true
     numbers =
         let next : depth + length (variable_of v sort depth ∷ more) ≡ depth + 1 + length more = omega arith in
-        let inner : are_numbered (depth + 1) more && is_numbered (depth + 1 + length more) w ≡ true = sym (is_numbered-Bind (depth + 1) quant more w) ∙ part.numbered in
+        let inner : are_numbered (depth + 1) more && is_numbered (depth + 1 + length more) w ≡ true = (both (has_some more) (are_numbered (depth + 1) more && is_numbered (depth + 1 + length more) w) (sym (is_numbered-Bind (depth + 1) quant more w) ∙ part.numbered)).1 in
         is_numbered-Bind depth quant (variable_of v sort depth ∷ more) w
         ∙ ap (λ n. are_numbered depth (variable_of v sort depth ∷ more) && is_numbered n w) next
         ∙ ap (λ b. ((b && true) && are_numbered (depth + 1) more) && is_numbered (depth + 1 + length more) w) (same_name depth)

@@ -1,5 +1,5 @@
 -- What is written of a formula denotes it, and its binders are numbered: atoms, equations and connectives.
-use Rattle.std.proofs.Common.{◌≡◌, ℕ, ◌+◌, ◌≤◌, Bool, true, cond, List, [], ◌∷◌, length, map, slice_get, Option, Some, None, Ok, Err, refl, sym, ◌∙◌, ap, subst, arith}
+use Rattle.std.proofs.Common.{◌≡◌, ℕ, ◌+◌, ◌≤◌, ◌<◌, Bool, true, cond, List, [], ◌∷◌, length, map, slice_get, Option, Some, None, Ok, Err, refl, sym, ◌∙◌, ap, subst, arith}
 use Rattle.std.specs.Prelude.{◌&&◌, ◌==◌}
 use Rattle.std.specs.List.{list_all, AllByRecursion}
 use Rattle.std.proofs.lemmas.Bool.Decides.{nat_tests}
@@ -32,7 +32,7 @@ use Rattle.sort_check.proofs.Parts.{atom_ok}
 use Rattle.sort_check.proofs.TermSorts.{wanted_sort}
 use Rattle.prove_out.specs.Unambiguous.{IsUnambiguous}
 use Rattle.prove_out.specs.Denoting.{bound_count}
-use Rattle.prove_out.specs.Variables.{is_numbered}
+use Rattle.prove_out.specs.Variables.{has_some, is_numbered}
 use Rattle.prove_out.specs.code.Named.{IsNameOf}
 use Rattle.prove_out.specs.code.Written.{named_variables, state, WritesTerm, WritesForm, EachWritten}
 use Rattle.prove_out.proofs.Finding.{head_found}
@@ -187,22 +187,27 @@ module _ (v : Vocabulary) (depth : ℕ) where
   members_numbered (a ∷ as_) [] e = absurd e
   members_numbered (a ∷ as_) (w ∷ ws) e = rw (e.0.numbered, members_numbered as_ ws e.1) refl
 
-  pub conjunction_written : (as_ : List Form) (ws : List Surface) → EachWritten (WritesForm v depth) as_ ws → WritesForm v depth (And as_) (fm.And ws)
-  conjunction_written as_ ws e = record {
+  some_numbered : (as_ : List Form) (ws : List Surface) → 0 < length as_ → EachWritten (WritesForm v depth) as_ ws → (has_some ws && list_all (is_numbered depth) ws) ≡ true
+  some_numbered [] ws some e = absurd (omega arith)
+  some_numbered (a ∷ as_) [] some e = absurd e
+  some_numbered (a ∷ as_) (w ∷ ws) some e = members_numbered (a ∷ as_) (w ∷ ws) e
+
+  pub conjunction_written : (as_ : List Form) (ws : List Surface) → 0 < length as_ → EachWritten (WritesForm v depth) as_ ws → WritesForm v depth (And as_) (fm.And ws)
+  conjunction_written as_ ws some e = record {
     denotes = λ u here sorts bound len fits few.
         denoted_form-And here (named_variables sorts) (state v bound) ws
         ∙ ap (mapped And) (members_denote as_ ws e u here sorts bound 0 len (rw is_sorted-And at fits) (omega (arith, few, and_total as_)))
         ∙ counted v (And as_) (bound + total as_) (bound + bound_count (And as_)) (omega (arith, and_total as_));
-    numbered = is_numbered-And depth ws ∙ members_numbered as_ ws e;
+    numbered = is_numbered-And depth ws ∙ some_numbered as_ ws some e;
   }
 
-  pub disjunction_written : (as_ : List Form) (ws : List Surface) → EachWritten (WritesForm v depth) as_ ws → WritesForm v depth (Or as_) (fm.Or ws)
-  disjunction_written as_ ws e = record {
+  pub disjunction_written : (as_ : List Form) (ws : List Surface) → 0 < length as_ → EachWritten (WritesForm v depth) as_ ws → WritesForm v depth (Or as_) (fm.Or ws)
+  disjunction_written as_ ws some e = record {
     denotes = λ u here sorts bound len fits few.
         denoted_form-Or here (named_variables sorts) (state v bound) ws
         ∙ ap (mapped Or) (members_denote as_ ws e u here sorts bound 0 len (rw is_sorted-Or at fits) (omega (arith, few, or_total as_)))
         ∙ counted v (Or as_) (bound + total as_) (bound + bound_count (Or as_)) (omega (arith, or_total as_));
-    numbered = is_numbered-Or depth ws ∙ members_numbered as_ ws e;
+    numbered = is_numbered-Or depth ws ∙ some_numbered as_ ws some e;
   }
 
   truth_written : WritesForm v depth (And []) fm.True

@@ -1,5 +1,5 @@
 -- The equations of numbered variables.
-use Rattle.std.proofs.Common.{◌≡◌, ℕ, ◌+◌, Bool, true, List, length, ap, ◌∙◌}
+use Rattle.std.proofs.Common.{◌≡◌, ℕ, ◌+◌, Bool, true, List, [], ◌∷◌, length, ap, ◌∙◌}
 use Rattle.std.specs.Prelude.{◌&&◌}
 use Rattle.std.specs.List.{list_all}
 use Rattle.std.proofs.lemmas.List.Folds.{list_all-map}
@@ -9,9 +9,10 @@ use Rattle.tptp_base.specs.declared.surface.BinOp.{BinOp}
 use Rattle.tptp_base.specs.declared.surface.Quant.{Quant}
 use Rattle.tptp_base.specs.declared.surface.Surface.{Surface}
 use Rattle.tptp_base.specs.declared.surface.Surface.TheVariants as fm
+use Rattle.tptp_base.specs.declared.surface.Surface.TheFolds.{fold-Surface}
 use Rattle.sort_check.specs.Symbols.{Text}
 use Rattle.sort_check.proofs.Equations.{fold-True, fold-False, fold-Atom, fold-Eq, fold-Neq, fold-Not, fold-And, fold-Or, fold-Binary, fold-Bind}
-use Rattle.prove_out.specs.Variables.{are_numbered, numbered_step, is_numbered}
+use Rattle.prove_out.specs.Variables.{are_numbered, has_some, numbered_step, is_numbered}
 
 module _ (k : ℕ) where
   pub is_numbered-True : is_numbered k fm.True ≡ true
@@ -38,18 +39,20 @@ module _ (k : ℕ) where
   unfolding is_numbered
   is_numbered-Not a = ap (λ g. g k) (fold-Not (ℕ → Bool) numbered_step a)
 
-  pub is_numbered-And : (as_ : List Surface) → is_numbered k (fm.And as_) ≡ list_all (is_numbered k) as_
+  pub is_numbered-And : (as_ : List Surface) → is_numbered k (fm.And as_) ≡ (has_some as_ && list_all (is_numbered k) as_)
   unfolding is_numbered
-  is_numbered-And as_ = ap (λ g. g k) (fold-And (ℕ → Bool) numbered_step as_) ∙ list_all-map (λ a. a k) _ as_
+  is_numbered-And [] = ap (λ g. g k) (fold-And (ℕ → Bool) numbered_step [])
+  is_numbered-And (a ∷ as_) = ap (λ g. g k) (fold-And (ℕ → Bool) numbered_step (a ∷ as_)) ∙ list_all-map {X = ℕ → Bool} (λ b. b k) (fold-Surface (ℕ → Bool) numbered_step) (a ∷ as_)
 
-  pub is_numbered-Or : (as_ : List Surface) → is_numbered k (fm.Or as_) ≡ list_all (is_numbered k) as_
+  pub is_numbered-Or : (as_ : List Surface) → is_numbered k (fm.Or as_) ≡ (has_some as_ && list_all (is_numbered k) as_)
   unfolding is_numbered
-  is_numbered-Or as_ = ap (λ g. g k) (fold-Or (ℕ → Bool) numbered_step as_) ∙ list_all-map (λ a. a k) _ as_
+  is_numbered-Or [] = ap (λ g. g k) (fold-Or (ℕ → Bool) numbered_step [])
+  is_numbered-Or (a ∷ as_) = ap (λ g. g k) (fold-Or (ℕ → Bool) numbered_step (a ∷ as_)) ∙ list_all-map {X = ℕ → Bool} (λ b. b k) (fold-Surface (ℕ → Bool) numbered_step) (a ∷ as_)
 
   pub is_numbered-Binary : (op : BinOp) (a b : Surface) → is_numbered k (fm.Binary op a b) ≡ (is_numbered k a && is_numbered k b)
   unfolding is_numbered
   is_numbered-Binary op a b = ap (λ g. g k) (fold-Binary (ℕ → Bool) numbered_step op a b)
 
-  pub is_numbered-Bind : (quant : Quant) (xs : List BoundVar) (a : Surface) → is_numbered k (fm.Bind quant xs a) ≡ (are_numbered k xs && is_numbered (k + length xs) a)
+  pub is_numbered-Bind : (quant : Quant) (xs : List BoundVar) (a : Surface) → is_numbered k (fm.Bind quant xs a) ≡ (has_some xs && (are_numbered k xs && is_numbered (k + length xs) a))
   unfolding is_numbered
   is_numbered-Bind quant xs a = ap (λ g. g k) (fold-Bind (ℕ → Bool) numbered_step quant xs a)

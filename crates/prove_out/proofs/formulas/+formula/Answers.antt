@@ -1,4 +1,4 @@
-use Rattle.std.proofs.Common.{◌≡◌, length, arith, sym, ◌∙◌}
+use Rattle.std.proofs.Common.{◌≡◌, ◌<◌, length, arith, sym, ◌∙◌}
 use Rattle.std.proofs.lemmas.Bool.Decides.{nat_tests}
 use Rattle.tptp_base.specs.declared.surface.Quant.TheVariants as q
 use Rattle.fof_terms.specs.declared.form.Form.{All, Ex}
@@ -25,7 +25,9 @@ conjunction-returns-then-is_empty t c =
     no_conjunct c.args.sig.now c.args.depth c.args.members.now none
 
 pub conjunction-returns : goal.conjunction-returns
-conjunction-returns t c = conjunction_written c.args.sig.now c.args.depth c.args.members.now c.in_ok-all.field-0 c.in_ok-all.ensures
+conjunction-returns t c =
+    let some : 0 < length c.args.members.now = grind (arith, nat_tests, c.is_empty.ensures, c.if-is_empty.false) in
+    conjunction_written c.args.sig.now c.args.depth c.args.members.now c.in_ok-all.field-0 some c.in_ok-all.ensures
 
 pub disjunction-returns-then-is_empty : goal.disjunction-returns-then-is_empty
 disjunction-returns-then-is_empty t c =
@@ -33,7 +35,9 @@ disjunction-returns-then-is_empty t c =
     no_disjunct c.args.sig.now c.args.depth c.args.members.now none
 
 pub disjunction-returns : goal.disjunction-returns
-disjunction-returns t c = disjunction_written c.args.sig.now c.args.depth c.args.members.now c.in_ok-all.field-0 c.in_ok-all.ensures
+disjunction-returns t c =
+    let some : 0 < length c.args.members.now = grind (arith, nat_tests, c.is_empty.ensures, c.if-is_empty.false) in
+    disjunction_written c.args.sig.now c.args.depth c.args.members.now c.in_ok-all.field-0 some c.in_ok-all.ensures
 
 pub all-loop-form-preserved : goal.all-loop-form-preserved
 all-loop-form-preserved t c =
