@@ -89,7 +89,7 @@ fn lemma(alloc: Global, text: &mut Cursor<'_>, room: usize) -> Result<Entry, Sto
     ensures { Reads (spec.entry_by room EntryName.Lemma text.old) result text.new }
 {
     let found = proof(alloc, text, room)?;
-    Ok(Entry::Lemma(found))
+    Ok(Entry::Lemma(found.into_inner()))
 }
 
 // A symbol and the formula that it names, behind the entry's name.

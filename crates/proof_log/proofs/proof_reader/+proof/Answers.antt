@@ -17,7 +17,7 @@ proofs-returns-in_err-next t c =
 
 pub proofs-loop-preserved : goal.proofs-loop-preserved
 proofs-loop-preserved t c =
-    subst (λ xs. Kept (spec.proof c.args.room) c.in_ok-count.count c.large.new.text xs (c.loop.counter + 1) c.proof.new.text) (sym c.in_ok-push.ensures.ok)
+    subst (λ xs. Kept (spec.proof c.args.room) c.in_ok-count.count c.large.new.text xs (c.loop.counter + 1) c.proof.new.text) (sym c.in_ok-add.ensures)
     (kept_more (spec.proof c.args.room) c.in_ok-count.count c.large.new.text c.loop.found c.loop.counter c.loop.text c.in_ok-next.next c.proof.new.text c.loop-test.true c.loop.invariant c.in_ok-next.ensures)
 
 pub proofs-returns : goal.proofs-returns

@@ -7,9 +7,6 @@ use Rattle.proof_log.proofs.proof_reader.+proof.Given as goal
 abbrev pub decreases-proof : goal.decreases-proof
 decreases-proof l = 5 * l.room
 
-abbrev pub decreases-boxed_proof : goal.decreases-boxed_proof
-decreases-boxed_proof l = 5 * l.room + 1
-
 abbrev pub decreases-proofs : goal.decreases-proofs
 decreases-proofs l = 5 * l.room + 1
 
