@@ -38,14 +38,14 @@ holds_like (Some s) None found like = absurd like
 holds_like (Some s) (Some t) found like = ap (λ (k : Kind). stated_by k (are_sorts found s.args)) like.kind ∙ ap (λ (a : List ℕ). stated_by t.kind (are_sorts found a)) like.args
 
 module _ (v w : Vocabulary) (sorts : length v.sorts ≡ length w.sorts) (like : (k : ℕ) → AreLike (slice_get v.symbols k) (slice_get w.symbols k)) where
-  abbrev TermAlike : List ℕ → Term → Type 0
+  abbrev pub TermAlike : List ℕ → Term → Type 0
   TermAlike scope t = sort_of_term v scope t ≡ sort_of_term w scope t
 
   maps_alike : (scope : List ℕ) (ts : List Term) → AllByRecursion (TermAlike scope) ts → map (sort_of_term v scope) ts ≡ map (sort_of_term w scope) ts
   maps_alike scope [] all = refl
   maps_alike scope (t ∷ ts) all = ap (λ (o : Option ℕ). o ∷ map (sort_of_term v scope) ts) all.0 ∙ ap (λ (os : List (Option ℕ)). sort_of_term w scope t ∷ os) (maps_alike scope ts all.1)
 
-  term_alike : (scope : List ℕ) (t : Term) → TermAlike scope t
+  pub term_alike : (scope : List ℕ) (t : Term) → TermAlike scope t
   term_alike scope = term_induction (TermAlike scope) (record {
     var = λ k. sort_of_term-Var v scope k ∙ sym (sort_of_term-Var w scope k);
     app = λ f ts all.

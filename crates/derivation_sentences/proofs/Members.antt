@@ -147,7 +147,7 @@ module _ (v : Vocabulary) (given : List GivenEntry) (limit : ℕ) (d : Derivatio
   inputs_are : clauses_of_given v given ≡ clauses_from (length v.symbols) (forms_in given)
   inputs_are = given_clauses v given
 
-  all_small : list_any is_large (forms_in given) ≡ false
+  pub all_small : list_any is_large (forms_in given) ≡ false
   all_small =
       let wide = (neither (list_any is_large (step_forms (forms_of (parents_of given)) falsehood))
       (nat_lt 10000 (length (search_input (length v.symbols) (forms_of (parents_of given)) falsehood)) || list_any is_heavy (search_input (length v.symbols) (forms_of (parents_of given)) falsehood)) found.narrow).0 in

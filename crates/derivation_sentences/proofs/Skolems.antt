@@ -86,23 +86,31 @@ no_images : (w : Vocabulary) (k r : ℕ) → slice_get [] k ≡ Some r → sort_
 no_images w k r at = sort_of_term-Var w [] k ∙ at
 
 module _ (v : Vocabulary) (given : List GivenEntry) (used : List Bool) (prefix : Text) where
-  abbrev es : List Existential
+  abbrev pub es : List Existential
   es = chosen_from 0 own used (parts_of given)
 
-  abbrev named : Vocabulary
+  abbrev pub named : Vocabulary
   named = record v { symbols = v.symbols ++ symbols_in (skolems_from (length v.symbols) es) }
 
-  abbrev renamed : Vocabulary
+  abbrev pub renamed : Vocabulary
   renamed = record v { symbols = v.symbols ++ functions_from prefix 1 es }
 
-  named_grows : Grows v named
+  pub named_grows : Grows v named
   named_grows = record { more_sorts = omega arith; same_symbols = λ k s at. in_front v.symbols (symbols_in (skolems_from (length v.symbols) es)) k s at }
+
+  -- the functions of a part that is used are known under these names
+  pub part_known : (q : ℕ) (g : GivenEntry) → slice_get used q ≡ Some true → slice_get given q ≡ Some g → KnowsFrom named (get_or (firsts_from (length v.symbols) used (parts_of given)) q 0) (ex_of g)
+  part_known q g marked at = knows named used given 0 (length v.symbols) q v.symbols g refl refl marked at
+
+  -- the names alone differ
+  pub named_alike : (k : ℕ) → AreLike (slice_get named.symbols k) (slice_get renamed.symbols k)
+  named_alike = like_behind v.symbols (symbols_in (skolems_from (length v.symbols) es)) (functions_from prefix 1 es) (functions_like prefix 1 (length v.symbols) es)
 
   pub skolem_line_fits : (q : ℕ) (g : GivenEntry) → IsReady v g.form → slice_get used q ≡ Some true → slice_get given q ≡ Some g
       → is_sorted (record v { symbols = v.symbols ++ functions_from prefix 1 (chosen_from 0 own used (parts_of given)) }) [] (skolemized (norm_of true g.form) (get_or (firsts_from (length v.symbols) used (parts_of given)) q 0)) ≡ true
   skolem_line_fits q g ready marked at =
       let next = get_or (firsts_from (length v.symbols) used (parts_of given)) q 0 in
-      let known = knows named used given 0 (length v.symbols) q v.symbols g refl refl marked at in
+      let known = part_known q g marked at in
       let norm_is : is_sorted named [] (norm_of true g.form) ≡ true = grown_fits v named named_grows (norm_of true g.form) [] (norm_fits v g.form true [] ready.fits) in
       let made : is_sorted named [] (skolemized (norm_of true g.form) next) ≡ true = made_fits named (norm_of true g.form) next 0 [] [] [] Var refl refl (record { sorted = no_images named }) known norm_is in
-      sym (form_alike named renamed refl (like_behind v.symbols (symbols_in (skolems_from (length v.symbols) es)) (functions_from prefix 1 es) (functions_like prefix 1 (length v.symbols) es)) (skolemized (norm_of true g.form) next) []) ∙ made
+      sym (form_alike named renamed refl named_alike (skolemized (norm_of true g.form) next) []) ∙ made
