@@ -7,3 +7,4 @@ mod Fitting
 mod Inferences
 mod Applying
 mod Cases
+mod Proofs

@@ -2,3 +2,4 @@ pub mod Sure
 pub mod Applied
 pub mod Stepping
 pub mod Members
+pub mod Cases

@@ -12,12 +12,16 @@ ghost use Rattle.limited_items.specs.Room as limited;
 ghost use Rattle.limited_items.specs.Sources.{forms_given};
 ghost use Rattle.verifier.specs.Claim.{IsJustified, default_word};
 ghost use Rattle.verifier.specs.declared.claim.Claim.{Claim};
-ghost use Rattle.derivation_order.specs.Graphs.{IsGraphOf};
+ghost use Rattle.derivation_order.specs.Graphs.{AreNames, IsGraphOf};
+ghost use Rattle.derivation_follows.specs.Cases.{IsReadAs};
+ghost use Rattle.derivation_items.specs.Words.{Text};
+ghost use Rattle.limited_items.specs.Limits.{AreWithin};
+ghost use Rattle.tptp_base.specs.declared.item.Item.{Item};
 ghost use Rattle.derivation_follows.specs.Stepping.{StepsApply, StepsOfKindApply};
 ghost use Rattle.derivation_follows.specs.Members.{AreFit, AreFitInputs};
 ghost use Rattle.derivation_items.specs.declared.line.ProofLine.{ProofLine};
 ghost use Rattle.limited_items.specs.Premises.{HaveSmallPremises};
-ghost use Rattle.problem_proofs.specs.Found.{refutation_by};
+ghost use Rattle.problem_proofs.specs.Found.{refutation_by, vocabulary_of};
 ghost use Rattle.problem_proofs.specs.Posed.{with_functions};
 ghost use Rattle.fof_terms.specs.declared.form.Form.{Form as Formula};
 ghost use Rattle.fof_terms.specs.Vocabulary.{Vocabulary};
@@ -103,4 +107,17 @@ pub fn needed_members_are_fit()
         → (f : IsFound v given limit d) → (w : Vocabulary)
         → AreFitInputs (with_functions v given) w (refutation_by v given f.members f.last) f.derivation.needed
         → AreFit (with_functions v given) w (refutation_by v given f.members f.last) f.derivation.needed }
+{}
+
+/// So it is with the items of a derivation that is found, within the limits: where the printed text is read as these items,
+/// but for their places, with the formulas of the lines, and some rule gives each step over the vocabulary of the
+/// derivation, it cannot be refuted that the case is good.
+pub fn a_printed_derivation_makes_a_good_case()
+    ensures { (v : Vocabulary) (given : List Entry) (limit : ℕ) (d : Found) → length given < 2 ^ 64 → limit < 2 ^ 32
+        → AreNames given → IsFound v given limit d → (file : Text) (items : List Item)
+        → AreWithin file (vocabulary_of v d) (length v.symbols) given d.lines items
+        → StepsApply (vocabulary_of v d) given d.lines → (asked : Asked) (t : Statements) (checked : Checked)
+        → t.formulas ≡ forms_given given → IsReadAs given d.lines items checked
+        → claimed asked.output ≡ Some (default_word asked.has_conjecture)
+        → IsSure (IsGoodCase asked t checked (vocabulary_of v d)) }
 {}
