@@ -15,7 +15,7 @@ use Rattle.tstp_graph.specs.declared.lines.TheConstants.{MOST_FORMULAS}
 use Rattle.tstp_graph.specs.declared.shape.Graph.{Graph}
 use Rattle.tstp_graph.specs.declared.shape.Node.{Node}
 use Rattle.tstp_graph.specs.Graphs.{IsGraph}
-use Rattle.tstp_graph.specs.Lines.{formula_of, is_formula, names_in, with_formula_name}
+use Rattle.tstp_graph.specs.Lines.{is_formula, names_in, with_formula_name}
 use Rattle.tstp_graph.specs.Meaning.{Means, first_unknown, means_of, parents}
 use Rattle.tstp_graph.specs.Nodes.{before, known_line, line_answer, node_of, nodes_from, nodes_of, read_line}
 use Rattle.tstp_graph.specs.Sources.{Source, source_of}

@@ -1,14 +1,13 @@
 -- The formulas that nodes refer to are those that sources name.
-use Rattle.std.specs.Prelude.{ℕ, zero, suc, ◌≡◌, ◌⊎◌, ◌<◌, ◌≤◌, ◌+◌, Bool, true, false, if◌then◌else◌, List, [], ◌∷◌, ◌++◌, length, map, drop, take, Option, Some, None, slice_get, codes, refl}
-use Rattle.std.specs.List.{AllZip, Contains, filter, flat_map}
+use Rattle.std.specs.Prelude.{ℕ, zero, suc, ◌≡◌, ◌<◌, ◌+◌, Bool, true, false, if◌then◌else◌, List, [], ◌∷◌, ◌++◌, length, map, take, Option, Some, slice_get, refl}
+use Rattle.std.specs.List.{AllZip, filter, flat_map}
 use Rattle.std.specs.Option.{option_map}
 use Rattle.std.specs.Str.{bytes_eq}
 use Rattle.std.proofs.Common.{ap, sym, subst, ◌∙◌, arith, inl, inr, append_assoc}
 use Rattle.std.proofs.lemmas.Bool.{cases_Bool, cases_order, cond-true, cond-false, false_from_ne_true}
-use Rattle.std.proofs.lemmas.List.{append-nil, length-append, take-append-drop}
-use Rattle.std.proofs.lemmas.Option.{slice_get-map, slice_get_within}
+use Rattle.std.proofs.lemmas.List.{append-nil, length-append}
+use Rattle.std.proofs.lemmas.Option.{slice_get-map}
 use Rattle.std.proofs.lemmas.Slice.Eq.{bytes_eq-Decides}
-use Rattle.inference_proofs.proofs.Kept.{get_first, get_second}
 use Rattle.fof_terms.specs.declared.form.Form.{Form}
 use Rattle.clause_form.specs.Paths.{forms_of}
 use Rattle.sort_check.specs.declared.line.GivenEntry.{GivenEntry}
@@ -21,15 +20,15 @@ use Rattle.tstp_graph.specs.declared.shape.Ref.TheVariants as ref
 use Rattle.tstp_graph.specs.Meaning.{is_some_ref}
 use Rattle.tstp_graph.specs.Tables.{places, places_from, same_name}
 use Rattle.verifier.specs.Good.{cited_form, cited_forms, without_numbers}
-use Rattle.verifier.specs.Lines.{both, candidates_of, given_from, numbered, sources_of}
+use Rattle.verifier.specs.Lines.{both, candidates_of, given_from, sources_of}
 use Rattle.limited_items.specs.Sources.{candidates, forms_given, given_named, is_unknown, lines_named, source_forms}
 use Rattle.derivation_items.specs.Words.{Text}
 use Rattle.derivation_items.specs.declared.line.LineSource.{LineSource}
 use Rattle.derivation_items.specs.declared.line.LineSource.TheVariants.{Given, Skolemized, ClauseOf, Inferred}
 use Rattle.derivation_items.specs.declared.line.ProofLine.{ProofLine}
 use Rattle.derivation_order.specs.Cited.{HasSources, forms_in}
-use Rattle.derivation_order.specs.Graphs.{AreNodesFrom, AreRefs, IsGraphOf, IsNodeOf, RefersTo, is_given, names_of, refs_named}
-use Rattle.derivation_order.specs.Links.{AreLinked, AreLinkedBehind, AreNamesIn, DifferByName, IsFrom, IsLinked, IsNameIn}
+use Rattle.derivation_order.specs.Graphs.{AreNodesFrom, IsGraphOf, IsNodeOf, RefersTo, names_of, refs_named}
+use Rattle.derivation_order.specs.Links.{AreLinked, AreNamesIn, DifferByName, IsFrom, IsLinked, IsNameIn}
 use Rattle.derivation_order.proofs.Behind.{each_at}
 use Rattle.derivation_order.proofs.Chosen.{at_taken, taken_at}
 use Rattle.derivation_order.proofs.Naming.{one_name}

@@ -1,5 +1,5 @@
 -- A derivation that is found is one of a sound refutation.
-use Rattle.std.specs.Prelude.{ℕ, zero, suc, ◌≡◌, ◌⊎◌, ◌<◌, ◌≤◌, ◌+◌, ◌^◌, ◌||◌, nat_lt, Bool, true, false, List, [], ◌∷◌, ◌++◌, length, map, take, replicate, min, Some, slice_get, refl}
+use Rattle.std.specs.Prelude.{ℕ, zero, suc, ◌≡◌, ◌<◌, ◌≤◌, ◌+◌, ◌^◌, ◌||◌, nat_lt, List, [], ◌∷◌, length, take, replicate, Some, slice_get}
 use Rattle.std.specs.List.{list_any}
 use Rattle.std.proofs.Common.{ap, sym, subst, ◌∙◌, arith, inl, inr}
 use Rattle.std.proofs.lemmas.Bool.{or_parts, ltb-false}
@@ -21,13 +21,12 @@ use Rattle.step_clauses.specs.Wide.{is_heavy, is_large}
 use Rattle.given_parts.specs.declared.part.Part.{Part}
 use Rattle.given_parts.specs.Owners.{owners_from}
 use Rattle.given_parts.specs.Parts.{part_of, parts_of}
-use Rattle.refutation_lines.specs.Derivations.{derivation_by}
 use Rattle.refutation_lines.specs.Lines.{lines_of}
 use Rattle.refutation_lines.specs.Plans.{Refutation, owners_in, plan_of}
 use Rattle.refutation_lines.specs.declared.derivation.Derivation.{Derivation}
 use Rattle.refutation_lines.proofs.PlanFacts.{owners_count}
 use Rattle.problem_proofs.specs.Found.{IsFound, refutation_by}
-use Rattle.problem_proofs.specs.Posed.{clauses_of_given, falsehood, is_too_wide, parents_of, with_functions}
+use Rattle.problem_proofs.specs.Posed.{clauses_of_given, falsehood, parents_of, with_functions}
 use Rattle.problem_proofs.proofs.PosedFacts.{clauses_are}
 use Rattle.derivation_order.specs.Links.{AreLinked}
 use Rattle.derivation_order.proofs.Linked.{linked_lines}

@@ -1,15 +1,14 @@
 -- The graph of a derivation's items.
-use Rattle.std.specs.Prelude.{ℕ, zero, suc, ◌≡◌, ◌<◌, ◌≤◌, ◌+◌, ⊤, not, Bool, true, false, if◌then◌else◌, List, [], ◌∷◌, ◌++◌, length, map, count_by, Option, Some, None, Result, Ok, Err, slice_get, codes, refl}
-use Rattle.std.specs.List.{AllByRecursion, AllZip, Contains, list_any, range_with_len}
+use Rattle.std.specs.Prelude.{ℕ, suc, ◌≡◌, ◌+◌, Bool, true, false, if◌then◌else◌, List, [], ◌∷◌, ◌++◌, length, map, Option, Some, None, Result, Ok, Err, codes, refl}
+use Rattle.std.specs.List.{AllByRecursion, AllZip, range_with_len}
 use Rattle.std.proofs.Common.{ap, sym, subst, ◌∙◌, arith, inl, inr, append_assoc}
-use Rattle.std.proofs.lemmas.List.{append-nil, length-append}
+use Rattle.std.proofs.lemmas.List.{length-append}
 use Rattle.std.proofs.lemmas.List.Sums.{count_by-le-length}
 use Rattle.std.proofs.lemmas.Bool.{cond-false}
 use Rattle.inference_proofs.proofs.Kept.{has_split}
 use Rattle.fof_terms.specs.Vocabulary.{Vocabulary}
 use Rattle.fof_terms.specs.declared.form.Form.{Form}
 use Rattle.sort_check.specs.declared.line.GivenEntry.{GivenEntry}
-use Rattle.tptp_base.specs.Roles.{is_typing}
 use Rattle.tptp_base.specs.declared.name.Name.{Name}
 use Rattle.tptp_base.specs.declared.name.Name.TheVariants as name
 use Rattle.tptp_base.specs.declared.item.Annotated.{Annotated}
@@ -21,32 +20,30 @@ use Rattle.tptp_base.specs.declared.item.Lang.TheVariants.{Tff}
 use Rattle.tptp_base.specs.declared.item.Role.TheVariants as role
 use Rattle.tptp_base.specs.declared.item.Typing.{Typing}
 use Rattle.tptp_base.specs.declared.surface.Surface.{Surface}
-use Rattle.tstp_graph.specs.declared.cite.Cite.{Cite}
 use Rattle.tstp_graph.specs.declared.cite.Cite.TheVariants.{Filed}
 use Rattle.tstp_graph.specs.declared.fault.GraphFault.{GraphFault}
 use Rattle.tstp_graph.specs.declared.fault.GraphFault.TheVariants.{DuplicateLine}
-use Rattle.tstp_graph.specs.declared.lines.TheConstants.{MOST_FORMULAS}
 use Rattle.tstp_graph.specs.declared.shape.Graph.{Graph}
 use Rattle.tstp_graph.specs.declared.shape.Node.{Node}
 use Rattle.tstp_graph.specs.declared.shape.Ref.{Ref}
 use Rattle.tstp_graph.specs.declared.shape.Ref.TheVariants as ref
 use Rattle.tstp_graph.specs.Graphs.{IsGraph}
 use Rattle.tstp_graph.specs.Lines.{IsOverLimit, formula_of, is_formula, names_in, with_formula_name}
-use Rattle.tstp_graph.specs.Meaning.{Means, first_unknown, means_of, parents}
+use Rattle.tstp_graph.specs.Meaning.{Means, means_of, parents}
 use Rattle.tstp_graph.specs.Nodes.{before, known_line, line_answer, node_of, nodes_from, nodes_of, read_line}
-use Rattle.tstp_graph.specs.Sources.{Source, cited, source_of}
+use Rattle.tstp_graph.specs.Sources.{cited, source_of}
 use Rattle.tstp_graph.specs.Tables.{places, places_from, same_name}
-use Rattle.derivation_items.specs.Items.{first_place, line_item_of, typing_item, typing_items}
+use Rattle.derivation_items.specs.Items.{first_place, typing_items}
 use Rattle.derivation_items.specs.Sources.{inference_term, source_term}
 use Rattle.derivation_items.specs.Typings.{typings_of}
 use Rattle.derivation_items.specs.Words.{Text, numbered_word, printable_text}
 use Rattle.derivation_items.specs.declared.line.LineSource.{LineSource}
 use Rattle.derivation_items.specs.declared.line.LineSource.TheVariants.{Given, Skolemized, ClauseOf, Inferred}
 use Rattle.derivation_items.specs.declared.line.ProofLine.{ProofLine}
-use Rattle.limited_items.specs.Limits.{AreWithin, formula_count}
-use Rattle.limited_items.specs.Printed.{ArePrinted, IsPrinted}
-use Rattle.derivation_order.specs.Graphs.{AreNames, AreNodesFrom, IsGraphOf, IsName, IsNodeOf, names_of, refs_named}
-use Rattle.derivation_order.specs.Links.{AreLinked, AreLinkedBehind, AreNamesIn, IsFrom, IsLinked, IsNameIn, IsOfLine}
+use Rattle.limited_items.specs.Limits.{AreWithin}
+use Rattle.limited_items.specs.Printed.{IsPrinted}
+use Rattle.derivation_order.specs.Graphs.{AreNames, AreNodesFrom, IsGraphOf, IsName, IsNodeOf, RefersTo, names_of, refs_named}
+use Rattle.derivation_order.specs.Links.{AreLinked, AreLinkedBehind, AreNamesIn, IsFrom, IsNameIn, IsOfLine}
 use Rattle.derivation_order.proofs.Naming.{one_name, one_of_names, only_line, unnamed_nowhere}
 use Rattle.derivation_order.proofs.Nodes.{AreMeant, all_meant, filed_refs, fresh_name, map_joined, other_text, word_name, word_names}
 use Rattle.derivation_order.proofs.Order.{AreBefore, IsBefore, in_order_of_lines, none_left}
@@ -142,6 +139,21 @@ module _ (file : Text) (v : Vocabulary) (given : List GivenEntry) (numerals : Ar
   words_meant earlier rest whole own words names =
       all_meant given means all lines_mean given_mean earlier rest whole words [] names (λ w h. types_mean w (own w (one_of_names earlier words names w h))) (λ w h k line at is. refl)
 
+  -- the node of a line that is inferred from lines of these words
+  step_node : (earlier rest : List ProofLine) → all ≡ earlier ++ rest → AreOwned earlier → (at : ℕ) (line : ProofLine) (formula : Surface) (rule status : Text) (words : List Text) → source_term (printable_text file) line.source ≡ inference_term rule status words
+      → ((refs : List Ref) → AllZip (RefersTo all) words refs → IsNodeOf given all at line.source (node_of at true refs)) → (IsNameIn earlier line.name → ⊥) → AreNamesIn earlier words → HasNode earlier at line formula
+  step_node earlier rest whole own at line formula rule status words told is new names =
+      let m = words_meant earlier rest whole own words names in
+      record {
+        node = node_of at true m.refs;
+        answer =
+            fresh earlier at line formula new ∙ ap (λ (term : GTerm). read_line means at (line_of file line formula) (source_of (Some term))) told
+            ∙ ap (read_line means at (line_of file line formula)) (inference_read rule status words (known_words earlier own words names))
+            ∙ step_answer earlier rest at (line_of file line formula) words m;
+        is = is m.refs m.refer;
+        before_it = m.before;
+      }
+
   node_by : (earlier rest : List ProofLine) → all ≡ earlier ++ rest → AreOwned earlier → (at : ℕ) (n : Text) (form : Form) (formula : Surface) (source : LineSource) → (IsNameIn earlier n → ⊥) → IsFrom given earlier form source
       → HasNode earlier at (record { name = n; form = form; source = source }) formula
   node_by earlier rest whole own at n form formula (Given one) new from =
@@ -154,40 +166,11 @@ module _ (file : Text) (v : Vocabulary) (given : List GivenEntry) (numerals : Ar
         before_it = subst (AllByRecursion (IsBefore (length earlier))) (sym (filed_refs given means all lines_mean given_mean one)) (named_before (length earlier) given one);
       }
   node_by earlier rest whole own at n form formula (Skolemized word) new from =
-      let line : ProofLine = record { name = n; form = form; source = Skolemized word } in
-      let names : AreNamesIn earlier (word ∷ []) = one_name earlier word from in
-      let m = words_meant earlier rest whole own (word ∷ []) names in
-      record {
-        node = node_of at true m.refs;
-        answer =
-            fresh earlier at line formula new ∙ ap (read_line means at (line_of file line formula)) (inference_read (codes "skolemize") (codes "esa") (word ∷ []) (known_words earlier own (word ∷ []) names))
-            ∙ step_answer earlier rest at (line_of file line formula) (word ∷ []) m;
-        is = record { at = refl; leaf = refl; cited = refl; parents = m.refer };
-        before_it = m.before;
-      }
+      step_node earlier rest whole own at (record { name = n; form = form; source = Skolemized word }) formula (codes "skolemize") (codes "esa") (word ∷ []) refl (λ refs refer. record { at = refl; leaf = refl; cited = refl; parents = refer }) new (one_name earlier word from)
   node_by earlier rest whole own at n form formula (ClauseOf word) new from =
-      let line : ProofLine = record { name = n; form = form; source = ClauseOf word } in
-      let names : AreNamesIn earlier (word ∷ []) = one_name earlier word from in
-      let m = words_meant earlier rest whole own (word ∷ []) names in
-      record {
-        node = node_of at true m.refs;
-        answer =
-            fresh earlier at line formula new ∙ ap (read_line means at (line_of file line formula)) (inference_read (codes "clause") (codes "thm") (word ∷ []) (known_words earlier own (word ∷ []) names))
-            ∙ step_answer earlier rest at (line_of file line formula) (word ∷ []) m;
-        is = record { at = refl; leaf = refl; cited = refl; parents = m.refer };
-        before_it = m.before;
-      }
+      step_node earlier rest whole own at (record { name = n; form = form; source = ClauseOf word }) formula (codes "clause") (codes "thm") (word ∷ []) refl (λ refs refer. record { at = refl; leaf = refl; cited = refl; parents = refer }) new (one_name earlier word from)
   node_by earlier rest whole own at n form formula (Inferred words) new from =
-      let line : ProofLine = record { name = n; form = form; source = Inferred words } in
-      let m = words_meant earlier rest whole own words from in
-      record {
-        node = node_of at true m.refs;
-        answer =
-            fresh earlier at line formula new ∙ ap (read_line means at (line_of file line formula)) (inference_read (codes "infer") (codes "thm") words (known_words earlier own words from))
-            ∙ step_answer earlier rest at (line_of file line formula) words m;
-        is = record { at = refl; leaf = refl; cited = refl; parents = m.refer };
-        before_it = m.before;
-      }
+      step_node earlier rest whole own at (record { name = n; form = form; source = Inferred words }) formula (codes "infer") (codes "thm") words refl (λ refs refer. record { at = refl; leaf = refl; cited = refl; parents = refer }) new from
 
   -- ---- the nodes of lines
 

@@ -1,27 +1,26 @@
 -- The lines of a refutation's derivation are linked.
-use Rattle.std.specs.Prelude.{ℕ, zero, suc, ◌≡◌, ◌⊎◌, ◌<◌, ◌≤◌, ◌+◌, ◌^◌, Bool, true, false, if◌then◌else◌, List, [], ◌∷◌, ◌++◌, length, map, get_or, take, Option, Some, None, slice_get, codes, refl}
+use Rattle.std.specs.Prelude.{ℕ, ◌≡◌, ◌<◌, ◌≤◌, ◌+◌, ◌^◌, Bool, true, false, if◌then◌else◌, List, [], ◌∷◌, ◌++◌, length, map, get_or, take, Option, Some, slice_get, codes, refl}
 use Rattle.std.proofs.Common.{ap, sym, subst, ◌∙◌, arith, inl, inr}
 use Rattle.std.proofs.lemmas.Bool.{cases_Bool}
 use Rattle.std.proofs.lemmas.List.{length-map}
 use Rattle.std.proofs.lemmas.List.FromFn.{length-map-range_with_len}
-use Rattle.std.proofs.lemmas.Option.{slice_get_within, slice_get-get_or, slice_get-map, get_or_from_slice_get}
+use Rattle.std.proofs.lemmas.Option.{slice_get_within, slice_get-map}
 use Rattle.std.specs.Option.{option_map}
-use Rattle.inference_proofs.proofs.Kept.{Has, image_from, has_image}
+use Rattle.inference_proofs.proofs.Kept.{Has, image_from}
 use Rattle.clause_form.specs.declared.clause.Clause.{Clause}
-use Rattle.fof_terms.specs.declared.form.Form.{Form, Or}
+use Rattle.fof_terms.specs.declared.form.Form.{Or}
 use Rattle.sort_check.specs.declared.line.GivenEntry.{GivenEntry}
 use Rattle.saturation.specs.declared.member.Member.{Member}
 use Rattle.saturation.specs.declared.member.Origin.{Origin}
 use Rattle.saturation.specs.declared.member.Origin.TheVariants.{Input, Inferred}
-use Rattle.search_proofs.specs.Needed.{IsMarked, IsNamed, Names}
+use Rattle.search_proofs.specs.Needed.{IsMarked, Names}
 use Rattle.derivation_items.specs.Words.{Text}
 use Rattle.derivation_items.specs.declared.line.LineSource.{LineSource}
 use Rattle.derivation_items.specs.declared.line.ProofLine.{ProofLine}
 use Rattle.given_parts.specs.declared.part.Part.{Part}
 use Rattle.given_parts.specs.Chosen.{chosen_from}
 use Rattle.given_parts.specs.Parts.{part_of, parts_of}
-use Rattle.refutation_lines.specs.declared.plan.Plan.{Plan}
-use Rattle.refutation_lines.specs.Lines.{given_lines, skolem_line, skolem_lines, input_lines, inferred_lines, lines_of_member, clause_line, source_of, source_of_input, source_of_parents, last_line, lines_of}
+use Rattle.refutation_lines.specs.Lines.{given_lines, skolem_line, skolem_lines, input_lines, inferred_lines, lines_of_member, clause_line, source_of, source_of_input, last_line, lines_of}
 use Rattle.refutation_lines.specs.Names.{given_name, skolem_name, clause_name, has_some, has_functions, opened_name}
 use Rattle.refutation_lines.specs.Needs.{prints_input}
 use Rattle.refutation_lines.specs.Places.{in_order, is_inferred}
@@ -30,8 +29,8 @@ use Rattle.derivation_order.specs.Links.{AreLinked, AreLinkedBehind, AreNamesIn,
 use Rattle.derivation_order.proofs.Behind.{each_append, each_chosen, each_if}
 use Rattle.derivation_order.proofs.Chosen.{at_taken, has_given, something_at, taken_at}
 use Rattle.derivation_order.proofs.Marked.{IsSound, Reaches, given_is, has_member, input_is, input_printed, last_used, member_is, owner_used, skolem_is}
-use Rattle.derivation_order.proofs.Naming.{IsSuch, named_has, named_left, named_right, names_in_order, such, unnamed, unnamed_nowhere}
-use Rattle.derivation_order.proofs.Ranks.{place_input, place_least, place_less, place_most, rank_least, rank_less, rank_most}
+use Rattle.derivation_order.proofs.Naming.{named_has, named_left, named_right, names_in_order, such, unnamed}
+use Rattle.derivation_order.proofs.Ranks.{place_input, place_less, place_within, rank_less, rank_within}
 use Rattle.derivation_order.proofs.Words.{clause_own, given_own, last_own, other_letter, same_number, skolem_own}
 
 module _ (r : Refutation) (needed : List Bool) (s : IsSound r needed) where
@@ -184,7 +183,7 @@ module _ (r : Refutation) (needed : List Bool) (s : IsSound r needed) where
   rank_fits : (i : ℕ) → i ≤ length r.inputs → get_or (ranks_in r needed) i 0 < 2 ^ 64
   rank_fits i le =
       let long = printed_long in
-      let most = rank_most 0 (printed_in r needed) i (omega arith) in
+      let most = (rank_within 0 (printed_in r needed) i (omega arith)).1 in
       let few = s.few_clauses in
       omega arith
 
@@ -236,8 +235,8 @@ module _ (r : Refutation) (needed : List Bool) (s : IsSound r needed) where
       let long = needed_long in
       let fits = slice_get_within r.members j m at in
       let printed = printed_long in
-      let start = rank_most 0 (printed_in r needed) (length r.inputs) (omega arith) in
-      let most = place_most (ranks_in r needed) first needed r.members j m (omega arith) at inferred in
+      let start = (rank_within 0 (printed_in r needed) (length r.inputs) (omega arith)).1 in
+      let most = (place_within (ranks_in r needed) first needed r.members j m (omega arith) at inferred).1 in
       let few = s.few_clauses in
       omega arith
 
@@ -302,7 +301,7 @@ module _ (r : Refutation) (needed : List Bool) (s : IsSound r needed) where
       let lt = slice_get_within r.inputs i c there in
       let fits = slice_get_within r.members j m at in
       let less = rank_less 0 (printed_in r needed) i (length r.inputs) marked lt (omega arith) in
-      let least = place_least (ranks_in r needed) first needed r.members j m (omega arith) at inferred in
+      let least = (place_within (ranks_in r needed) first needed r.members j m (omega arith) at inferred).0 in
       let same = same_number 99 (get_or (ranks_in r needed) i 0) (place j) (rank_fits i (omega arith)) (place_fits j m at inferred) e in
       omega arith)))
       (among_members (take j needed) (take j r.members) (clause_name (place j)) (λ x i marked there own e.

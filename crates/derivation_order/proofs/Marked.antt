@@ -1,7 +1,7 @@
 -- The lines of each kind, their names and what they are from.
-use Rattle.std.specs.Prelude.{ℕ, zero, suc, ◌≡◌, ◌⊎◌, ◌<◌, ◌≤◌, ◌+◌, ◌^◌, ◌==◌, Bool, true, false, if◌then◌else◌, List, [], ◌∷◌, ◌++◌, length, map, get_or, take, Option, Some, None, slice_get, codes, refl}
-use Rattle.std.specs.List.{list_any, range_with_len}
-use Rattle.std.proofs.Common.{ap, sym, subst, ◌∙◌, arith, inl, inr, eq-eqb}
+use Rattle.std.specs.Prelude.{ℕ, ◌≡◌, ◌⊎◌, ◌<◌, ◌+◌, ◌^◌, ◌==◌, Bool, true, false, if◌then◌else◌, List, [], ◌∷◌, ◌++◌, length, get_or, Some, slice_get, refl}
+use Rattle.std.specs.List.{list_any}
+use Rattle.std.proofs.Common.{ap, sym, ◌∙◌, arith, inl, inr, eq-eqb}
 use Rattle.std.proofs.lemmas.Bool.{or_left, or_right}
 use Rattle.std.proofs.lemmas.List.Folds.{list_any-append, list_any_at}
 use Rattle.std.proofs.lemmas.List.FromFn.{length-map-range_with_len, get_or-map-range_with_len}
@@ -12,8 +12,7 @@ use Rattle.sort_check.specs.declared.line.GivenEntry.{GivenEntry}
 use Rattle.saturation.specs.declared.member.Member.{Member}
 use Rattle.saturation.specs.declared.member.Origin.{Origin}
 use Rattle.saturation.specs.declared.member.Origin.TheVariants.{Input, Inferred}
-use Rattle.search_proofs.specs.Needed.{AreNeeded, IsMarked, Names}
-use Rattle.derivation_items.specs.Words.{Text}
+use Rattle.search_proofs.specs.Needed.{AreNeeded, IsMarked}
 use Rattle.derivation_items.specs.declared.line.ProofLine.{ProofLine}
 use Rattle.given_parts.specs.declared.part.Part.{Part}
 use Rattle.given_parts.specs.Chosen.{chosen_from}
@@ -22,7 +21,7 @@ use Rattle.refutation_lines.specs.Lines.{given_lines, skolem_line, skolem_lines,
 use Rattle.refutation_lines.specs.Names.{given_name, skolem_name, clause_name, has_some}
 use Rattle.refutation_lines.specs.Needs.{each_below, is_input, prints_input, uses_part, owner_of}
 use Rattle.refutation_lines.specs.Places.{is_inferred}
-use Rattle.refutation_lines.specs.Plans.{Refutation, owners_in, plan_of, printed_in, used_in}
+use Rattle.refutation_lines.specs.Plans.{Refutation, owners_in, printed_in, used_in}
 use Rattle.derivation_order.proofs.Chosen.{has_given}
 use Rattle.derivation_order.proofs.Naming.{only_line}
 
@@ -105,28 +104,31 @@ module _ (r : Refutation) (needed : List Bool) (s : IsSound r needed) where
         | inr later ↦ or_right (list_any p xs) (list_any p ys) later
       ]
 
+  -- the numbers of the parts of inputs that are printed, and that of the last clause's
+  abbrev of_printed : List ℕ
+  of_printed = chosen_from 0 (λ (k : ℕ) (x : ℕ). x ∷ []) (printed_in r needed) (owners_in r)
+
+  abbrev of_last : List ℕ
+  of_last = owner_of (owners_in r) r.last.origin
+
+  abbrev IsUsedPart : ℕ → Type 0
+  IsUsedPart o = (o < length r.given) × (slice_get (used_in r needed) o ≡ Some true)
+
+  -- the part of an input is used where its number is among these
+  part_used : (i o : ℕ) → slice_get (owners_in r) i ≡ Some o → (list_any (λ (x : ℕ). x == o) of_printed ≡ true) ⊎ (list_any (λ (x : ℕ). x == o) of_last ≡ true) → IsUsedPart o
+  part_used i o own among =
+      let fits : o < length r.given = s.owners i o own in
+      (fits, below_at (uses_part (owners_in r) (printed_in r needed) r.last.origin) (length r.given) o fits (any_of_both (λ (x : ℕ). x == o) of_printed of_last among))
+
   -- the part of a printed input is used
-  pub owner_used : (i : ℕ) → i < length r.inputs → slice_get (printed_in r needed) i ≡ Some true → (get_or (owners_in r) i 0 < length r.given) × (slice_get (used_in r needed) (get_or (owners_in r) i 0) ≡ Some true)
+  pub owner_used : (i : ℕ) → i < length r.inputs → slice_get (printed_in r needed) i ≡ Some true → IsUsedPart (get_or (owners_in r) i 0)
   owner_used i lt printed =
       let own = owner_at i lt in
-      let fits : get_or (owners_in r) i 0 < length r.given = s.owners i (get_or (owners_in r) i 0) own in
-      let o = get_or (owners_in r) i 0 in (
-        fits,
-        below_at (uses_part (owners_in r) (printed_in r needed) r.last.origin) (length r.given) o fits
-            (any_of_both (λ (x : ℕ). x == o) (chosen_from 0 (λ (k : ℕ) (x : ℕ). x ∷ []) (printed_in r needed) (owners_in r)) (owner_of (owners_in r) r.last.origin)
-            (inl (any_in (λ (x : ℕ). x == o) (chosen_from 0 (λ (k : ℕ) (x : ℕ). x ∷ []) (printed_in r needed) (owners_in r)) o
-            (has_given (λ (k : ℕ) (x : ℕ). x ∷ []) 0 (printed_in r needed) (owners_in r) i o o printed own (0, refl))
-            (eq-eqb o o refl)))),
-      )
+      let o = get_or (owners_in r) i 0 in
+      part_used i o own (inl (any_in (λ (x : ℕ). x == o) of_printed o (has_given (λ (k : ℕ) (x : ℕ). x ∷ []) 0 (printed_in r needed) (owners_in r) i o o printed own (0, refl)) (eq-eqb o o refl)))
 
   -- so is that of the last clause, where it is an input
-  pub last_used : (i : ℕ) → r.last.origin ≡ Input i → i < length r.inputs → (get_or (owners_in r) i 0 < length r.given) × (slice_get (used_in r needed) (get_or (owners_in r) i 0) ≡ Some true)
+  pub last_used : (i : ℕ) → r.last.origin ≡ Input i → i < length r.inputs → IsUsedPart (get_or (owners_in r) i 0)
   last_used i e lt =
-      let own = owner_at i lt in
-      let fits : get_or (owners_in r) i 0 < length r.given = s.owners i (get_or (owners_in r) i 0) own in
-      let o = get_or (owners_in r) i 0 in (
-        fits,
-        below_at (uses_part (owners_in r) (printed_in r needed) r.last.origin) (length r.given) o fits
-            (any_of_both (λ (x : ℕ). x == o) (chosen_from 0 (λ (k : ℕ) (x : ℕ). x ∷ []) (printed_in r needed) (owners_in r)) (owner_of (owners_in r) r.last.origin)
-            (inr (ap (λ (x : Origin). list_any (λ (y : ℕ). y == o) (owner_of (owners_in r) x)) e ∙ or_left (o == o) false (eq-eqb o o refl)))),
-      )
+      let o = get_or (owners_in r) i 0 in
+      part_used i o (owner_at i lt) (inr (ap (λ (x : Origin). list_any (λ (y : ℕ). y == o) (owner_of (owners_in r) x)) e ∙ or_left (o == o) false (eq-eqb o o refl)))

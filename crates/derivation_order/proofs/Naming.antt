@@ -1,7 +1,7 @@
 -- Names among lines.
-use Rattle.std.specs.Prelude.{ℕ, zero, suc, ◌≡◌, ◌⊎◌, ◌<◌, ◌+◌, ◌^◌, ◌==◌, nat_lt, Bool, true, false, if◌then◌else◌, List, [], ◌∷◌, ◌++◌, length, map, get_or, Some, slice_get, codes, refl}
+use Rattle.std.specs.Prelude.{ℕ, zero, suc, ◌≡◌, ◌⊎◌, ◌<◌, ◌+◌, ◌^◌, Bool, true, List, [], ◌∷◌, ◌++◌, length, map, get_or, Some, slice_get, refl}
 use Rattle.std.specs.List.{Contains}
-use Rattle.std.proofs.Common.{ap, sym, subst, ◌∙◌, arith, inl, inr}
+use Rattle.std.proofs.Common.{sym, subst, arith, inl, inr}
 use Rattle.std.proofs.lemmas.Bool.{cases_order}
 use Rattle.std.proofs.lemmas.List.Elements.{Contains-append_cases, Contains-push_cases}
 use Rattle.inference_proofs.proofs.Kept.{Has, has_before, has_behind, has_split}
@@ -12,7 +12,7 @@ use Rattle.refutation_lines.specs.Names.{clause_name}
 use Rattle.refutation_lines.specs.Places.{in_order}
 use Rattle.refutation_lines.proofs.PlaceFacts.{one_place, first_place_first, second_place_first}
 use Rattle.derivation_order.specs.Links.{IsNameIn, AreNamesIn}
-use Rattle.derivation_order.proofs.Chosen.{IsGivenBy, given_by}
+use Rattle.derivation_order.proofs.Chosen.{given_by}
 use Rattle.derivation_order.proofs.Words.{same_number}
 
 -- ---- among joined lines

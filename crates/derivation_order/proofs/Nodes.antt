@@ -1,32 +1,30 @@
 -- The nodes of lines that are linked.
-use Rattle.std.specs.Prelude.{ℕ, zero, suc, ◌≡◌, ◌⊎◌, ◌<◌, ◌≤◌, ◌+◌, ◌==◌, ◌||◌, ⊤, not, Bool, true, false, if◌then◌else◌, List, [], ◌∷◌, ◌++◌, length, map, Option, Some, None, Result, Ok, Err, slice_get, codes, refl}
+use Rattle.std.specs.Prelude.{ℕ, zero, suc, ◌≡◌, ◌<◌, ◌≤◌, ◌+◌, ◌==◌, ◌||◌, Bool, true, false, if◌then◌else◌, List, [], ◌∷◌, ◌++◌, length, map, Some, None, slice_get, codes, refl}
 use Rattle.std.specs.List.{AllByRecursion, AllZip, Contains, flat_map, list_any}
 use Rattle.std.specs.Str.{bytes_eq}
 use Rattle.std.proofs.Common.{ap, sym, subst, ◌∙◌, arith, inl, inr, append_assoc}
-use Rattle.std.proofs.lemmas.Bool.{cases_Bool, cases_eq, cond-true, cond-false, false_from_ne_true, ne_eqb, or_from, or_left, or_right, eqb-true}
-use Rattle.std.proofs.lemmas.List.{append-nil, length-append}
+use Rattle.std.proofs.lemmas.Bool.{cases_Bool, cond-true, cond-false, false_from_ne_true, ne_eqb, or_from, or_left, or_right}
+use Rattle.std.proofs.lemmas.List.{append-nil}
 use Rattle.std.proofs.lemmas.List.Folds.{list_any-append}
 use Rattle.std.proofs.lemmas.List.Elements.{Contains-append_left, Contains-append_right, Contains-push}
 use Rattle.std.proofs.lemmas.Option.{slice_get_within}
 use Rattle.std.proofs.lemmas.Slice.Eq.{bytes_eq-Decides}
-use Rattle.inference_proofs.proofs.Kept.{get_first, get_second}
+use Rattle.inference_proofs.proofs.Kept.{get_first}
 use Rattle.sort_check.specs.declared.line.GivenEntry.{GivenEntry}
 use Rattle.tptp_base.specs.declared.name.Name.{Name}
 use Rattle.tptp_base.specs.declared.name.Name.TheVariants as name
-use Rattle.tstp_graph.specs.declared.cite.Cite.{Cite}
 use Rattle.tstp_graph.specs.declared.cite.Cite.TheVariants.{Filed}
 use Rattle.tstp_graph.specs.declared.shape.Ref.{Ref}
 use Rattle.tstp_graph.specs.declared.shape.Ref.TheVariants as ref
-use Rattle.tstp_graph.specs.Meaning.{Means, first_unknown, is_known, is_some_place, meaning, named_refs, line_or_given, parents, same_ref, with_ref, with_refs}
+use Rattle.tstp_graph.specs.Meaning.{Means, first_unknown, is_known, is_some_place, meaning, named_refs, line_or_given, parents, same_ref, with_refs}
 use Rattle.tstp_graph.specs.Sources.{cited}
 use Rattle.tstp_graph.specs.Tables.{places, places_from, same_name}
 use Rattle.derivation_items.specs.Words.{Text}
-use Rattle.derivation_items.specs.declared.line.LineSource.{LineSource}
 use Rattle.derivation_items.specs.declared.line.ProofLine.{ProofLine}
 use Rattle.derivation_order.specs.Graphs.{RefersTo, names_of, refs_named}
-use Rattle.derivation_order.specs.Links.{AreNamesIn, IsNameIn, IsOfLine, StandsAt}
+use Rattle.derivation_order.specs.Links.{AreNamesIn, IsNameIn}
 use Rattle.derivation_order.proofs.Order.{IsBefore}
-use Rattle.derivation_order.proofs.Sourced.{IsKnownWord, named}
+use Rattle.derivation_order.proofs.Sourced.{named}
 
 -- ---- places of names
 

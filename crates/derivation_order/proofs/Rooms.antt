@@ -1,5 +1,5 @@
 -- Where there is room for the lines by what their sources name, there is room by what their nodes refer to.
-use Rattle.std.specs.Prelude.{ℕ, ◌≡◌, List, Some, length, slice_get, take}
+use Rattle.std.specs.Prelude.{ℕ, ◌≡◌, List, Some, length}
 use Rattle.std.proofs.Common.{ap, sym, subst, ◌∙◌}
 use Rattle.inference_proofs.proofs.Kept.{image_from}
 use Rattle.fof_terms.specs.Vocabulary.{Vocabulary}
@@ -13,7 +13,7 @@ use Rattle.verifier.specs.Good.{HaveRoom, cited_forms, without_numbers}
 use Rattle.verifier.specs.Lines.{sources_of}
 use Rattle.limited_items.specs.Sources.{forms_given}
 use Rattle.derivation_items.specs.declared.line.ProofLine.{ProofLine}
-use Rattle.derivation_order.specs.Cited.{HasSources, derivation_by, forms_in}
+use Rattle.derivation_order.specs.Cited.{derivation_by, forms_in}
 use Rattle.derivation_order.specs.Graphs.{IsGraphOf}
 use Rattle.derivation_order.specs.Links.{AreLinked}
 use Rattle.derivation_order.proofs.Cited.{sources_at}

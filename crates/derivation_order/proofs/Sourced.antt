@@ -1,25 +1,20 @@
 -- What the sources of lines are read as.
-use Rattle.std.specs.Prelude.{ℕ, ◌≡◌, ⊤, Bool, true, false, List, [], ◌∷◌, ◌++◌, map, Option, Some, None, codes, if◌then◌else◌, refl}
+use Rattle.std.specs.Prelude.{◌≡◌, Bool, true, false, List, [], ◌∷◌, map, Some, None, codes, if◌then◌else◌, refl}
 use Rattle.std.specs.List.{AllByRecursion}
 use Rattle.std.specs.Option.{option_map}
-use Rattle.std.proofs.Common.{ap, sym, subst, ◌∙◌}
-use Rattle.std.proofs.lemmas.Bool.{cond-true, cond-false}
-use Rattle.tptp_base.specs.Numerals.{is_integer}
+use Rattle.std.proofs.Common.{ap, ◌∙◌}
 use Rattle.tptp_base.specs.declared.name.Name.{Name}
 use Rattle.tptp_base.specs.declared.name.Name.TheVariants as name
-use Rattle.tptp_base.specs.declared.item.GTerm.{GTerm}
 use Rattle.tptp_base.specs.declared.item.GTerm.TheVariants as general
 use Rattle.tptp_base.specs.declared.item.GTerm.TheBlock.{hidden-the_row-GTerm-0}
 use denote.Hole.Carrier.{hidden}
 use Rattle.tstp_graph.specs.declared.cite.Cite.{Cite}
 use Rattle.tstp_graph.specs.declared.cite.Cite.TheVariants.{Named, Filed}
-use Rattle.tstp_graph.specs.Sources.{Source, both, cited, member, members, name_of, source_of}
+use Rattle.tstp_graph.specs.Sources.{both, cited, member, members, source_of}
 use Rattle.tstp_graph.specs.Words.{is_unknown, record_kind}
-use Rattle.derivation_items.specs.Sources.{inference_term, name_term, source_term}
+use Rattle.derivation_items.specs.Sources.{inference_term, name_term}
 use Rattle.derivation_items.specs.Words.{Text}
-use Rattle.derivation_items.specs.declared.line.LineSource.{LineSource}
-use Rattle.derivation_items.specs.declared.line.LineSource.TheVariants.{Given, Skolemized, ClauseOf, Inferred}
-use Rattle.derivation_order.specs.Graphs.{IsName, is_given}
+use Rattle.derivation_order.specs.Graphs.{IsName}
 
 abbrev pub named : Text → Cite
 named word = Named (name.Word word)

@@ -1,9 +1,8 @@
 -- The names of lines are told apart by their first letter and the number behind it.
-use Rattle.std.specs.Prelude.{ℕ, ◌≡◌, ◌<◌, ◌^◌, ◌++◌, List, [], ◌∷◌, codes, decimal, false, refl}
+use Rattle.std.specs.Prelude.{ℕ, ◌≡◌, ◌<◌, ◌^◌, [], ◌∷◌, codes, decimal, refl}
 use Rattle.std.proofs.Common.{arith}
 use Rattle.std.proofs.lemmas.Fmt.{decimal_injective}
-use Rattle.tstp_graph.specs.Words.{is_unknown}
-use Rattle.derivation_items.specs.Words.{Text, numbered_word}
+use Rattle.derivation_items.specs.Words.{Text}
 use Rattle.refutation_lines.specs.Names.{given_name, skolem_name, clause_name}
 use Rattle.derivation_order.specs.Links.{IsOfLine}
 

@@ -10,7 +10,6 @@ use Rattle.verifier.specs.Lines.{Derivation, sources_of}
 use Rattle.limited_items.specs.Sources.{forms_given, source_forms}
 use Rattle.derivation_items.specs.declared.line.ProofLine.{ProofLine}
 use Rattle.derivation_order.specs.Graphs.{is_given}
-use Rattle.derivation_order.specs.Links.{StandsAt}
 
 abbrev pub forms_in : List ProofLine → List Form
 forms_in lines = map (λ (l : ProofLine). l.form) lines

@@ -1,5 +1,5 @@
 -- The lines that the items of a derivation denote.
-use Rattle.std.proofs.Common.{◌≡◌, ℕ, suc, ◌+◌, ◌≤◌, Bool, true, false, List, [], ◌∷◌, ◌++◌, length, map, Option, Some, None, Ok, Err, refl, sym, ◌∙◌, ap, arith}
+use Rattle.std.proofs.Common.{◌≡◌, ℕ, suc, ◌+◌, true, false, List, [], ◌∷◌, ◌++◌, length, Option, Some, None, Ok, Err, refl, ◌∙◌, ap, arith}
 use Rattle.std.specs.List.{AllByRecursion, AllZip}
 use Rattle.tptp_base.specs.declared.name.Name.TheVariants as name
 use Rattle.tptp_base.specs.declared.surface.Surface.{Surface}
@@ -22,7 +22,7 @@ use Rattle.sort_check.specs.Symbols.{Text}
 use Rattle.sort_check.specs.Texts.{Declared, Reading, at_line, denoted, line_item, line_of, lines_from, only_vocabulary, reading, type_item, type_lines, with_line}
 use Rattle.prove_out.specs.Unambiguous.{IsUnambiguous}
 use Rattle.prove_out.specs.Denoting.{Denotes}
-use Rattle.derivation_items.specs.Items.{first_place, line_item_of, typing_item, typing_items}
+use Rattle.derivation_items.specs.Items.{first_place, line_item_of, typing_items}
 use Rattle.derivation_items.specs.Sources.{source_term}
 use Rattle.derivation_items.specs.Words.{printable_text}
 use Rattle.derivation_items.specs.declared.line.LineSource.{LineSource}

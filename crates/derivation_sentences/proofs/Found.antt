@@ -1,6 +1,6 @@
 -- The items of a derivation that is found denote its lines.
-use Rattle.std.proofs.Common.{◌≡◌, ℕ, true, List, [], ◌∷◌, length, Ok}
-use Rattle.std.specs.List.{All as Each, AllByRecursion}
+use Rattle.std.proofs.Common.{◌≡◌, ℕ, true, List, [], length, Ok}
+use Rattle.std.specs.List.{All as Each}
 use Rattle.std.proofs.lemmas.List.Elements.{recursion_from_All}
 use Rattle.tptp_base.specs.declared.item.Item.{Item}
 use Rattle.fof_terms.specs.Sorts.{is_sorted}

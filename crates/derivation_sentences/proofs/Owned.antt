@@ -1,18 +1,18 @@
 -- Which functions stand in the clauses of given formulas: those of the vocabulary, and those of the clause's own part.
-use Rattle.std.specs.Prelude.{ℕ, zero, suc, ◌≡◌, ◌+◌, ◌<◌, ◌≤◌, ◌⊎◌, ◌||◌, ◌==◌, Bool, true, false, List, [], ◌∷◌, ◌++◌, length, map, get_or, replicate, Option, Some, None, slice_get, refl}
+use Rattle.std.specs.Prelude.{ℕ, zero, suc, ◌≡◌, ◌+◌, ◌<◌, ◌⊎◌, ◌||◌, ◌==◌, Bool, true, false, List, [], ◌∷◌, ◌++◌, length, map, get_or, replicate, Option, Some, None, slice_get, refl}
 use Rattle.std.specs.List.{AllByRecursion, list_any}
 use Rattle.std.proofs.Common.{ap, sym, subst, ◌∙◌, arith, inl, inr}
 use Rattle.std.proofs.lemmas.Bool.{eqb-true}
-use Rattle.std.proofs.lemmas.List.{append-nil, length-append, length-replicate, length-map, get_or_append_left, get_or-append-add}
+use Rattle.std.proofs.lemmas.List.{append-nil, length-append, length-replicate, get_or_append_left, get_or-append-add}
 use Rattle.std.proofs.lemmas.List.Elements.{recursion_from_All}
 use Rattle.std.proofs.lemmas.Option.{slice_get_within}
 use Rattle.fof_terms.specs.declared.signature.Kind.{Kind}
 use Rattle.fof_terms.specs.declared.signature.Kind.TheVariants.{Function, Predicate}
 use Rattle.fof_terms.specs.declared.signature.Symbol.{Symbol}
-use Rattle.fof_terms.specs.declared.term.Term.{Term, Var, App}
+use Rattle.fof_terms.specs.declared.term.Term.{Term}
 use Rattle.fof_terms.specs.Occurs.{occurs_in_term}
 use Rattle.fof_terms.specs.SortLaws.{Grows}
-use Rattle.fof_terms.specs.Sorts.{applied, are_sorts, holds_of, made_by, sort_of_term, stated_by, SortedTo}
+use Rattle.fof_terms.specs.Sorts.{applied, are_sorts, holds_of, made_by, sort_of_term, stated_by}
 use Rattle.fof_terms.specs.Vocabulary.{Vocabulary}
 use Rattle.fof_terms.proofs.Induction.{term_induction}
 use Rattle.fof_terms.proofs.LiftingLaws.{applied_found, holds_found, one_found}
@@ -32,17 +32,15 @@ use Rattle.clause_rules.specs.Steps.{IsReady}
 use Rattle.sort_check.specs.declared.line.GivenEntry.{GivenEntry}
 use Rattle.superpose.specs.Drafts.{IsClause}
 use Rattle.step_clauses.specs.Inputs.{clauses_from, next_behind}
-use Rattle.step_clauses.specs.Skolems.{skolems_from, skolems_of}
+use Rattle.step_clauses.specs.Skolems.{skolems_from}
 use Rattle.step_clauses.specs.Wide.{is_large}
-use Rattle.step_clauses.specs.declared.existentials.Existential.{Existential}
-use Rattle.step_clauses.specs.declared.skolems.Skolem.{Skolem}
 use Rattle.step_search.proofs.FunctionSorts.{known_between}
 use Rattle.step_search.proofs.Inputs.{clauses_are, neither}
 use Rattle.given_parts.specs.Owners.{owners_from}
 use Rattle.given_parts.specs.Parts.{parts_of}
 use Rattle.printed_steps.specs.Carried.{has_function, is_headed_by}
 use Rattle.printed_steps.proofs.Terms.{either}
-use Rattle.derivation_sentences.proofs.Linked.{ex_of, forms_in, in_back, in_front, skolem_count, symbols_in, IsOwn}
+use Rattle.derivation_sentences.proofs.Linked.{ex_of, forms_in, in_front, skolem_count, symbols_in, IsOwn}
 
 -- ---- places
 

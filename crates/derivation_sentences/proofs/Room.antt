@@ -1,7 +1,6 @@
 -- A derivation has a line, and so there is room for the symbols of its vocabulary.
-use Rattle.std.proofs.Common.{◌≡◌, ℕ, ◌+◌, ◌≤◌, List, [], ◌∷◌, ◌++◌, length, slice_get, Some, refl, ◌∙◌, ap, arith}
+use Rattle.std.proofs.Common.{◌≡◌, ℕ, ◌≤◌, List, [], ◌∷◌, ◌++◌, slice_get, Some, refl, ◌∙◌, ap, arith}
 use Rattle.fof_terms.specs.Vocabulary.{Vocabulary}
-use Rattle.saturation.specs.declared.member.Member.{Member}
 use Rattle.sort_check.specs.declared.line.GivenEntry.{GivenEntry}
 use Rattle.derivation_items.specs.declared.line.ProofLine.{ProofLine}
 use Rattle.given_parts.specs.Chosen.{chosen}

@@ -1,10 +1,8 @@
 -- The lines with new functions in place of existential variables are closed and well-sorted.
-use Rattle.std.specs.Prelude.{ℕ, zero, suc, ◌≡◌, ◌+◌, ◌<◌, ◌≤◌, Bool, true, false, if◌then◌else◌, List, [], ◌∷◌, ◌++◌, length, map, get_or, Option, Some, None, slice_get, refl}
-use Rattle.std.specs.List.{AllByRecursion}
+use Rattle.std.specs.Prelude.{ℕ, zero, suc, ◌≡◌, ◌+◌, Bool, true, false, if◌then◌else◌, List, [], ◌∷◌, ◌++◌, length, get_or, Option, Some, None, slice_get, refl}
 use Rattle.std.proofs.Common.{ap, sym, subst, ◌∙◌, arith}
-use Rattle.std.proofs.lemmas.List.{append_assoc, append-nil, length-append, map-append}
+use Rattle.std.proofs.lemmas.List.{append_assoc, length-append}
 use Rattle.fof_terms.specs.declared.signature.Symbol.{Symbol}
-use Rattle.fof_terms.specs.declared.form.Form.{Form}
 use Rattle.fof_terms.specs.declared.term.Term.{Var}
 use Rattle.fof_terms.specs.SortLaws.{Grows}
 use Rattle.fof_terms.specs.Sorts.{is_sorted, sort_of_term}
@@ -17,17 +15,15 @@ use Rattle.clause_form.proofs.NormFits.{norm_fits}
 use Rattle.clause_rules.specs.Steps.{IsReady}
 use Rattle.sort_check.specs.declared.line.GivenEntry.{GivenEntry}
 use Rattle.derivation_items.specs.Words.{Text}
-use Rattle.step_clauses.specs.Existentials.{existentials}
 use Rattle.step_clauses.specs.Skolems.{skolem_symbol, skolems_from, KnowsFrom}
 use Rattle.step_clauses.specs.declared.existentials.Existential.{Existential}
-use Rattle.step_clauses.specs.declared.skolems.Skolem.{Skolem}
 use Rattle.step_clauses.proofs.SkolemSorts.{made_fits}
 use Rattle.step_search.proofs.FunctionSorts.{known_between}
 use Rattle.given_parts.specs.Chosen.{chosen_from}
-use Rattle.given_parts.specs.Functions.{function_of, functions_from}
+use Rattle.given_parts.specs.Functions.{functions_from}
 use Rattle.given_parts.specs.Numbers.{firsts_from, next_behind as next_number}
 use Rattle.given_parts.specs.Parts.{part_of, parts_of}
-use Rattle.derivation_sentences.proofs.Alike.{AreLike, IsLike, form_alike}
+use Rattle.derivation_sentences.proofs.Alike.{AreLike, form_alike}
 use Rattle.derivation_sentences.proofs.Linked.{ex_of, in_front, own, skolem_count, symbols_in}
 
 -- ---- functions of the derivation under the names that a search gives

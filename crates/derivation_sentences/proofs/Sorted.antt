@@ -1,7 +1,7 @@
 -- Each line of a derivation that is found is closed and well-sorted.
-use Rattle.std.specs.Prelude.{ℕ, zero, suc, ◌≡◌, ◌+◌, ◌<◌, Bool, true, false, if◌then◌else◌, List, [], ◌∷◌, ◌++◌, length, map, get_or, Option, Some, None, slice_get, refl}
+use Rattle.std.specs.Prelude.{ℕ, zero, suc, ◌≡◌, ◌+◌, Bool, true, false, if◌then◌else◌, List, [], ◌∷◌, ◌++◌, get_or, Some, slice_get, refl}
 use Rattle.std.specs.List.{All as Each, AllByRecursion}
-use Rattle.std.proofs.Common.{ap, sym, subst, ◌∙◌, arith}
+use Rattle.std.proofs.Common.{ap, sym, subst, arith}
 use Rattle.std.proofs.lemmas.List.Elements.{All-from_recursion, recursion_from_All}
 use Rattle.fof_terms.specs.declared.signature.Symbol.{Symbol}
 use Rattle.fof_terms.specs.SortLaws.{Grows}
@@ -24,7 +24,6 @@ use Rattle.derivation_items.specs.declared.line.ProofLine.{ProofLine}
 use Rattle.step_search.proofs.ClauseSuits.{each_of_both}
 use Rattle.given_parts.specs.Chosen.{chosen_from}
 use Rattle.given_parts.specs.Functions.{functions_from, used_existentials}
-use Rattle.given_parts.specs.Numbers.{firsts_from}
 use Rattle.given_parts.specs.Parts.{part_of, parts_of}
 use Rattle.given_parts.specs.declared.part.Part.{Part}
 use Rattle.refutation_lines.specs.Lines.{given_lines, inferred_lines, input_lines, last_line, lines_of, lines_of_member, skolem_line, skolem_lines}

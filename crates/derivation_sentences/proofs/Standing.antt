@@ -26,7 +26,7 @@ use Rattle.step_clauses.specs.declared.skolems.Skolem.{Skolem}
 use Rattle.step_search.proofs.Inputs.{neither}
 use Rattle.printed_steps.specs.Carried.{has_function, is_headed_by}
 use Rattle.printed_steps.proofs.Terms.{either}
-use Rattle.given_parts.specs.Chosen.{chosen, chosen_from}
+use Rattle.given_parts.specs.Chosen.{chosen_from}
 use Rattle.given_parts.specs.Owners.{owners_from}
 use Rattle.given_parts.specs.Parts.{parts_of}
 use Rattle.derivation_sentences.proofs.Linked.{symbols_in}
@@ -168,41 +168,39 @@ one_owner zero k i lt = absurd (omega arith)
 one_owner (suc n) k zero lt = refl
 one_owner (suc n) k (suc i) lt = one_owner n k i (omega arith)
 
--- an owner is the number of a part
-owner_above : (k : ℕ) (given : List GivenEntry) (i o : ℕ) → i < length (owners_from k (parts_of given)) → get_or (owners_from k (parts_of given)) i 0 ≡ o → k ≤ o
-owner_above k [] i o inside is = absurd (omega arith)
-owner_above k (g ∷ given) i o inside is =
+-- the number of a clause's part: the first part's, or one of those behind it
+owner_split : (k : ℕ) (g : GivenEntry) (given : List GivenEntry) (i : ℕ) → i < length (owners_from k (parts_of (g ∷ given)))
+    → (get_or (owners_from k (parts_of (g ∷ given))) i 0 ≡ k) ⊎ ((j : ℕ) × (j < length (owners_from (k + 1) (parts_of given))) × (get_or (owners_from k (parts_of (g ∷ given))) i 0 ≡ get_or (owners_from (k + 1) (parts_of given)) j 0))
+owner_split k g given i inside =
     let n = clause_count_of (norm_of true g.form) in
     let others = owners_from (k + 1) (parts_of given) in
     let many = length-replicate (clause_count_of (norm_of true g.form)) k in
     let both = length-append (replicate (clause_count_of (norm_of true g.form)) k) (owners_from (k + 1) (parts_of given)) in
     elim (below_or_above i (clause_count_of (norm_of true g.form))) [
-      | inl near ↦
-          let own : get_or (replicate n k ++ others) i 0 ≡ k = get_or_append_left (replicate n k) others 0 i (omega (arith, many, near)) ∙ one_owner (clause_count_of (norm_of true g.form)) k i near in
-          omega (arith, own, is)
+      | inl near ↦ inl (get_or_append_left (replicate n k) others 0 i (omega (arith, many, near)) ∙ one_owner (clause_count_of (norm_of true g.form)) k i near)
       | inr far ↦
           let place : i ≡ length (replicate n k) + (i - n) = omega (arith, many, far) in
           let behind : get_or (replicate n k ++ others) i 0 ≡ get_or others (i - n) 0 = ap (λ (m : ℕ). get_or (replicate n k ++ others) m 0) place ∙ get_or-append-add (replicate n k) others (i - n) 0 in
-          let later = owner_above (k + 1) given (i - n) o (omega (arith, inside, many, both, far)) (sym behind ∙ is) in
-          omega (arith, later)
+          inr (i - n, omega (arith, inside, many, both, far), behind)
+    ]
+
+-- an owner is the number of a part
+owner_above : (k : ℕ) (given : List GivenEntry) (i o : ℕ) → i < length (owners_from k (parts_of given)) → get_or (owners_from k (parts_of given)) i 0 ≡ o → k ≤ o
+owner_above k [] i o inside is = absurd (omega arith)
+owner_above k (g ∷ given) i o inside is =
+    elim (owner_split k g given i inside) [
+      | inl own ↦ omega (arith, own, is)
+      | inr later ↦ let above = owner_above (k + 1) given later.0 o later.1 (sym later.2 ∙ is) in omega (arith, above)
     ]
 
 pub owner_below : (k : ℕ) (given : List GivenEntry) (i q : ℕ) → i < length (owners_from k (parts_of given)) → get_or (owners_from k (parts_of given)) i 0 ≡ k + q → q < length given
 owner_below k [] i q inside is = absurd (omega arith)
 owner_below k (g ∷ given) i q inside is =
-    let n = clause_count_of (norm_of true g.form) in
-    let others = owners_from (k + 1) (parts_of given) in
-    let many = length-replicate (clause_count_of (norm_of true g.form)) k in
-    let both = length-append (replicate (clause_count_of (norm_of true g.form)) k) (owners_from (k + 1) (parts_of given)) in
-    elim (below_or_above i (clause_count_of (norm_of true g.form))) [
-      | inl near ↦
-          let own : get_or (replicate n k ++ others) i 0 ≡ k = get_or_append_left (replicate n k) others 0 i (omega (arith, many, near)) ∙ one_owner (clause_count_of (norm_of true g.form)) k i near in
-          omega (arith, own, is)
-      | inr far ↦
-          let place : i ≡ length (replicate n k) + (i - n) = omega (arith, many, far) in
-          let behind : get_or (replicate n k ++ others) i 0 ≡ get_or others (i - n) 0 = ap (λ (m : ℕ). get_or (replicate n k ++ others) m 0) place ∙ get_or-append-add (replicate n k) others (i - n) 0 in
-          let least : k + 1 ≤ k + q = owner_above (k + 1) given (i - n) (k + q) (omega (arith, inside, many, both, far)) (sym behind ∙ is) in
+    elim (owner_split k g given i inside) [
+      | inl own ↦ omega (arith, own, is)
+      | inr later ↦
+          let least : k + 1 ≤ k + q = owner_above (k + 1) given later.0 (k + q) later.1 (sym later.2 ∙ is) in
           let first : 0 < q = omega (arith, least) in
-          let later = owner_below (k + 1) given (i - n) (q - 1) (omega (arith, inside, many, both, far)) (sym behind ∙ is ∙ (omega arith)) in
-          omega (arith, later, first)
+          let below = owner_below (k + 1) given later.0 (q - 1) later.1 (sym later.2 ∙ is ∙ (omega arith)) in
+          omega (arith, below, first)
     ]

@@ -7,7 +7,7 @@ use Rattle.fof_terms.specs.declared.form.Form.{Form}
 use Rattle.sort_check.specs.declared.line.Line.{Line}
 use Rattle.derivation_items.specs.declared.line.ProofLine.{ProofLine}
 use Rattle.derivation_text.specs.Derivations.{denied_form, denied_forms, names_of}
-use Rattle.derivation_sentences.specs.Denoted.{denoted_lines, line_at, lines_at}
+use Rattle.derivation_sentences.specs.Denoted.{denoted_lines, lines_at}
 
 abbrev own_name : ProofLine → Name
 own_name l = Word l.name

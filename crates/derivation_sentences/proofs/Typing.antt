@@ -1,6 +1,6 @@
 -- The type lines of a derivation: its sorts are there, and its functions are brought in one behind the other.
-use Rattle.std.proofs.Common.{◌≡◌, ℕ, zero, suc, ◌+◌, ◌<◌, ◌≤◌, ◌^◌, ◌==◌, ◌&&◌, Bool, true, false, not, cond, List, [], ◌∷◌, ◌++◌, length, map, drop, slice_get, Option, Some, None, Ok, Err, refl, sym, ◌∙◌, ap, subst, arith, append_assoc, nat_eq, codes}
-use Rattle.std.specs.List.{All as Each, AllByRecursion, list_any}
+use Rattle.std.proofs.Common.{◌≡◌, ℕ, zero, suc, ◌+◌, ◌<◌, ◌≤◌, ◌^◌, ◌==◌, ◌&&◌, Bool, true, false, not, cond, List, [], ◌∷◌, ◌++◌, length, map, drop, slice_get, Option, Some, None, Ok, Err, refl, sym, ◌∙◌, ap, arith, append_assoc, nat_eq, codes}
+use Rattle.std.specs.List.{AllByRecursion, list_any}
 use Rattle.std.specs.Str.{bytes_eq}
 use Rattle.std.specs.Cmp.Lexicographic.{pointwise, bytes_decides}
 use Rattle.std.proofs.lemmas.Bool.Decides.{nat_tests}
@@ -25,7 +25,7 @@ use Rattle.sort_check.specs.declared.fault.SortFault.{SortFault}
 use Rattle.sort_check.specs.declared.fault.SortRule.{SortRule}
 use Rattle.sort_check.specs.declared.fault.SortRule.TheVariants.{Limit, Redeclared}
 use Rattle.sort_check.specs.Outcomes.{Outcome, and_then, mapped, each}
-use Rattle.sort_check.specs.Symbols.{Text, named_sort, with_name, with_symbol}
+use Rattle.sort_check.specs.Symbols.{Text, named_sort, with_name}
 use Rattle.sort_check.specs.Texts.{Declared, at_line, declared_symbol, declaring, differs, found_or_added, result_kind, result_named, sort_at, symbol_named, symbol_of, type_item, type_lines, typed}
 use Rattle.sort_check.proofs.Stepping.{at_ok, then_ok}
 use Rattle.prove_out.specs.Unambiguous.{IsUnambiguous}

@@ -1,8 +1,8 @@
 -- The items of a derivation denote its lines.
-use Rattle.std.proofs.Common.{◌≡◌, ℕ, zero, suc, ◌+◌, ◌<◌, ◌≤◌, ◌^◌, true, false, List, [], ◌∷◌, ◌++◌, length, map, drop, take, slice_get, Some, Ok, refl, sym, ◌∙◌, ap, subst, arith}
+use Rattle.std.proofs.Common.{◌≡◌, ℕ, suc, ◌+◌, ◌≤◌, true, false, List, [], ◌∷◌, ◌++◌, length, map, drop, Ok, sym, ◌∙◌, ap, subst, arith}
 use Rattle.std.specs.List.{All as Each, AllByRecursion}
 use Rattle.std.proofs.Math.Seq.{drop-append_seam}
-use Rattle.std.proofs.lemmas.List.{append_assoc, length-append, map-append}
+use Rattle.std.proofs.lemmas.List.{append_assoc, length-append}
 use Rattle.std.proofs.lemmas.List.Elements.{recursion_from_All}
 use Rattle.tptp_base.specs.declared.item.Item.{Item}
 use Rattle.tptp_base.specs.declared.item.Typing.{Typing}
@@ -13,7 +13,7 @@ use Rattle.clause_rules.specs.Steps.{IsReady}
 use Rattle.sort_check.specs.declared.line.GivenEntry.{GivenEntry}
 use Rattle.sort_check.specs.declared.line.TextKind.TheVariants as kind
 use Rattle.sort_check.specs.Symbols.{Text}
-use Rattle.sort_check.specs.Texts.{Declared, Reading, denoted, lines_from, type_lines}
+use Rattle.sort_check.specs.Texts.{Declared, denoted, type_lines}
 use Rattle.prove_out.specs.Unambiguous.{IsUnambiguous}
 use Rattle.printed_clauses.specs.Prefixes.{prefix_of}
 use Rattle.derivation_items.specs.Items.{typing_item, typing_items}
