@@ -1,29 +1,25 @@
 -- Rules give the lines that are inferred.
-use Rattle.std.specs.Prelude.{ℕ, zero, suc, ◌≡◌, ◌⊎◌, ◌<◌, ◌≤◌, ◌^◌, ◌||◌, Bool, true, false, List, [], ◌∷◌, ◌++◌, length, map, take, Some, slice_get, refl}
+use Rattle.std.specs.Prelude.{ℕ, zero, suc, ◌≡◌, ◌<◌, ◌≤◌, ◌^◌, ◌||◌, Bool, true, false, List, [], ◌∷◌, ◌++◌, length, map, take, Some, slice_get, refl}
 use Rattle.std.specs.List.{flat_map, list_any}
-use Rattle.std.proofs.Common.{ap, sym, subst, ◌∙◌, arith, inl, inr}
+use Rattle.std.proofs.Common.{ap, sym, subst, ◌∙◌, inl, inr}
 use Rattle.std.proofs.lemmas.Bool.{cases_order, or_parts, ltb-false}
 use Rattle.fof_terms.specs.Vocabulary.{Vocabulary}
 use Rattle.fof_terms.specs.declared.form.Form.{Form}
 use Rattle.fof_terms.specs.declared.term.Term.{Term}
 use Rattle.clause_form.specs.declared.clause.Clause.{Clause}
-use Rattle.clause_form.specs.declared.clause.Lit.{Lit}
 use Rattle.clause_form.specs.declared.path.Parent.{Parent}
 use Rattle.clause_form.specs.ClauseView.{clause_of}
-use Rattle.clause_form.specs.Covers.{Covers, at_terms, in_lit}
-use Rattle.clause_form.specs.Paths.{forms_of, is_plain}
+use Rattle.clause_form.specs.Covers.{Covers}
 use Rattle.clause_form.specs.Sizes.{norm_size_of}
 use Rattle.clause_rules.specs.CoverRule.{IsCoverStep}
 use Rattle.clause_rules.specs.Steps.{clauses_of as parent_clauses}
-use Rattle.kernel.specs.Statements.{Statements}
 use Rattle.elaborate.specs.ByRule.{rules}
 use Rattle.sort_check.specs.declared.line.GivenEntry.{GivenEntry}
 use Rattle.step_clauses.specs.Wide.{is_large}
 use Rattle.superpose.specs.Inferences.{InfersFromOne, InfersFromTwo}
 use Rattle.inference_proofs.specs.Inferred.{CoversParent}
 use Rattle.printed_clauses.specs.Renumbered.{renumbered, renumbered_clause}
-use Rattle.printed_clauses.specs.Trimmed.{trimmed}
-use Rattle.printed_steps.specs.Printed.{IsPlain, IsPrintable, printed, printed_clause}
+use Rattle.printed_steps.specs.Printed.{IsPrintable, printed, printed_clause}
 use Rattle.printed_steps.proofs.Inferring.{from_one_printed, from_two_printed}
 use Rattle.printed_steps.proofs.Lines.{line_clause}
 use Rattle.printed_steps.proofs.Norming.{covers_by_rule}
@@ -32,14 +28,12 @@ use Rattle.verifier.specs.Good.{so_far, without_numbers}
 use Rattle.verifier.specs.Lines.{numbered}
 use Rattle.derivation_items.specs.Words.{Text}
 use Rattle.derivation_items.specs.declared.line.LineSource.{LineSource}
-use Rattle.derivation_items.specs.declared.line.LineSource.TheVariants.{Given, Skolemized, ClauseOf, Inferred}
+use Rattle.derivation_items.specs.declared.line.LineSource.TheVariants.{Inferred}
 use Rattle.derivation_items.specs.declared.line.ProofLine.{ProofLine}
 use Rattle.limited_items.specs.Premises.{HaveSmallPremises, is_from_large}
 use Rattle.limited_items.specs.Sources.{forms_given, lines_named, source_forms}
-use Rattle.refutation_lines.specs.Lines.{lines_of}
 use Rattle.refutation_lines.specs.Names.{clause_name}
 use Rattle.refutation_lines.specs.Places.{in_order}
-use Rattle.refutation_lines.specs.Plans.{plan_of}
 use Rattle.refutation_lines.specs.declared.derivation.Derivation.{Derivation}
 use Rattle.refutation_lines.proofs.PlaceFacts.{one_place, first_place_first, second_place_first}
 use Rattle.problem_proofs.specs.Found.{IsFound, refutation_by}
@@ -53,7 +47,7 @@ use Rattle.derivation_follows.specs.Applied.{OneApplies}
 use Rattle.derivation_follows.specs.Members.{AreFit, IsFit, number_in}
 use Rattle.derivation_follows.specs.Stepping.{StepsApply, StepsOfKindApply, is_inferred}
 use Rattle.derivation_follows.proofs.Plainly.{all_plain, each_plain, plain_mapped}
-use Rattle.derivation_follows.proofs.Inferences.{IsFormAt, IsInference, IsInferredSo, as_printed, inferred_so, place}
+use Rattle.derivation_follows.proofs.Inferences.{IsFormAt, IsInference, IsInferredSo, inferred_so, place}
 
 -- ---- rules
 

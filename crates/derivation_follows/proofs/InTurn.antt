@@ -1,10 +1,8 @@
 -- Linked lines, the steps of which rules give, are given in turn.
-use Rattle.std.specs.Prelude.{ℕ, zero, suc, ◌≡◌, ◌<◌, ◌≤◌, ◌+◌, Bool, true, false, if◌then◌else◌, List, [], ◌∷◌, ◌++◌, length, map, take, Some, slice_get, refl}
+use Rattle.std.specs.Prelude.{ℕ, zero, suc, ◌≡◌, ◌≤◌, ◌+◌, Bool, true, false, if◌then◌else◌, List, [], ◌∷◌, ◌++◌, length, take, Some, slice_get, refl}
 use Rattle.std.specs.List.{filter, range_with_len}
 use Rattle.std.specs.Option.{option_map}
-use Rattle.std.specs.Str.{bytes_eq}
-use Rattle.std.proofs.Common.{ap, sym, subst, ◌∙◌, arith, inl, inr}
-use Rattle.std.proofs.lemmas.Bool.{cases_Bool}
+use Rattle.std.proofs.Common.{ap, sym, subst, ◌∙◌, arith, inl}
 use Rattle.std.proofs.lemmas.List.{map-append}
 use Rattle.std.proofs.lemmas.Option.{slice_get-map}
 use Rattle.std.proofs.lemmas.Slice.Eq.{bytes_eq-Decides}
@@ -22,10 +20,9 @@ use Rattle.sort_check.specs.declared.line.GivenEntry.{GivenEntry}
 use Rattle.tptp_base.specs.declared.name.Name.{Name}
 use Rattle.tptp_base.specs.declared.name.Name.TheVariants as name
 use Rattle.tstp_graph.specs.declared.shape.Graph.{Graph}
-use Rattle.tstp_graph.specs.declared.shape.Node.{Node}
 use Rattle.tstp_graph.specs.Tables.{same_name}
 use Rattle.verifier.specs.Good.{so_far, without_numbers}
-use Rattle.verifier.specs.Lines.{Derivation, Line, candidates_of, sources_of}
+use Rattle.verifier.specs.Lines.{candidates_of, sources_of}
 use Rattle.limited_items.specs.Sources.{candidates, forms_given, given_named, is_unknown, source_forms}
 use Rattle.derivation_items.specs.declared.line.LineSource.{LineSource}
 use Rattle.derivation_items.specs.declared.line.LineSource.TheVariants.{Given, Skolemized, ClauseOf, Inferred}
@@ -35,7 +32,7 @@ use Rattle.derivation_order.specs.Graphs.{IsGraphOf, is_given}
 use Rattle.derivation_order.specs.Links.{AreLinked, IsFrom}
 use Rattle.derivation_order.proofs.Chosen.{something_at}
 use Rattle.derivation_order.proofs.Cited.{is_linked, sources_at, unnumbered}
-use Rattle.derivation_follows.specs.Applied.{AreGivenInTurn, IsGiven, IsGivenAs, OneApplies, OneGivesAlone}
+use Rattle.derivation_follows.specs.Applied.{AreGivenInTurn, IsGivenAs, OneApplies, OneGivesAlone}
 use Rattle.derivation_follows.specs.Stepping.{StepsApply}
 
 -- ---- a copy

@@ -1,5 +1,5 @@
 -- The lines that are inferred, with the lines that they come from.
-use Rattle.std.specs.Prelude.{ℕ, zero, suc, ◌≡◌, ◌⊎◌, ◌<◌, ◌≤◌, ◌+◌, ◌^◌, Bool, true, false, if◌then◌else◌, List, [], ◌∷◌, ◌++◌, length, map, get_or, take, Some, slice_get, codes, refl}
+use Rattle.std.specs.Prelude.{ℕ, ◌≡◌, ◌⊎◌, ◌<◌, ◌+◌, ◌^◌, Bool, true, List, [], ◌∷◌, ◌++◌, length, map, get_or, take, Some, slice_get, refl}
 use Rattle.std.proofs.Common.{ap, sym, subst, ◌∙◌, arith, inl, inr}
 use Rattle.std.proofs.lemmas.List.{take_all}
 use Rattle.std.proofs.lemmas.Option.{slice_get_within}
@@ -10,7 +10,6 @@ use Rattle.fof_terms.specs.declared.term.Term.{Term}
 use Rattle.clause_form.specs.declared.clause.Clause.{Clause}
 use Rattle.clause_form.specs.declared.clause.Lit.{Lit}
 use Rattle.clause_form.specs.ClauseView.{closed}
-use Rattle.clause_form.specs.Covers.{AreSorted, scope_of}
 use Rattle.sort_check.specs.declared.line.GivenEntry.{GivenEntry}
 use Rattle.unify_terms.specs.Substitution.{image_at}
 use Rattle.superpose.specs.Inferences.{InfersFromOne, InfersFromTwo}
@@ -20,27 +19,24 @@ use Rattle.saturation.specs.declared.member.Origin.TheVariants as origin
 use Rattle.saturation.specs.Members.{clauses_of}
 use Rattle.saturation.specs.Origins.{Makes}
 use Rattle.search_proofs.specs.Needed.{IsMarked, Names}
-use Rattle.printed_clauses.specs.Renumbered.{renumbered_clause}
-use Rattle.printed_clauses.specs.Trimmed.{kept_sorts, occurs_in, trimmed}
+use Rattle.printed_clauses.specs.Trimmed.{kept_sorts, occurs_in}
 use Rattle.printed_steps.specs.Printed.{IsPrintable, printed}
 use Rattle.derivation_items.specs.Words.{Text}
 use Rattle.derivation_items.specs.declared.line.LineSource.{LineSource}
 use Rattle.derivation_items.specs.declared.line.LineSource.TheVariants.{Inferred}
 use Rattle.derivation_items.specs.declared.line.ProofLine.{ProofLine}
 use Rattle.given_parts.specs.Chosen.{chosen_from}
-use Rattle.given_parts.specs.declared.part.Part.{Part}
 use Rattle.given_parts.specs.Parts.{parts_of}
-use Rattle.refutation_lines.specs.Lines.{clause_line, given_lines, inferred_lines, input_lines, last_line, lines_of, lines_of_member, printed_form, skolem_line, skolem_lines, source_of_input, source_of_parents}
+use Rattle.refutation_lines.specs.Lines.{clause_line, given_lines, inferred_lines, input_lines, last_line, lines_of, lines_of_member, skolem_line, skolem_lines, source_of_input, source_of_parents}
 use Rattle.refutation_lines.specs.Names.{clause_name, has_some}
 use Rattle.refutation_lines.specs.Places.{in_order, is_inferred as comes_from_members}
 use Rattle.refutation_lines.specs.Plans.{Refutation, places_in, plan_of, printed_in, ranks_in, used_in}
 use Rattle.refutation_lines.specs.declared.derivation.Derivation.{Derivation}
-use Rattle.refutation_lines.specs.declared.plan.Plan.{Plan}
 use Rattle.problem_proofs.specs.Found.{IsFound, refutation_by}
 use Rattle.problem_proofs.specs.Posed.{clauses_of_given, with_functions}
 use Rattle.derivation_order.specs.Links.{EachBehind}
 use Rattle.derivation_order.proofs.Behind.{each_append, each_chosen, each_if}
-use Rattle.derivation_order.proofs.Chosen.{at_taken, has_given, something_at, taken_at}
+use Rattle.derivation_order.proofs.Chosen.{at_taken, has_given, taken_at}
 use Rattle.derivation_order.proofs.Found.{is_sound}
 use Rattle.derivation_order.proofs.Marked.{IsSound, input_printed}
 use Rattle.derivation_order.proofs.Ranks.{place_input}

@@ -3,8 +3,8 @@ mod Following
 mod InTurn
 mod Whole
 mod Plainly
-mod Fitting
+pub mod Fitting
 mod Inferences
-mod Applying
+pub mod Applying
 mod Cases
-mod Proofs
+pub mod Proofs

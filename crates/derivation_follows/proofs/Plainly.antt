@@ -1,11 +1,10 @@
 -- Inferences keep literals plain.
-use Rattle.std.specs.Prelude.{ℕ, zero, suc, ◌≡◌, ◌⊎◌, ◌+◌, Bool, true, false, List, [], ◌∷◌, ◌++◌, map, remove, drop, take, Some, slice_get, slice_set, refl}
+use Rattle.std.specs.Prelude.{ℕ, zero, suc, ◌≡◌, true, List, [], ◌∷◌, ◌++◌, map, remove, drop, take, Some, slice_get, slice_set, refl}
 use Rattle.std.proofs.Common.{ap, sym, subst, ◌∙◌, inl, inr}
 use Rattle.fof_terms.proofs.KnownSorts.{at_place}
 use Rattle.fof_terms.specs.Vocabulary.{Vocabulary}
 use Rattle.fof_terms.specs.declared.term.Term.{Term}
 use Rattle.inference_proofs.proofs.Kept.{Has, changed_or, has_split, image_from}
-use Rattle.clause_form.specs.ClauseView.{denied}
 use Rattle.clause_form.specs.Covers.{at_terms, in_lit}
 use Rattle.clause_form.specs.Paths.{is_plain}
 use Rattle.clause_form.specs.declared.clause.AtomOf.{AtomOf}

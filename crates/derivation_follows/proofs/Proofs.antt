@@ -1,13 +1,10 @@
 -- What is asked of the check of a proof, by the items that are printed.
-use Rattle.std.specs.Prelude.{ℕ, ◌≡◌, ◌<◌, ◌^◌, ◌++◌, List, Some, length, refl}
-use Rattle.std.proofs.Common.{ap, sym, subst, ◌∙◌}
+use Rattle.std.specs.Prelude.{ℕ, ◌≡◌, ◌<◌, ◌^◌, List, Some, length}
 use Rattle.fof_terms.specs.Vocabulary.{Vocabulary}
 use Rattle.kernel.specs.Statements.{Statements}
-use Rattle.canon_print.specs.RoundTrip.{AreSame}
 use Rattle.sort_check.specs.declared.line.GivenEntry.{GivenEntry}
 use Rattle.tptp_base.specs.declared.item.Item.{Item}
 use Rattle.tstp_graph.specs.Graphs.{IsGraph}
-use Rattle.tstp_graph.specs.declared.shape.Graph.{Graph}
 use Rattle.tstp_graph.proofs.OneGraph.{one_graph as same_graph}
 use Rattle.verifier.specs.Claim.{default_word}
 use Rattle.derivation_text.specs.declared.derivation.Derivation.{Derivation as Checked}
@@ -20,8 +17,7 @@ use Rattle.limited_items.specs.Room as limited
 use Rattle.limited_items.specs.Sources.{forms_given}
 use Rattle.refutation_lines.specs.declared.derivation.Derivation.{Derivation}
 use Rattle.problem_proofs.specs.Found.{IsFound, vocabulary_of}
-use Rattle.derivation_order.specs.Cited.{forms_in}
-use Rattle.derivation_order.specs.Graphs.{AreNames, IsGraphOf, names_of}
+use Rattle.derivation_order.specs.Graphs.{AreNames, names_of}
 use Rattle.derivation_order.proofs.Alike.{one_graph}
 use Rattle.derivation_order.proofs.Found.{found_linked}
 use Rattle.derivation_order.proofs.Graphed.{graph_of_lines}

@@ -1,13 +1,13 @@
 -- A derivation that is found, the steps of which rules give.
-use Rattle.std.specs.Prelude.{ℕ, zero, suc, ◌≡◌, ◌<◌, ◌≤◌, ◌^◌, ◌||◌, nat_lt, Bool, true, false, List, [], ◌∷◌, ◌++◌, length, map, Some, slice_get, refl}
+use Rattle.std.specs.Prelude.{ℕ, ◌≡◌, ◌<◌, ◌≤◌, ◌^◌, ◌||◌, nat_lt, Bool, true, false, List, [], ◌∷◌, ◌++◌, length, Some, slice_get, refl}
 use Rattle.std.specs.List.{list_any}
-use Rattle.std.proofs.Common.{ap, sym, subst, ◌∙◌, arith}
+use Rattle.std.proofs.Common.{ap, sym, subst, ◌∙◌}
 use Rattle.std.proofs.lemmas.Bool.{false_from_ne_true, or_parts, ltb-false}
 use Rattle.std.proofs.lemmas.List.Folds.{list_any_at}
 use Rattle.std.proofs.lemmas.Option.{get_or_from_slice_get, slice_get_within}
 use Rattle.inference_proofs.proofs.Kept.{Has, has_before, has_image}
 use Rattle.fof_terms.specs.Vocabulary.{Vocabulary}
-use Rattle.fof_terms.specs.declared.form.Form.{Form, Not, Or}
+use Rattle.fof_terms.specs.declared.form.Form.{Form, Not}
 use Rattle.clause_form.specs.Paths.{forms_of}
 use Rattle.clause_form.specs.Sizes.{norm_size_of}
 use Rattle.sort_check.specs.declared.line.GivenEntry.{GivenEntry}
@@ -19,10 +19,9 @@ use Rattle.verifier.specs.Good.{IsGood}
 use Rattle.verifier.specs.Report.{HasFalse}
 use Rattle.derivation_items.specs.declared.line.ProofLine.{ProofLine}
 use Rattle.given_parts.specs.Chosen.{chosen}
-use Rattle.refutation_lines.specs.Lines.{given_lines, inferred_lines, input_lines, last_line, lines_of, skolem_lines}
-use Rattle.refutation_lines.specs.Plans.{Refutation, plan_of}
+use Rattle.refutation_lines.specs.Lines.{given_lines, inferred_lines, input_lines, last_line, skolem_lines}
+use Rattle.refutation_lines.specs.Plans.{plan_of}
 use Rattle.refutation_lines.specs.declared.derivation.Derivation.{Derivation}
-use Rattle.refutation_lines.specs.declared.plan.Plan.{Plan}
 use Rattle.problem_proofs.specs.Found.{IsFound, refutation_by}
 use Rattle.problem_proofs.specs.Posed.{falsehood, parents_of}
 use Rattle.problem_proofs.proofs.PosedFacts.{formulas, formulas_are}

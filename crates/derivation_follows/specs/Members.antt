@@ -1,15 +1,12 @@
 -- The members of a search's list that a derivation needs, as it prints them.
-use Rattle.std.specs.Prelude.{ℕ, ◌≡◌, Bool, true, List, Some, slice_get}
+use Rattle.std.specs.Prelude.{ℕ, ◌≡◌, Bool, List, Some, slice_get}
 use Rattle.fof_terms.specs.Vocabulary.{Vocabulary}
 use Rattle.clause_form.specs.declared.clause.Clause.{Clause}
-use Rattle.clause_form.specs.Covers.{AreSorted, scope_of}
-use Rattle.superpose.specs.Absent.{AreWithout}
 use Rattle.saturation.specs.declared.member.Member.{Member}
 use Rattle.search_proofs.specs.Needed.{IsMarked}
 use Rattle.printed_clauses.specs.Renumbered.{new_number}
-use Rattle.printed_steps.specs.Carried.{IsCarried}
 use Rattle.printed_steps.specs.Printed.{IsPlain, IsPrintable}
-use Rattle.refutation_lines.specs.Plans.{Refutation, plan_of, printed_in}
+use Rattle.refutation_lines.specs.Plans.{Refutation, plan_of}
 
 -- the numbers that functions have in the derivation of a refutation
 abbrev pub number_in : Refutation → List Bool → ℕ → ℕ
@@ -24,14 +21,3 @@ pub record IsFit (v w : Vocabulary) (number : ℕ → ℕ) (c : Clause) : Type 0
 -- so is the clause of each needed member
 abbrev pub AreFit : Vocabulary → Vocabulary → Refutation → List Bool → Type 0
 AreFit v w r needed = (j : ℕ) (m : Member) → IsMarked needed j → slice_get r.members j ≡ Some m → IsFit v w (number_in r needed) m.clause
-
--- The clause is well-sorted, and no literal of it is truth or falsehood. Each symbol that stands in it stands in the other
--- vocabulary under its number in the derivation.
-pub record IsFitWhole (v w : Vocabulary) (number : ℕ → ℕ) (c : Clause) : Type 0 where
-  pub sorted : AreSorted v (scope_of c) c.lits
-  pub plain : IsPlain c.lits
-  pub carried : (k : ℕ) → (AreWithout k c.lits → ⊥) → IsCarried v w k (number k)
-
--- so is each input that is printed
-abbrev pub AreFitInputs : Vocabulary → Vocabulary → Refutation → List Bool → Type 0
-AreFitInputs v w r needed = (i : ℕ) (c : Clause) → slice_get (printed_in r needed) i ≡ Some true → slice_get r.inputs i ≡ Some c → IsFitWhole v w (number_in r needed) c

@@ -1,5 +1,7 @@
 //! Laws of derivations whose lines are given by rules, shown by functions that do nothing.
 ghost use Rattle.std.specs.Prelude.{◌≡◌, ◌<◌, ◌^◌, ℕ, List, [], Some, length, true, false};
+ghost use Rattle.std.specs.List.{All as Each};
+ghost use Rattle.clause_rules.specs.Steps.{IsReady};
 ghost use Rattle.sort_check.specs.declared.line.GivenEntry.{GivenEntry as Entry};
 ghost use Rattle.problem_proofs.specs.Found.{IsFound};
 ghost use Rattle.refutation_lines.specs.declared.derivation.Derivation.{Derivation as Found};
@@ -18,7 +20,7 @@ ghost use Rattle.derivation_items.specs.Words.{Text};
 ghost use Rattle.limited_items.specs.Limits.{AreWithin};
 ghost use Rattle.tptp_base.specs.declared.item.Item.{Item};
 ghost use Rattle.derivation_follows.specs.Stepping.{StepsApply, StepsOfKindApply};
-ghost use Rattle.derivation_follows.specs.Members.{AreFit, AreFitInputs};
+ghost use Rattle.derivation_follows.specs.Members.{AreFit};
 ghost use Rattle.derivation_items.specs.declared.line.ProofLine.{ProofLine};
 ghost use Rattle.limited_items.specs.Premises.{HaveSmallPremises};
 ghost use Rattle.problem_proofs.specs.Found.{refutation_by, vocabulary_of};
@@ -100,13 +102,13 @@ pub fn a_found_derivation_makes_a_good_case()
         → claimed asked.output ≡ Some (default_word asked.has_conjecture) → IsSure (IsGoodCase asked t checked w) }
 {}
 
-/// Where the clauses of inputs that are printed are fit with all symbols that stand in them, those of needed members are
-/// fit.
+/// The clauses of needed members are fit over the vocabulary of the derivation, where the given formulas are closed and
+/// well-sorted.
 pub fn needed_members_are_fit()
-    ensures { (v : Vocabulary) (given : List Entry) (limit : ℕ) (d : Found) → length given < 2 ^ 64 → limit < 2 ^ 32
-        → (f : IsFound v given limit d) → (w : Vocabulary)
-        → AreFitInputs (with_functions v given) w (refutation_by v given f.members f.last) f.derivation.needed
-        → AreFit (with_functions v given) w (refutation_by v given f.members f.last) f.derivation.needed }
+    ensures { (v : Vocabulary) (given : List Entry) (limit : ℕ) (d : Found) → Each (λ g. IsReady v g.form) given
+        → (f : IsFound v given limit d)
+        → AreFit (with_functions v given) (vocabulary_of v d) (refutation_by v given f.members f.last)
+        f.derivation.needed }
 {}
 
 /// So it is with the items of a derivation that is found, within the limits: where the printed text is read as these items,
