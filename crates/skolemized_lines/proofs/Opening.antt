@@ -191,7 +191,7 @@ module _ (v : Vocabulary) (given : List GivenEntry) (limit : ℕ) (d : Derivatio
 
   copy_lacks : (n : ℕ) → length v.symbols ≤ n → (l : ProofLine) → Has copies l → occurs_in n l.form ≡ false
   copy_lacks n behind l has =
-      let by = given_by given_lines 0 used given l has.0 has.1 in
+      let by = given_by given_lines 0 used given l has in
       let copy : ProofLine = record { name = given_name (0 + by.at); form = by.from.form; source = Given by.from.name } in
       let same : l ≡ copy = only_one true l copy by.given.0 by.given.1 in
       ap (λ (x : ProofLine). occurs_in n x.form) same ∙ given_lacks n behind by.at by.from by.there
@@ -199,7 +199,7 @@ module _ (v : Vocabulary) (given : List GivenEntry) (limit : ℕ) (d : Derivatio
   -- an earlier line with new functions lacks those of part q
   earlier_lacks : (q n : ℕ) → q < length given → first q ≤ n → length v.symbols ≤ n → (l : ProofLine) → Has (skolems_by (take q used) (take q (parts_of given))) l → occurs_in n l.form ≡ false
   earlier_lacks q n inside behind past l has =
-      let by = given_by (skolem_lines plan.numbers.firsts) 0 (take q used) (take q (parts_of given)) l has.0 has.1 in
+      let by = given_by (skolem_lines plan.numbers.firsts) 0 (take q used) (take q (parts_of given)) l has in
       let marked = taken_at q used by.at true by.marked in
       let there = taken_at q (parts_of given) by.at by.from by.there in
       let own = part_from by.at by.from there.1 in
@@ -240,12 +240,14 @@ module _ (v : Vocabulary) (given : List GivenEntry) (limit : ℕ) (d : Derivatio
       let positive : 0 < length (ex_of own.0) = ltb-true 0 (length (ex_of own.0)) (ap (λ (x : Part). has_some x.existentials) own.2 ∙ some) in
       let step : IsSkolemStep (so_far w (forms_given given) (forms_in (before_part q))) (own.0.form ∷ []) (skolemized (norm_of true own.0.form) (first q)) = (
         0,
-        own.0.form,
-        norm_of true own.0.form,
-        skolemized (norm_of true own.0.form) (first q),
-        uses_from (first q) (ex_of own.0),
-        refl,
-        skolem_step v given used prefix q own.0 (ready_at q own.0 own.1) marked own.1 (small_at q own.0 own.1) (forms_given given ++ forms_in (before_part q)) positive (λ n behind. new_before q inside n behind (omega (arith, least, behind))),
+        (
+          own.0.form,
+          norm_of true own.0.form,
+          skolemized (norm_of true own.0.form) (first q),
+          uses_from (first q) (ex_of own.0),
+          refl,
+          skolem_step v given used prefix q own.0 (ready_at q own.0 own.1) marked own.1 (small_at q own.0 own.1) (forms_given given ++ forms_in (before_part q)) positive (λ n behind. new_before q inside n behind (omega (arith, least, behind))),
+        ),
       ) in
       record {
         word = given_name q;
