@@ -1,5 +1,5 @@
 -- Lines and columns of a later place.
-use Rattle.std.proofs.Common.{◌≡◌, ℕ, suc, ◌+◌, ◌-◌, ◌<◌, ◌≤◌, ◌==◌, Bool, true, false, not, [], ◌∷◌, ◌++◌, length, take, drop, reverse, if◌then◌else◌, Some, None, get_or, refl, sym, ◌∙◌, ap, subst, arith, length-take, count_by}
+use Rattle.std.proofs.Common.{◌≡◌, ℕ, zero, suc, ◌+◌, ◌-◌, ◌<◌, ◌≤◌, ◌==◌, Bool, true, false, not, [], ◌∷◌, ◌++◌, length, take, drop, reverse, if◌then◌else◌, Some, None, get_or, refl, sym, ◌∙◌, ap, subst, arith, length-take, count_by}
 use Rattle.std.specs.List.{suffix_len, prefix_len}
 use Rattle.std.proofs.lemmas.Bool.{eq-eqb, ne_eqb, false_from_ne_true, cond-true, cond-false}
 use Rattle.std.proofs.lemmas.List.{reverse-append, length-reverse}
@@ -23,12 +23,29 @@ no_last : (piece : Text) → IsLastByte (is_byte 10) piece None → suffix_len i
 no_last piece last =
     suffix_len_is is_no_line_feed piece 0 0 (omega arith) (λ k low within. not_true (get_or piece k 0 == 10) (last k low within)) (λ some. absurd (omega (arith, some))) ∙ omega arith
 
-count_none : (piece : Text) → ((k : ℕ) → k < length piece → get_or piece k 0 == 10 ≡ true → ⊥) → count_by is_line_feed piece ≡ 0
+pub count_none : (piece : Text) → ((k : ℕ) → k < length piece → get_or piece k 0 == 10 ≡ true → ⊥) → count_by is_line_feed piece ≡ 0
 count_none [] h = refl
 count_none (byte ∷ piece) h =
     let other : byte == 10 ≡ false = false_from_ne_true (byte == 10) (h 0 (omega arith)) in
     let rest = count_none piece (λ k lt. h (suc k) (omega arith)) in
     rw other (omega arith)
+
+count_head : (byte : ℕ) (z : Text) → count_by is_line_feed (byte ∷ z) ≡ count_by is_line_feed (byte ∷ []) + count_by is_line_feed z
+count_head byte z = sum_by-append (λ (x : ℕ). if is_line_feed x then 1 else 0) (byte ∷ []) z
+
+-- those behind the first are one less
+pub count_behind : (z : Text) (at : ℕ) → at < length z → ((j : ℕ) → j < at → get_or z j 0 == 10 ≡ true → ⊥) → get_or z at 0 == 10 ≡ true → count_by is_line_feed z ≡ 1 + count_by is_line_feed (drop (at + 1) z)
+count_behind [] at lt h e = absurd (omega (arith, lt))
+count_behind (byte ∷ z) zero lt h e =
+    let one : count_by is_line_feed (byte ∷ []) ≡ 1 = ap (λ (b : Bool). 0 + (if b then 1 else 0)) e in
+    omega (arith, count_head byte z, one)
+count_behind (byte ∷ z) (suc at) lt h e =
+    let other : byte == 10 ≡ false = false_from_ne_true (byte == 10) (h 0 (omega arith)) in
+    let none : count_by is_line_feed (byte ∷ []) ≡ 0 = ap (λ (b : Bool). 0 + (if b then 1 else 0)) other in
+    let rest = count_behind z at (omega (arith, lt)) (λ j less. h (suc j) (omega (arith, less))) e in
+    let same : suc at + 1 ≡ suc (at + 1) = omega arith in
+    let moved : count_by is_line_feed (drop (suc at + 1) (byte ∷ z)) ≡ count_by is_line_feed (drop (at + 1) z) = ap (λ n. count_by is_line_feed (drop n (byte ∷ z))) same in
+    omega (arith, count_head byte z, none, rest, moved)
 
 -- ---- a piece behind a text
 

@@ -2,7 +2,7 @@
 ghost use Rattle.std.specs.Prelude.{◌≡◌, ◌≤◌, length, count_by};
 ghost use Rattle.tptp_base.specs.Place.{place_of, is_line_feed};
 
-use memchr::memrchr;
+use memchr::{memchr, memrchr};
 use tptp_base::Place;
 
 /// The place of a later offset. Only the bytes between the two places are looked at.
@@ -34,5 +34,11 @@ fn line_feeds(text: &[u8]) -> usize
     ensures value { result ≡ count_by is_line_feed text.now }
     ensures bound { result ≤ length text.now }
 {
-    text.iter().filter(|byte| **byte == b'\n').count()
+    let mut count = 0;
+    let mut behind = 0;
+    'lines: while let Some(at) = memchr(b'\n', &text[behind..]) {
+        count += 1;
+        behind += at + 1;
+    }
+    count
 }

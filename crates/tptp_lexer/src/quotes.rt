@@ -1,5 +1,5 @@
 //! Where a quote ends, and what it holds.
-ghost use Rattle.std.specs.Prelude.{◌≡◌, ◌≤◌, ◌<◌, length, IfOk, false};
+ghost use Rattle.std.specs.Prelude.{◌≡◌, ◌≤◌, ◌<◌, ◌++◌, length, IfOk, OnOk, false};
 ghost use Rattle.tptp_lexer.specs.Quotes as written;
 ghost use Rattle.tptp_lexer.specs.Lexemes as lexemes;
 ghost use Rattle.tptp_lexer.specs.Scan as spec;
@@ -82,16 +82,27 @@ pub fn quote_end(quote: u8, text: &[u8]) -> Quote
 pub fn unescaped(alloc: Global, text: &[u8]) -> Result<Text, AllocError>
     ensures { IfOk result (λ chars. chars ≡ lexemes.unescaped text.now) }
 {
+    let mut chars = Vec::with_capacity(alloc, text.len())?;
+    put_unescaped(text, &mut chars)?;
+    Ok(Text::from_vec(chars))
+}
+
+/// Puts the characters that are written so between quotes behind others.
+pub fn put_unescaped(text: &[u8], chars: &mut Vec<u8>) -> Result<(), AllocError>
+    ensures { OnOk result (chars.new.items ≡ chars.old.items ++ lexemes.unescaped text.now) }
+{
     match memchr(b'\\', text) {
-        None => Text::from_slice(alloc, text),
-        Some(_) => without_escapes(alloc, text),
+        None => {
+            chars.extend_from_slice(text)?;
+            Ok(())
+        }
+        Some(_) => put_without_escapes(text, chars),
     }
 }
 
-fn without_escapes(alloc: Global, text: &[u8]) -> Result<Text, AllocError>
-    ensures { IfOk result (λ chars. chars ≡ lexemes.unescaped text.now) }
+fn put_without_escapes(text: &[u8], chars: &mut Vec<u8>) -> Result<(), AllocError>
+    ensures { OnOk result (chars.new.items ≡ chars.old.items ++ lexemes.unescaped text.now) }
 {
-    let mut chars = Vec::with_capacity(alloc, text.len())?;
     let mut escaped = false;
     for byte in text {
         escaped = !escaped && *byte == b'\\';
@@ -99,5 +110,5 @@ fn without_escapes(alloc: Global, text: &[u8]) -> Result<Text, AllocError>
             chars.push(*byte)?;
         }
     }
-    Ok(Text::from_vec(chars))
+    Ok(())
 }

@@ -2,7 +2,7 @@
 ghost use Rattle.std.specs.Prelude.{◌≡◌, ◌∷◌, IfOk};
 ghost use Rattle.tptp_lexer.specs.Lexemes as spec;
 
-use crate::quotes::unescaped;
+use crate::quotes::{put_unescaped, unescaped};
 use std::alloc::{AllocError, Global};
 use std::marker::Model;
 use tptp_base::Text;
@@ -89,21 +89,20 @@ impl<'a> Chars<'a> {
     pub fn to_text(&self, alloc: Global) -> Result<Text, AllocError>
         ensures { IfOk result (λ text. text ≡ self.now) }
     {
-        let chars = unescaped(alloc, self.written)?;
         if self.marked {
-            marked(alloc, chars.as_slice())
+            marked(alloc, self.written)
         } else {
-            Ok(chars)
+            unescaped(alloc, self.written)
         }
     }
 }
 
-// The text with the byte in front.
-fn marked(alloc: Global, text: &[u8]) -> Result<Text, AllocError>
-    ensures { IfOk result (λ word. word ≡ 0 ∷ text.now) }
+// The characters that are written so between quotes, with the byte in front.
+fn marked(alloc: Global, written: &[u8]) -> Result<Text, AllocError>
+    ensures { IfOk result (λ word. word ≡ 0 ∷ spec.unescaped written.now) }
 {
-    let mut word = Vec::new(alloc);
+    let mut word = Vec::with_capacity(alloc, written.len().saturating_add(1))?;
     word.push(MARK)?;
-    word.extend_from_slice(text)?;
+    put_unescaped(written, &mut word)?;
     Ok(Text::from_vec(word))
 }

@@ -1,6 +1,0 @@
-use Rattle.std.proofs.Common.{◌≡◌, ◌++◌, drop}
-use Rattle.tptp_lexer.specs.Lexemes.{unescaped, unescaped_from}
-use Rattle.tptp_lexer.proofs.quotes.without_escapes.Given as goal
-
-abbrev pub invariant-loop-byte : goal.invariant-loop-byte
-invariant-loop-byte l = l.chars.items ++ unescaped_from l.escaped (drop l.byte-index l.text) ≡ unescaped l.text
