@@ -4,6 +4,9 @@ use Rattle.tptp_base.specs.declared.place.Place.{Place}
 use Rattle.tptp_base.specs.Place.{place_of}
 use Rattle.tptp_lexer.specs.declared.lexeme.Lexeme.{Lexeme}
 use Rattle.tptp_lexer.specs.declared.token.Token.{Token}
+use Rattle.tptp_lexer.specs.declared.scan.Kind.{Kind}
+use Rattle.tptp_lexer.specs.declared.scan.Kind.TheVariants as k
+use Rattle.tptp_lexer.specs.declared.token.Token.TheVariants as t
 use Rattle.tptp_lexer.specs.declared.token.Token.TheVariants.{Mark as Sign}
 use Rattle.tptp_lexer.specs.declared.token.Mark.TheVariants as m
 use Rattle.tptp_lexer.specs.Bytes.{Text}
@@ -16,6 +19,24 @@ dot_only : (token : Token) → is_dot token ≡ true → is_comment token ≡ fa
 dot_only (Sign m.Dot) is = refl
 dot_only (Sign mark) is = refl
 dot_only token is = cc
+
+-- the token of a kind is a dot or not, however it is spelled
+pub dot_by_kind : (words : Bool) (kind : Kind) (text : Text) → is_dot (token_of kind []) ≡ is_dot (taken words (token_of kind text))
+dot_by_kind words k.Lower text = refl
+dot_by_kind words k.Quoted text = refl
+dot_by_kind words k.Upper text = refl
+dot_by_kind words k.Dollar text = refl
+dot_by_kind words k.System text = refl
+dot_by_kind words k.Number text = refl
+dot_by_kind true k.Distinct text = refl
+dot_by_kind false k.Distinct text = refl
+dot_by_kind words k.Comment text = refl
+dot_by_kind words (k.Mark mark) text = refl
+
+-- a distinct object joins
+pub object_joins : (words : Bool) (text : Text) (before : List Token) → before ++ taken words (t.Distinct text) ∷ [] ≡ kept (taken words (t.Distinct text)) before
+object_joins true text before = refl
+object_joins false text before = refl
 
 abbrev Items : Type 0
 Items = List (Token × Place)

@@ -33,8 +33,8 @@ pub fn token_at<'a>(text: &'a [u8], lexeme: Lexeme, words: bool) -> Token<'a>
     token_of(lexeme.kind, &text[from..from + lexeme.len], words)
 }
 
-// The distinct object that is written so between its quotes, or the word for it.
-fn distinct<'a>(written: &'a [u8], words: bool) -> Token<'a>
+/// The distinct object that is written so between its quotes, or the word for it.
+pub fn distinct<'a>(written: &'a [u8], words: bool) -> Token<'a>
     ensures { result ≡ spec.taken words (Token.Distinct (spec.unescaped written.now)) }
 {
     if words {
@@ -44,8 +44,8 @@ fn distinct<'a>(written: &'a [u8], words: bool) -> Token<'a>
     }
 }
 
-// What stands between the first and the last byte.
-fn inside(spelling: &[u8]) -> &[u8]
+/// What stands between the first and the last byte.
+pub fn inside(spelling: &[u8]) -> &[u8]
     ensures { result.now ≡ spec.inside spelling.now }
 {
     if spelling.len() < 2 {
