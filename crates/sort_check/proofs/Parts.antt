@@ -79,25 +79,13 @@ abbrev pub members : Setting → List Variable → List Surface → State → Ou
 members here scope as_ s = each (λ place a. denoted_form here a scope) 0 as_ s
 
 module _ (here : Setting) (scope : List Variable) (s : State) (a : Surface) (as_ seen : List Surface) (seen_is : seen ≡ as_) where
-  and_is : a ≡ fm.And as_ → denoted_form here a scope s ≡ mapped And (members here scope seen s)
+  pub and_is : a ≡ fm.And as_ → denoted_form here a scope s ≡ mapped And (members here scope seen s)
   and_is is =
       ap (λ (x : Surface). denoted_form here x scope s) is ∙ denoted_form-And here scope s as_ ∙ ap (λ (xs : List Surface). mapped And (members here scope xs s)) (sym seen_is)
 
-  or_is : a ≡ fm.Or as_ → denoted_form here a scope s ≡ mapped Or (members here scope seen s)
+  pub or_is : a ≡ fm.Or as_ → denoted_form here a scope s ≡ mapped Or (members here scope seen s)
   or_is is =
       ap (λ (x : Surface). denoted_form here x scope s) is ∙ denoted_form-Or here scope s as_ ∙ ap (λ (xs : List Surface). mapped Or (members here scope xs s)) (sym seen_is)
-
-  pub and_ok : a ≡ fm.And as_ → (forms : List Form) (t : State) → members here scope seen s ≡ Ok (forms, t) → denoted_form here a scope s ≡ Ok (And forms, t)
-  and_ok is forms t e = and_is is ∙ ap (mapped And) e
-
-  pub or_ok : a ≡ fm.Or as_ → (forms : List Form) (t : State) → members here scope seen s ≡ Ok (forms, t) → denoted_form here a scope s ≡ Ok (Or forms, t)
-  or_ok is forms t e = or_is is ∙ ap (mapped Or) e
-
-  pub and_fails : a ≡ fm.And as_ → (e : Stop) → Stops (members here scope seen s) e → Stops (denoted_form here a scope s) e
-  and_fails is = stops_as (members here scope seen s) (denoted_form here a scope s) (λ r k. and_is is ∙ ap (mapped And) k)
-
-  pub or_fails : a ≡ fm.Or as_ → (e : Stop) → Stops (members here scope seen s) e → Stops (denoted_form here a scope s) e
-  or_fails is = stops_as (members here scope seen s) (denoted_form here a scope s) (λ r k. or_is is ∙ ap (mapped Or) k)
 
 pub open_room : (old new : Reach) (vs : List Variable) → length old.variables ≤ old.bound + 250 → new ≡ record old { bound = new.bound } → new.bound ≡ old.bound + length vs → length new.variables + length vs ≤ new.bound + 250
 open_room old new vs few kept count = omega (arith, few, count, ap (λ (r : Reach). length r.variables) kept)

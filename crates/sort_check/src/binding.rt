@@ -6,46 +6,46 @@ ghost use Rattle.sort_check.specs.Denotation as spec;
 ghost use Rattle.sort_check.specs.code.Denotation as spec_code;
 
 use crate::fault::Stop;
-use crate::scope::{Scope, Variable};
+use crate::room::with_room;
+use crate::scope::{Lent, Scope, Variable};
 use crate::symbols::named_sort;
 use fof_terms::{Form, Signature, SortId};
 use std::alloc::Global;
-use tptp_base::{BoundVar, Boxed, List, Memory, Quant, Text};
+use tptp_base::{BoundVar, Boxed, List, Memory, Quant};
 
 /// The variables of a quantifier, counted, with their sorts.
-pub fn bound_variables(
+pub fn bound_variables<'a>(
     alloc: Global,
     signature: &Signature,
-    scope: &mut Scope,
-    variables: &[BoundVar],
-) -> Result<List<Variable>, Stop>
+    scope: &mut Scope<'_>,
+    variables: &'a [BoundVar],
+) -> Result<List<Variable<'a>>, Stop>
     ensures value { Answers
         (each (λ place. spec.bound_variable) 0 variables.now (spec_code.state signature.now scope.old)) result
         (spec_code.state signature.now scope.new) }
     ensures scope { OnOk result (scope.new ≡ record scope.old { bound = scope.new.bound }) }
     ensures count { IfOk result (λ found. scope.new.bound ≡ scope.old.bound + length found) }
 {
-    let mut found = List::new(alloc);
+    let mut found = with_room(alloc, variables.len())?;
     for variable in variables {
-        found.push(bound_variable(alloc, signature, scope, variable)?)?;
+        found.push(bound_variable(signature, scope, variable)?)?;
     }
     Ok(found)
 }
 
 // A bound variable: first the count, then its sort.
-fn bound_variable(
-    alloc: Global,
+fn bound_variable<'a>(
     signature: &Signature,
-    scope: &mut Scope,
-    variable: &BoundVar,
-) -> Result<Variable, Stop>
+    scope: &mut Scope<'_>,
+    variable: &'a BoundVar,
+) -> Result<Variable<'a>, Stop>
     ensures value { Answers (spec.bound_variable variable.now (spec_code.state signature.now scope.old)) result
         (spec_code.state signature.now scope.new) }
     ensures scope { OnOk result (scope.new ≡ record scope.old { bound = scope.old.bound + 1 }) }
 {
     scope.count()?;
     let sort = variable_sort(signature, variable)?;
-    let name = Text::from_slice(alloc, variable.name.as_slice())?;
+    let name = Lent::new(variable.name.as_slice());
     Ok(Variable { name, sort })
 }
 
@@ -63,7 +63,7 @@ fn variable_sort(signature: &Signature, variable: &BoundVar) -> Result<SortId, S
 pub fn close_to(
     alloc: Global,
     quant: Quant,
-    scope: &mut Scope,
+    scope: &mut Scope<'_>,
     outer: usize,
     body: Form,
 ) -> Result<Form, Memory>

@@ -62,7 +62,7 @@ fn denote_clause(
     ensures keeps { Extends signature.old signature.new }
 {
     let mut variables = List::new(alloc);
-    note_variables(form, alloc, &mut variables)?;
+    note_variables(form, &mut variables)?;
     let mut scope = Scope::over(variables, SortRule::Variables, by_place);
     let body = denote_form(form, alloc, declared, signature, &mut scope)?;
     Ok(close_to(alloc, Quant::All, &mut scope, 0, body)?)

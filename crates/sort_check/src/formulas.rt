@@ -1,6 +1,6 @@
 // What formulas denote.
 ghost use Rattle.std.specs.Prelude.{◌≡◌, ◌+◌, ◌≤◌, length, take, drop, map, IfOk, OnOk, Ok, ◌∷◌, []};
-ghost use Rattle.fof_terms.specs.declared.form.Form.{Not as not_of};
+ghost use Rattle.fof_terms.specs.declared.form.Form.{Not as not_of, And as and_of, Or as or_of};
 ghost use Rattle.sort_check.specs.code.Outcomes.{Answers};
 ghost use Rattle.sort_check.specs.Outcomes.{each, mapped, and_then};
 ghost use Rattle.sort_check.specs.Sorting.{Extends};
@@ -11,8 +11,9 @@ use crate::binding::{bound_variables, close_to};
 use crate::fault::{SortRule, Stop};
 use crate::heads::{head, known};
 use crate::names::Names;
+use crate::room::with_room;
 use crate::scope::Scope;
-use crate::terms::{denote_arguments, denote_term};
+use crate::terms::{Sorted, denote_arguments, denote_term};
 use fof_terms::{Form, Kind, Signature};
 use std::alloc::Global;
 use tptp_base::{BinOp, BoundVar, Boxed, List, Memory, Quant, STerm, Surface};
@@ -20,12 +21,12 @@ use tptp_base::{BinOp, BoundVar, Boxed, List, Memory, Quant, STerm, Surface};
 /// What a formula denotes.
 #[cycle(form)]
 #[tactic(auto, using(crate::proofs::Equations::form_equations))]
-pub fn denote_form(
-    form: &Surface,
+pub fn denote_form<'a>(
+    form: &'a Surface,
     alloc: Global,
     declared: &Names,
     signature: &mut Signature,
-    scope: &mut Scope,
+    scope: &mut Scope<'a>,
 ) -> Result<Form, Stop>
     ensures value { Answers
         (spec.denoted_form (spec_code.setting declared.now scope.old) form.now scope.old.variables
@@ -45,28 +46,24 @@ pub fn denote_form(
             args.as_slice(),
         ),
         Surface::Eq(left, right) => denote_equation(alloc, declared, signature, scope, left, right),
-        Surface::Neq(left, right) => {
-            let equation = denote_equation(alloc, declared, signature, scope, left, right)?;
-            Ok(negation(alloc, equation)?)
-        }
-        Surface::Not(body) => {
-            let body = denote_form(body.get(), alloc, declared, signature, scope)?;
-            Ok(negation(alloc, body)?)
-        }
-        Surface::And(members) => Ok(Form::And(denote_members(
+        Surface::Neq(left, right) => denote_inequation(
+            alloc, declared, signature, scope, left, right,
+        ),
+        Surface::Not(body) => denote_negation(body.get(), alloc, declared, signature, scope),
+        Surface::And(members) => denote_conjunction(
             members.as_slice(),
             alloc,
             declared,
             signature,
             scope,
-        )?)),
-        Surface::Or(members) => Ok(Form::Or(denote_members(
+        ),
+        Surface::Or(members) => denote_disjunction(
             members.as_slice(),
             alloc,
             declared,
             signature,
             scope,
-        )?)),
+        ),
         Surface::Binary(operator, left, right) => {
             let left = denote_form(left.get(), alloc, declared, signature, scope)?;
             let left = Boxed::new(alloc, left)?;
@@ -87,14 +84,74 @@ pub fn denote_form(
     }
 }
 
-// What the members of a conjunction or a disjunction denote.
+// What the negation of a formula denotes.
 #[cycle(form)]
-fn denote_members(
-    forms: &[Surface],
+#[inline(never)]
+fn denote_negation<'a>(
+    body: &'a Surface,
     alloc: Global,
     declared: &Names,
     signature: &mut Signature,
-    scope: &mut Scope,
+    scope: &mut Scope<'a>,
+) -> Result<Form, Stop>
+    ensures value { Answers
+        (mapped not_of (spec.denoted_form (spec_code.setting declared.now scope.old) body.now scope.old.variables
+        (spec_code.state signature.old scope.old))) result (spec_code.state signature.new scope.new) }
+    ensures scope { OnOk result (scope.new ≡ record scope.old { bound = scope.new.bound }) }
+    ensures keeps { Extends signature.old signature.new }
+{
+    let body = denote_form(body, alloc, declared, signature, scope)?;
+    Ok(negation(alloc, body)?)
+}
+
+// What a conjunction denotes.
+#[cycle(form)]
+#[inline(never)]
+fn denote_conjunction<'a>(
+    members: &'a [Surface],
+    alloc: Global,
+    declared: &Names,
+    signature: &mut Signature,
+    scope: &mut Scope<'a>,
+) -> Result<Form, Stop>
+    ensures value { Answers
+        (mapped and_of (each (λ place a.
+        spec.denoted_form (spec_code.setting declared.now scope.old) a scope.old.variables) 0 members.now
+        (spec_code.state signature.old scope.old))) result (spec_code.state signature.new scope.new) }
+    ensures scope { OnOk result (scope.new ≡ record scope.old { bound = scope.new.bound }) }
+    ensures keeps { Extends signature.old signature.new }
+{
+    Ok(Form::And(denote_members(members, alloc, declared, signature, scope)?))
+}
+
+// What a disjunction denotes.
+#[cycle(form)]
+#[inline(never)]
+fn denote_disjunction<'a>(
+    members: &'a [Surface],
+    alloc: Global,
+    declared: &Names,
+    signature: &mut Signature,
+    scope: &mut Scope<'a>,
+) -> Result<Form, Stop>
+    ensures value { Answers
+        (mapped or_of (each (λ place a.
+        spec.denoted_form (spec_code.setting declared.now scope.old) a scope.old.variables) 0 members.now
+        (spec_code.state signature.old scope.old))) result (spec_code.state signature.new scope.new) }
+    ensures scope { OnOk result (scope.new ≡ record scope.old { bound = scope.new.bound }) }
+    ensures keeps { Extends signature.old signature.new }
+{
+    Ok(Form::Or(denote_members(members, alloc, declared, signature, scope)?))
+}
+
+// What the members of a conjunction or a disjunction denote.
+#[cycle(form)]
+fn denote_members<'a>(
+    forms: &'a [Surface],
+    alloc: Global,
+    declared: &Names,
+    signature: &mut Signature,
+    scope: &mut Scope<'a>,
 ) -> Result<List<Form>, Stop>
     ensures value { Answers
         (each (λ place a.
@@ -103,7 +160,7 @@ fn denote_members(
     ensures scope { OnOk result (scope.new ≡ record scope.old { bound = scope.new.bound }) }
     ensures keeps { Extends signature.old signature.new }
 {
-    let mut found = List::new(alloc);
+    let mut found = with_room(alloc, forms.len())?;
     for form in forms {
         found.push(denote_form(form, alloc, declared, signature, scope)?)?;
     }
@@ -112,14 +169,15 @@ fn denote_members(
 
 // What a formula under a quantifier denotes.
 #[cycle(form)]
-fn denote_bound(
-    body: &Surface,
+#[inline(never)]
+fn denote_bound<'a>(
+    body: &'a Surface,
     alloc: Global,
     declared: &Names,
     signature: &mut Signature,
-    scope: &mut Scope,
+    scope: &mut Scope<'a>,
     quant: Quant,
-    variables: &[BoundVar],
+    variables: &'a [BoundVar],
 ) -> Result<Form, Stop>
     ensures value { Answers
         (spec_code.bound (spec_code.setting declared.now scope.old) quant variables.now body.now scope.old.variables
@@ -135,11 +193,12 @@ fn denote_bound(
 }
 
 // What an atom denotes.
+#[inline(never)]
 fn denote_atom(
     alloc: Global,
     declared: &Names,
     signature: &mut Signature,
-    scope: &Scope,
+    scope: &Scope<'_>,
     name: &[u8],
     args: &[STerm],
 ) -> Result<Form, Stop>
@@ -165,11 +224,12 @@ fn denote_atom(
 
 // What an equation denotes: both sides, then their sorts. Each side's place asks for the sort of the other, as far as
 // it is known.
+#[inline(never)]
 fn denote_equation(
     alloc: Global,
     declared: &Names,
     signature: &mut Signature,
-    scope: &Scope,
+    scope: &Scope<'_>,
     left: &STerm,
     right: &STerm,
 ) -> Result<Form, Stop>
@@ -179,13 +239,56 @@ fn denote_equation(
         signature.old)) result (spec_code.state signature.new scope.now) }
     ensures keeps { Extends signature.old signature.new }
 {
-    let asked = known(signature, scope, right);
-    let left = denote_term(left, alloc, declared, signature, scope, asked)?;
+    let left = denote_left(left, alloc, declared, signature, scope, right)?;
     let right = denote_term(right, alloc, declared, signature, scope, Some(left.sort))?;
     if left.sort != right.sort {
         return Err(Stop::Rule(SortRule::WrongSort));
     }
     Ok(Form::Eq(left.term, right.term))
+}
+
+// What the left side of an equation denotes. For a variable it does not matter what its place asks for.
+#[tactic(auto, using(crate::proofs::Equations::term_equations))]
+fn denote_left(
+    left: &STerm,
+    alloc: Global,
+    declared: &Names,
+    signature: &mut Signature,
+    scope: &Scope<'_>,
+    right: &STerm,
+) -> Result<Sorted, Stop>
+    ensures value { Answers
+        (spec.denoted_term (spec_code.setting declared.now scope.now) scope.now.variables left.now
+        (spec.known_sort scope.now.variables signature.old right.now) signature.old) result signature.new }
+    ensures keeps { Extends signature.old signature.new }
+{
+    match left {
+        STerm::Var(_) => denote_term(left, alloc, declared, signature, scope, None),
+        STerm::App(_, _) => {
+            let asked = known(signature, scope, right);
+            denote_term(left, alloc, declared, signature, scope, asked)
+        }
+    }
+}
+
+// What the negation of an equation denotes.
+#[inline(never)]
+fn denote_inequation(
+    alloc: Global,
+    declared: &Names,
+    signature: &mut Signature,
+    scope: &Scope<'_>,
+    left: &STerm,
+    right: &STerm,
+) -> Result<Form, Stop>
+    ensures value { Answers
+        (mapped not_of (spec.beside scope.now.bound
+        (spec.equation (spec_code.setting declared.now scope.now) scope.now.variables left.now right.now
+        signature.old))) result (spec_code.state signature.new scope.now) }
+    ensures keeps { Extends signature.old signature.new }
+{
+    let equation = denote_equation(alloc, declared, signature, scope, left, right)?;
+    Ok(negation(alloc, equation)?)
 }
 
 /// The negation of a formula.

@@ -8,6 +8,7 @@ ghost use Rattle.sort_check.specs.Symbols as spec;
 
 use crate::fault::{SortRule, Stop};
 use crate::names::Names;
+use crate::room::with_room;
 use crate::scope::Scope;
 use crate::symbols::{add_symbol, place_sort, result_sort};
 use fof_terms::{Kind, Signature, SortId, SymId, Symbol};
@@ -21,7 +22,7 @@ pub fn head(
     alloc: Global,
     declared: &Names,
     signature: &mut Signature,
-    scope: &Scope,
+    scope: &Scope<'_>,
     name: &[u8],
     kind: Kind,
     args: &[STerm],
@@ -47,7 +48,7 @@ pub fn head(
 fn new_symbol(
     alloc: Global,
     signature: &Signature,
-    scope: &Scope,
+    scope: &Scope<'_>,
     name: &[u8],
     kind: Kind,
     args: &[STerm],
@@ -73,13 +74,13 @@ fn new_symbol(
 fn argument_sorts(
     alloc: Global,
     signature: &Signature,
-    scope: &Scope,
+    scope: &Scope<'_>,
     args: &[STerm],
 ) -> Result<List<SortId>, AllocError>
     ensures { IfOk result (λ sorts. sorts ≡ map (spec.place_sort scope.now.by_place signature.now)
         (map (known_sort scope.now.variables signature.now) args.now)) }
 {
-    let mut sorts = List::new(alloc);
+    let mut sorts = with_room(alloc, args.len())?;
     for arg in args {
         sorts.push(place_sort(scope.by_place(), signature, known(signature, scope, arg)))?;
     }
@@ -88,7 +89,7 @@ fn argument_sorts(
 
 /// The sort of a term as far as it is known before the term is walked.
 #[tactic(auto, using(crate::proofs::Equations::known_equations))]
-pub fn known(signature: &Signature, scope: &Scope, term: &STerm) -> Option<SortId>
+pub fn known(signature: &Signature, scope: &Scope<'_>, term: &STerm) -> Option<SortId>
     ensures { result ≡ known_sort scope.now.variables signature.now term.now }
 {
     match term {

@@ -16,6 +16,7 @@ mod line;
 mod names;
 mod namesakes;
 mod progress;
+mod room;
 mod scope;
 mod seen;
 mod symbols;

@@ -6,32 +6,63 @@ ghost use Rattle.sort_check.specs.declared.fault.Stop.TheVariants.{Rule};
 ghost use Rattle.sort_check.specs.Denotation.{nearest};
 
 use crate::fault::{SortRule, Stop};
+use crate::room::add_behind;
 use fof_terms::SortId;
 use std::alloc::{AllocError, Global};
 use std::marker::Model;
-use tptp_base::{List, Text};
+use tptp_base::List;
 
 /// The most bound variables of a formula, and the most variables of a clause.
 pub const MAX_VARIABLES: u32 = 250;
 
+/// The bytes of a name that a formula lends.
+#[derive(Drop)]
+pub struct Lent<'a> {
+    bytes: &'a [u8],
+}
+
+impl<'a> Model for Lent<'a> {
+    ghost use Rattle.std.specs.Prelude.{ℕ, List};
+
+    ghost Value = { List ℕ };
+
+    ghost view = { λ name. name.bytes.now };
+}
+
+impl<'a> Lent<'a> {
+    /// The name of these bytes.
+    pub fn new(bytes: &'a [u8]) -> Lent<'a>
+        ensures { result ≡ bytes.now }
+    {
+        Lent { bytes }
+    }
+
+    /// Its bytes.
+    pub fn as_slice(&self) -> &'a [u8]
+        ensures { result.now ≡ self.now }
+    {
+        self.bytes
+    }
+}
+
 /// A variable that a binder binds, and its sort.
 #[derive(Drop)]
-pub struct Variable {
-    pub name: Text,
+pub struct Variable<'a> {
+    pub name: Lent<'a>,
     pub sort: SortId,
 }
 
 /// The variables in scope, the outermost first, how many the formula has bound so far, the fault of a variable that is
 /// not in scope, and whether a new symbol has the sorts of its place.
 #[derive(Drop)]
-pub struct Scope {
-    variables: List<Variable>,
+pub struct Scope<'a> {
+    variables: List<Variable<'a>>,
     bound: u32,
     outside: SortRule,
     by_place: bool,
 }
 
-impl Model for Scope {
+impl<'a> Model for Scope<'a> {
     ghost use Rattle.sort_check.specs.code.Reach.{Reach, IsReach};
 
     ghost Value = { Reach };
@@ -51,11 +82,11 @@ impl Model for Scope {
     }) };
 }
 
-impl Scope {
+impl<'a> Scope<'a> {
     /// The scope of a formula over these variables.
-    pub fn over(variables: List<Variable>, outside: SortRule, by_place: bool) -> Scope
+    pub fn over(variables: List<Variable<'a>>, outside: SortRule, by_place: bool) -> Scope<'a>
         requires { length variables ≤ 250 }
-        ensures { result ≡ record { variables = variables; bound = 0; outside = outside; by_place = by_place } }
+        ensures { result ≡ record { variables = variables.entry; bound = 0; outside = outside; by_place = by_place } }
     {
         Scope {
             variables,
@@ -108,18 +139,15 @@ impl Scope {
     }
 
     /// Further variables, each within those before it.
-    pub fn open(&mut self, alloc: Global, more: List<Variable>) -> Result<(), AllocError>
+    pub fn open(&mut self, alloc: Global, more: List<Variable<'a>>) -> Result<(), AllocError>
         requires { length self.old.variables + length more ≤ self.old.bound + 250 }
-        ensures { OnOk result (self.new ≡ record self.old { variables = self.old.variables ++ more }) }
+        ensures { OnOk result (self.new ≡ record self.old { variables = self.old.variables ++ more.entry }) }
     {
-        let mut variables = std::mem::replace(&mut self.variables, List::new(alloc));
-        variables.append(more)?;
-        self.variables = variables;
-        Ok(())
+        add_behind(alloc, &mut self.variables, more)
     }
 
     /// Takes the innermost variable out.
-    pub fn close(&mut self) -> Option<Variable>
+    pub fn close(&mut self) -> Option<Variable<'a>>
         ensures { MatchOption result ((self.old.variables ≡ []) × (self.new ≡ self.old))
             (λ last. self.old ≡ record self.new { variables = self.new.variables ++ last ∷ [] }) }
     {
@@ -128,15 +156,15 @@ impl Scope {
 }
 
 // The last variable of that name: how many stand behind it, and its sort.
-fn innermost(variables: &[Variable], name: &[u8]) -> Option<(u32, SortId)>
+fn innermost(variables: &[Variable<'_>], name: &[u8]) -> Option<(u32, SortId)>
     requires { length variables.now ≤ 500 }
     ensures { result ≡ nearest variables.now name.now }
 {
-    let mut found = None;
-    for i in 0..variables.len() {
-        if variables[i].name.as_slice() == name {
-            found = Some(((variables.len() - 1 - i) as u32, variables[i].sort));
+    for behind in 0..variables.len() {
+        let variable = &variables[variables.len() - 1 - behind];
+        if variable.name.as_slice() == name {
+            return Some((behind as u32, variable.sort));
         }
     }
-    found
+    None
 }

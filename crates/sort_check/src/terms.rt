@@ -8,6 +8,7 @@ ghost use Rattle.sort_check.specs.code.Denotation as spec_code;
 use crate::fault::{SortRule, Stop};
 use crate::heads::head;
 use crate::names::Names;
+use crate::room::with_room;
 use crate::scope::Scope;
 use crate::symbols::{argument_sort, is_argument, result_sort};
 use fof_terms::{Kind, Signature, SortId, SymId, Term};
@@ -29,7 +30,7 @@ pub fn denote_term(
     alloc: Global,
     declared: &Names,
     signature: &mut Signature,
-    scope: &Scope,
+    scope: &Scope<'_>,
     asked: Option<SortId>,
 ) -> Result<Sorted, Stop>
     ensures value { Answers
@@ -81,7 +82,7 @@ pub fn denote_arguments(
     alloc: Global,
     declared: &Names,
     signature: &mut Signature,
-    scope: &Scope,
+    scope: &Scope<'_>,
     symbol: SymId,
 ) -> Result<List<Term>, Stop>
     ensures value { Answers
@@ -92,7 +93,7 @@ pub fn denote_arguments(
         scope.now) scope.now.variables t)) 0 terms.now signature.old) result signature.new }
     ensures keeps { Extends signature.old signature.new }
 {
-    let mut found = List::new(alloc);
+    let mut found = with_room(alloc, terms.len())?;
     for place in 0..terms.len() {
         found.push(denote_argument(
             &terms[place],
@@ -114,7 +115,7 @@ fn denote_argument(
     alloc: Global,
     declared: &Names,
     signature: &mut Signature,
-    scope: &Scope,
+    scope: &Scope<'_>,
     symbol: SymId,
     place: usize,
 ) -> Result<Term, Stop>

@@ -1,5 +1,5 @@
-use Rattle.sort_check.proofs.Scopes.{Come}
+use Rattle.sort_check.proofs.Scopes.{Passed}
 use Rattle.sort_check.proofs.scope.innermost.Given as goal
 
-abbrev pub invariant-loop-i : goal.invariant-loop-i
-invariant-loop-i l = Come l.variables l.name l.i l.found
+abbrev pub invariant-loop-behind : goal.invariant-loop-behind
+invariant-loop-behind l = Passed l.variables l.name l.behind
