@@ -6,6 +6,8 @@ ghost use Rattle.clause_order.specs.Weights.{clause_weight};
 ghost use Rattle.saturation.specs.code.Search.{IsTaken, HasJoined};
 
 use crate::waiting::Waiting;
+use indexmap::IndexMap;
+use packed_clauses::PackedClause;
 use std::alloc::Global;
 use std::collections::BTreeMap;
 use std::marker::Model;
@@ -16,7 +18,7 @@ use tptp_base::Memory;
 #[derive(Drop)]
 pub struct Queue {
     waiting: BTreeMap<(u64, u64), Waiting>,
-    numbers: BTreeMap<u64, u64>,
+    numbers: IndexMap<u64, u64>,
     next: u64,
 }
 
@@ -43,33 +45,33 @@ impl Queue {
     {
         Queue {
             waiting: BTreeMap::new(alloc),
-            numbers: BTreeMap::new(alloc),
+            numbers: IndexMap::new(alloc),
             next: 0,
         }
     }
 
-    /// Whether a member waits that has the clause of this one, which has this weight. One may be overlooked.
-    pub fn has(&self, weight: u64, member: &Waiting) -> bool
-        ensures { IsTrue result → (m : Waits) × Contains self.now m × (m.clause ≡ member.now.clause) }
+    /// Whether a member waits that has this clause, which has this weight and sum. One may be overlooked.
+    pub fn has(&self, weight: u64, sum: u64, clause: &PackedClause) -> bool
+        ensures { IsTrue result → (m : Waits) × Contains self.now m × (m.clause ≡ clause.now) }
     {
-        match self.numbers.get(&member.sum()) {
-            Some(number) => self.has_at(weight, *number, member),
+        match self.numbers.get(&sum) {
+            Some(number) => self.has_at(weight, *number, clause),
             None => false,
         }
     }
 
-    // Whether the member of this weight and number waits, and has this one's clause.
-    fn has_at(&self, weight: u64, number: u64, member: &Waiting) -> bool
-        ensures { IsTrue result → (m : Waits) × Contains self.now m × (m.clause ≡ member.now.clause) }
+    // Whether the member of this weight and number waits, and has this clause.
+    fn has_at(&self, weight: u64, number: u64, clause: &PackedClause) -> bool
+        ensures { IsTrue result → (m : Waits) × Contains self.now m × (m.clause ≡ clause.now) }
     {
         match self.waiting.get(&(weight, number)) {
-            Some(waiting) => waiting.has_clause_of(member),
+            Some(waiting) => waiting.has_clause(clause),
             None => false,
         }
     }
 
-    /// Lets one more wait, of this weight.
-    pub fn push(&mut self, weight: u64, member: Waiting) -> Result<(), Memory>
+    /// Lets one more wait, of this weight, with a clause of this sum.
+    pub fn push(&mut self, weight: u64, sum: u64, member: Waiting) -> Result<(), Memory>
         requires { weight ≡ clause_weight member.clause }
         ensures { OnOk result (HasJoined self.old self.new member) }
     {
@@ -77,7 +79,7 @@ impl Queue {
             return Err(Memory);
         }
         let key = (weight, self.next);
-        self.numbers.insert(member.sum(), self.next)?;
+        self.numbers.insert(sum, self.next)?;
         self.waiting.insert(key, member)?;
         self.next += 1;
         Ok(())

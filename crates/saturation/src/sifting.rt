@@ -6,6 +6,7 @@ use crate::queue::Queue;
 use crate::waiting::Waiting;
 use clause_form::is_trivial;
 use clause_order::clause_weight_of;
+use packed_clauses::PackedClause;
 use std::alloc::Global;
 use tptp_base::{List, Memory};
 
@@ -42,13 +43,15 @@ fn place(
         return Ok(());
     }
     let weight = clause_weight_of(&member.clause);
-    let waiting = Waiting::new(alloc, member)?;
-    if queue.has(weight, &waiting) {
+    let clause = PackedClause::new(alloc, &member.clause)?;
+    let sum = clause.sum();
+    if queue.has(weight, sum, &clause) {
         return Ok(());
     }
+    let waiting = Waiting::new(alloc, clause, member)?;
     if weight > bound {
         Ok(heavy.push(waiting)?)
     } else {
-        queue.push(weight, waiting)
+        queue.push(weight, sum, waiting)
     }
 }

@@ -40,15 +40,13 @@ impl Model for Waiting {
 }
 
 impl Waiting {
-    /// The member, as one that waits.
-    pub fn new(alloc: Global, member: &Member) -> Result<Waiting, Memory>
+    /// The member, whose clause is this one, as one that waits.
+    pub fn new(alloc: Global, clause: PackedClause, member: &Member) -> Result<Waiting, Memory>
+        requires { clause ≡ member.now.clause }
         ensures { IfOk result (λ waiting. waiting ≡ member.now) }
     {
         let source = source_from(alloc, &member.origin)?;
-        Ok(Waiting {
-            clause: PackedClause::new(alloc, &member.clause)?,
-            source,
-        })
+        Ok(Waiting { clause, source })
     }
 
     /// Its clause.
@@ -69,16 +67,11 @@ impl Waiting {
         })
     }
 
-    /// Whether it has the clause of the other one.
-    pub fn has_clause_of(&self, other: &Waiting) -> bool
-        ensures { IsTrue result → self.now.clause ≡ other.now.clause }
+    /// Whether it has this clause.
+    pub fn has_clause(&self, clause: &PackedClause) -> bool
+        ensures { IsTrue result → self.now.clause ≡ clause.now }
     {
-        self.clause.is(&other.clause)
-    }
-
-    /// The sum of its clause.
-    pub fn sum(&self) -> u64 {
-        self.clause.sum()
+        self.clause.is(clause)
     }
 }
 

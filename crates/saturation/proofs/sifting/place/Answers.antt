@@ -1,5 +1,6 @@
 use Rattle.std.proofs.Common.{◌≡◌, ◌++◌, ◌∷◌, [], List, subst, sym}
 use Rattle.std.proofs.lemmas.Result.{on_ok_weaker}
+use Rattle.clause_form.specs.declared.clause.Clause.{Clause}
 use Rattle.saturation.specs.declared.member.Member.{Member}
 use Rattle.clause_order.specs.Weights.{clause_weight}
 use Rattle.saturation.specs.code.Search.{HasJoined}
@@ -16,7 +17,7 @@ pub returns-then-has : goal.returns-then-has
 returns-then-has c =
     let found = c.has.ensures c.if-has.true in
     placed_known c.args.bound c.args.member.now found.0 c.args.queue.now c.args.heavy.now found.1
-    (subst (λ (m : Member). found.0.clause ≡ m.clause) c.in_ok-waiting.ensures found.2)
+    (subst (λ (e : Clause). found.0.clause ≡ e) c.in_ok-clause.ensures found.2)
 
 pub returns-in_ok-push : goal.returns-in_ok-push
 returns-in_ok-push c =
