@@ -29,7 +29,7 @@ pub fn sift(
     Ok(None)
 }
 
-// Sends a member to the queue or to what is too heavy. Drops it where it is trivial, or where an equal clause waits.
+// Sends a member to the queue or to what is too heavy. Drops it where an equal clause waits, or where it is trivial.
 fn place(
     alloc: Global,
     member: &Member,
@@ -39,13 +39,13 @@ fn place(
 ) -> Result<(), Memory>
     ensures { OnOk result (Places bound member.now queue.old heavy.old queue.new heavy.new) }
 {
-    if is_trivial(&member.clause) {
-        return Ok(());
-    }
     let weight = clause_weight_of(&member.clause);
     let clause = PackedClause::new(alloc, &member.clause)?;
     let sum = clause.sum();
     if queue.has(weight, sum, &clause) {
+        return Ok(());
+    }
+    if is_trivial(&member.clause) {
         return Ok(());
     }
     let waiting = Waiting::new(alloc, clause, member)?;
