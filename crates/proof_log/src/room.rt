@@ -1,5 +1,4 @@
-// Lists whose length is written before their members. Neither function is inlined, so that those that read trees, of which
-// as many calls may be open as trees may nest, take little stack.
+// Lists whose length is written before their members.
 ghost use Rattle.std.specs.Prelude.{◌≡◌, [], ◌∷◌, ◌++◌, IfOk, OnOk};
 
 use std::alloc::{AllocError, Global};
@@ -9,7 +8,7 @@ use tptp_base::{Boxed, List};
 const FIRST_ROOM: u64 = 4;
 
 /// An empty list, with room for the first of so many members.
-#[inline(never)]
+#[inline(always)]
 pub fn list_for<T: Drop>(alloc: Global, count: u64) -> Result<List<T>, AllocError>
     ensures { IfOk result (λ found. found ≡ []) }
 {
@@ -17,7 +16,8 @@ pub fn list_for<T: Drop>(alloc: Global, count: u64) -> Result<List<T>, AllocErro
     Ok(List::from_vec(Vec::with_capacity(alloc, room as usize)?))
 }
 
-/// Appends a member.
+/// Appends a member. It is not inlined, so that those that read trees, of which as many calls may be open as trees may
+/// nest, take little stack.
 #[inline(never)]
 pub fn add<T: Drop>(found: &mut List<T>, member: Boxed<T>) -> Result<(), AllocError>
     ensures { OnOk result (found.new ≡ found.old ++ member ∷ []) }

@@ -69,7 +69,7 @@ fn reach<N: Spelled>(text: &[u8]) -> usize
 }
 
 /// One of the names.
-#[inline(never)]
+#[inline(always)]
 #[tactic(auto, unfolding(crate::specs::code::ReadWords::name))]
 pub fn name<N: Spelled>(text: &mut Cursor<'_>) -> Result<N, Stop>
     ensures { Reads (spec.name N.spell N.names text.old) result text.new }
@@ -103,7 +103,7 @@ fn name_among_all<N: Spelled>(text: &mut Cursor<'_>) -> Result<N, Stop>
 }
 
 /// One of the names, with a blank before it.
-#[inline(never)]
+#[inline(always)]
 #[tactic(auto, unfolding(crate::specs::code::ReadWords::head))]
 pub fn head<N: Spelled>(text: &mut Cursor<'_>) -> Result<N, Stop>
     ensures { Reads (spec.head N.spell N.names text.old) result text.new }
@@ -198,7 +198,7 @@ fn number(text: &mut Cursor<'_>, most: u64) -> Result<u64, Stop>
 }
 
 /// A number of 64 bits.
-#[inline(never)]
+#[inline(always)]
 pub fn large(text: &mut Cursor<'_>) -> Result<u64, Stop>
     ensures { Reads (spec.number 18446744073709551615 text.old) result text.new }
 {
@@ -206,7 +206,7 @@ pub fn large(text: &mut Cursor<'_>) -> Result<u64, Stop>
 }
 
 /// A number of 32 bits.
-#[inline(never)]
+#[inline(always)]
 pub fn small(text: &mut Cursor<'_>) -> Result<u32, Stop>
     ensures { Reads (spec.number 4294967295 text.old) result text.new }
 {
