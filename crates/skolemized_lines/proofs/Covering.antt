@@ -1,5 +1,5 @@
 -- A clause that is printed follows by `cover` from the line that it is of: the given formula, or that with new functions.
-use Rattle.std.specs.Prelude.{ℕ, zero, suc, ◌≡◌, ◌+◌, ◌-◌, ◌<◌, ◌≤◌, nat_lt, Bool, true, false, if◌then◌else◌, List, [], ◌∷◌, length, map, get_or, Some, slice_get, refl}
+use Rattle.std.specs.Prelude.{ℕ, suc, ◌≡◌, ◌+◌, ◌-◌, ◌<◌, ◌≤◌, nat_lt, Bool, true, false, if◌then◌else◌, List, [], ◌∷◌, length, map, get_or, Some, slice_get, refl}
 use Rattle.std.specs.List.{AllByRecursion}
 use Rattle.std.proofs.Common.{ap, sym, subst, ◌∙◌, arith, inl, inr}
 use Rattle.std.proofs.lemmas.Bool.{lt-ltb}
@@ -9,8 +9,7 @@ use Rattle.fof_terms.specs.Vocabulary.{Vocabulary}
 use Rattle.fof_terms.proofs.LiftingLaws.{below_or_above}
 use Rattle.clause_form.specs.declared.clause.AtomOf.TheVariants.{False}
 use Rattle.clause_form.specs.declared.clause.Clause.{Clause}
-use Rattle.clause_form.specs.declared.clause.Lit.{Lit}
-use Rattle.clause_form.specs.ClauseView.{IsLoneFalsehood, stated}
+use Rattle.clause_form.specs.ClauseView.{IsLoneFalsehood}
 use Rattle.clause_form.specs.ClauseWays.{IsIn}
 use Rattle.clause_form.specs.Clauses.{clauses_in, skolemized}
 use Rattle.clause_form.specs.Norm.{node, norm_of}
@@ -20,7 +19,6 @@ use Rattle.clause_rules.specs.CoverRule.{IsCoverStep}
 use Rattle.clause_rules.specs.Steps.{IsReady}
 use Rattle.derivation_items.specs.Words.{Text}
 use Rattle.given_parts.specs.Numbers.{firsts_from, numbers_from}
-use Rattle.given_parts.specs.Owners.{owners_from}
 use Rattle.given_parts.specs.Parts.{parts_of}
 use Rattle.input_proofs.proofs.Literals.{IsPlain, all_plain}
 use Rattle.printed_clauses.specs.Renumbered.{new_number, renumbered_clause}
@@ -34,13 +32,12 @@ use Rattle.refutation_lines.specs.Names.{has_some}
 use Rattle.skolem_fresh.proofs.SkolemSteps.{norm_within}
 use Rattle.sort_check.specs.declared.line.GivenEntry.{GivenEntry}
 use Rattle.step_clauses.specs.Existentials.{existentials}
-use Rattle.step_clauses.specs.Inputs.{clauses_from}
 use Rattle.step_clauses.specs.code.Counts.{some_count}
 use Rattle.step_clauses.specs.declared.existentials.Existential.{Existential}
 use Rattle.step_clauses.proofs.ExistentialsFacts.{counted, existentials_within-And, existentials_within-Or}
 use Rattle.verifier.specs.Good.{without_numbers}
 use Rattle.verifier.specs.Lines.{numbered}
-use Rattle.derivation_sentences.proofs.Linked.{ex_of, forms_in}
+use Rattle.derivation_sentences.proofs.Linked.{ex_of}
 use Rattle.skolemized_lines.proofs.Loose.{IsFilled}
 use Rattle.skolemized_lines.proofs.Making.{made_clauses}
 use Rattle.skolemized_lines.proofs.Moving.{clauses_become}

@@ -2,7 +2,7 @@
 -- node of its kind. Their normal forms have their clauses.
 use Rattle.std.specs.Prelude.{ℕ, ◌≡◌, ◌+◌, ◌⊎◌, ◌||◌, Bool, true, false, not, List, [], ◌∷◌, ◌++◌, flat_map, map, refl}
 use Rattle.std.specs.List.{AllByRecursion, list_any}
-use Rattle.std.proofs.Common.{ap, sym, subst, ◌∙◌, inl, inr}
+use Rattle.std.proofs.Common.{ap, sym, ◌∙◌, inl, inr}
 use Rattle.std.proofs.lemmas.List.Concat.{flat_map-cons}
 use Rattle.fof_terms.specs.declared.form.Form.{Form, Atom, Eq, Not, All}
 use Rattle.fof_terms.specs.declared.term.Term.{Term}
@@ -10,8 +10,8 @@ use Rattle.fof_terms.specs.Variables.{has_variable}
 use Rattle.fof_terms.proofs.VariablesFacts.{has_variable-And, has_variable-Or, has_variable-All}
 use Rattle.clause_form.specs.declared.clause.Clause.{Clause}
 use Rattle.clause_form.specs.ClauseView.{within}
-use Rattle.clause_form.specs.Clauses.{Clausal, clausal, clauses_in}
-use Rattle.clause_form.specs.Norm.{alone, ends, join, members_of, node, norm_of, quantified}
+use Rattle.clause_form.specs.Clauses.{Clausal, clauses_in}
+use Rattle.clause_form.specs.Norm.{alone, ends, join, members_of, node, norm_of}
 use Rattle.clause_form.proofs.ClausesFacts.{clausal-All}
 use Rattle.clause_form.proofs.Joined.{members_cases}
 use Rattle.clause_form.proofs.MemberKinds.{ends-All, ends-And-false, ends-And-true, ends-Atom, ends-Eq, ends-Not, ends-Or-false, ends-Or-true}

@@ -3,7 +3,7 @@ use Rattle.std.specs.Prelude.{ℕ, suc, ◌≡◌, ◌+◌, ◌||◌, Bool, true
 use Rattle.std.specs.List.{AllByRecursion, list_any}
 use Rattle.std.proofs.Common.{ap, sym, subst, ◌∙◌, arith, eq-eqb, inl, inr}
 use Rattle.std.proofs.lemmas.Bool.{eqb-true}
-use Rattle.fof_terms.specs.declared.form.Form.{Form, Atom, Eq, Not, And, Or, Imp, Iff, All, Ex}
+use Rattle.fof_terms.specs.declared.form.Form.{Form, Not}
 use Rattle.fof_terms.specs.declared.term.Term.{Term, Var, App}
 use Rattle.fof_terms.specs.Lift.{lifted_term}
 use Rattle.fof_terms.specs.Variables.{has_in_term, has_variable}
@@ -15,7 +15,7 @@ use Rattle.clause_form.specs.Images.{image}
 use Rattle.clause_form.specs.Norm.{node, norm_of}
 use Rattle.clause_form.proofs.ImagesFacts.{image-App, image-Var}
 use Rattle.step_clauses.proofs.SkolemizingFacts.{made-All, made-And, made-Atom, made-Eq, made-Ex, made-Iff, made-Imp, made-Not, made-Or}
-use Rattle.flat_form.proofs.Own.{IsOwn, OwnMembers, Stands, own, own_iff, own_imp, own_in, own_node, own_quantifier, own-All, own-And, own-Atom, own-Eq, own-Ex, own-Iff, own-Imp, own-Not, own-Or}
+use Rattle.flat_form.proofs.Own.{IsOwn, Stands, own, own_iff, own_imp, own_in, own_node, own_quantifier, own-All, own-And, own-Ex, own-Iff, own-Imp, own-Not, own-Or}
 use Rattle.flat_form.proofs.OwnNorms.{norm_own}
 use Rattle.skolemized_lines.proofs.Loose.{AreLoose, IsFilled, IsLoose, a_denied_atom, a_denied_equation, a_node, an_atom, an_equation, either, for_each, loose_kept, more, none, standing_filled, with_true}
 

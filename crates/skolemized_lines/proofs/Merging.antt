@@ -1,21 +1,21 @@
 -- The clauses of a conjunction and of a disjunction, by those of their members: how these are joined does not matter.
 use Rattle.std.specs.Prelude.{ℕ, ◌≡◌, ◌+◌, Bool, true, false, List, [], ◌∷◌, ◌++◌, flat_map, length, map, refl}
 use Rattle.std.specs.List.{list_any}
-use Rattle.std.proofs.Common.{ap, sym, subst, ◌∙◌, arith, inl, inr}
+use Rattle.std.proofs.Common.{ap, sym, ◌∙◌, arith, inl, inr}
 use Rattle.std.proofs.lemmas.List.{append_assoc, append-nil, length-append, map-append}
 use Rattle.std.proofs.lemmas.List.Concat.{flat_map-cons}
 use Rattle.std.proofs.lemmas.Simd.{map-map}
-use Rattle.fof_terms.specs.declared.form.Form.{Form, And, Or}
+use Rattle.fof_terms.specs.declared.form.Form.{Form}
 use Rattle.fof_terms.specs.declared.term.Term.{Term, Var}
 use Rattle.fof_terms.specs.Lift.{lifted_term}
-use Rattle.fof_terms.proofs.LiftingLaws.{below_or_above, lift_lift, moves}
+use Rattle.fof_terms.proofs.LiftingLaws.{lift_lift, moves}
 use Rattle.fof_terms.proofs.Walks.{both_terms, lifting_term, same_terms}
 use Rattle.clause_form.specs.declared.clause.Clause.{Clause}
 use Rattle.clause_form.specs.declared.clause.Lit.{Lit}
 use Rattle.clause_form.specs.ClauseView.{open_clause}
 use Rattle.clause_form.specs.Clauses.{Clausal, choices, clausal, clausal_of, clauses_in, joined_lists}
 use Rattle.clause_form.specs.Covers.{in_lit}
-use Rattle.clause_form.specs.Norm.{alone, ends, join, joined_flat, members_of, node}
+use Rattle.clause_form.specs.Norm.{alone, ends, join, members_of, node}
 use Rattle.clause_form.specs.Paths.{all_beside, beside}
 use Rattle.clause_form.proofs.BesideFacts.{lift_further, lift_nothing, lits_twice, same_lits}
 use Rattle.clause_form.proofs.ClauseLaws.{lits_themselves}

@@ -1,12 +1,12 @@
 -- The clauses of a normal form with functions in place of its existential variables, where these functions have other
 -- numbers.
-use Rattle.std.specs.Prelude.{ℕ, zero, suc, ◌≡◌, ◌+◌, ◌<◌, ◌||◌, ◌==◌, Bool, true, false, List, [], ◌∷◌, ◌++◌, flat_map, length, map, sum, Option, Some, None, refl}
+use Rattle.std.specs.Prelude.{ℕ, zero, suc, ◌≡◌, ◌+◌, ◌<◌, ◌||◌, ◌==◌, Bool, true, false, List, [], ◌∷◌, ◌++◌, length, map, sum, Option, Some, None, refl}
 use Rattle.std.specs.List.{AllByRecursion, list_any}
 use Rattle.std.specs.Option.{option_map}
-use Rattle.std.proofs.Common.{ap, sym, subst, ◌∙◌, arith, inl, inr}
+use Rattle.std.proofs.Common.{ap, sym, ◌∙◌, arith, inl, inr}
 use Rattle.std.proofs.lemmas.List.{map-append}
 use Rattle.std.proofs.lemmas.List.Concat.{flat_map-cons}
-use Rattle.fof_terms.specs.declared.form.Form.{Form, Atom, Eq, Not, And, Or, Imp, Iff, All, Ex}
+use Rattle.fof_terms.specs.declared.form.Form.{Form, Atom, Eq, Not}
 use Rattle.fof_terms.specs.declared.term.Term.{Term, Var, App}
 use Rattle.fof_terms.specs.Lift.{lifted_term}
 use Rattle.fof_terms.specs.Occurs.{occurs_in, occurs_in_term}
@@ -16,11 +16,10 @@ use Rattle.fof_terms.proofs.LiftingLaws.{below_or_above, moves, stays}
 use Rattle.fof_terms.proofs.OccursFacts.{occurs_in-All, occurs_in-And, occurs_in-Atom, occurs_in-Eq, occurs_in-Ex, occurs_in-Not, occurs_in-Or}
 use Rattle.std.proofs.lemmas.Simd.{map-map}
 use Rattle.clause_form.specs.declared.clause.AtomOf.{AtomOf}
-use Rattle.clause_form.specs.declared.clause.AtomOf.TheVariants.{Pred, Eq as Equation}
 use Rattle.clause_form.specs.declared.clause.Clause.{Clause}
 use Rattle.clause_form.specs.declared.clause.Lit.{Lit}
 use Rattle.clause_form.specs.ClauseView.{denied, within}
-use Rattle.clause_form.specs.Clauses.{Clausal, clausal, clausal_atom, clausal_of, clauses_in, in_turn, lone_clauses, skolem_made, skolemized, under_all, under_ex, variables}
+use Rattle.clause_form.specs.Clauses.{Clausal, clausal, clausal_of, clauses_in, in_turn, lone_clauses, skolem_made, skolemized, under_all, under_ex, variables}
 use Rattle.clause_form.specs.Covers.{at_terms, in_lit}
 use Rattle.clause_form.specs.Images.{image}
 use Rattle.clause_form.specs.Norm.{node}
@@ -35,7 +34,7 @@ use Rattle.printed_steps.proofs.Terms.{IsGood, AreGood, args_good, agree_where, 
 use Rattle.step_clauses.specs.code.Counts.{some_count}
 use Rattle.step_clauses.proofs.ExistentialsFacts.{some_count-All, some_count-And, some_count-Ex, some_count-Not, some_count-Or}
 use Rattle.step_clauses.proofs.SkolemizingFacts.{goes, made-All, made-And, made-Atom, made-Eq, made-Ex, made-Iff, made-Imp, made-Not, made-Or}
-use Rattle.skolemized_lines.proofs.Merging.{merged, merged_all, node_clausal, nothing, pairs}
+use Rattle.skolemized_lines.proofs.Merging.{merged, merged_all, node_clausal, pairs}
 
 module _ (number : ℕ → ℕ) where
   abbrev new_term : Term → Term

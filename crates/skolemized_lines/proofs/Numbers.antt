@@ -1,9 +1,9 @@
 -- Which part an input is of, and how the functions of a part are numbered.
-use Rattle.std.specs.Prelude.{ℕ, zero, suc, ◌≡◌, ◌+◌, ◌-◌, ◌<◌, ◌≤◌, nat_lt, Bool, true, false, if◌then◌else◌, List, [], ◌∷◌, ◌++◌, length, map, get_or, replicate, Option, Some, None, slice_get, take, refl}
+use Rattle.std.specs.Prelude.{ℕ, zero, suc, ◌≡◌, ◌+◌, ◌-◌, ◌<◌, ◌≤◌, Bool, true, false, if◌then◌else◌, List, [], ◌∷◌, ◌++◌, length, get_or, replicate, Some, slice_get, refl}
 use Rattle.std.specs.List.{range_with_len}
 use Rattle.std.proofs.Common.{ap, sym, subst, ◌∙◌, arith, inl, inr}
 use Rattle.std.proofs.lemmas.Bool.{le-ltb}
-use Rattle.std.proofs.lemmas.List.{length-append, length-replicate, get_or_append_left, get_or-append-add}
+use Rattle.std.proofs.lemmas.List.{length-replicate, get_or_append_left, get_or-append-add}
 use Rattle.clause_form.specs.declared.clause.Clause.{Clause}
 use Rattle.clause_form.specs.ClauseWays.{IsIn}
 use Rattle.clause_form.specs.Clauses.{clauses_of}
@@ -14,7 +14,7 @@ use Rattle.sort_check.specs.declared.line.GivenEntry.{GivenEntry}
 use Rattle.step_clauses.specs.Inputs.{clauses_from, next_behind}
 use Rattle.given_parts.specs.Numbers.{firsts_from, numbers_from, next_behind as next_number}
 use Rattle.given_parts.specs.Owners.{owners_from}
-use Rattle.given_parts.specs.Parts.{ex_count_of, part_of, parts_of}
+use Rattle.given_parts.specs.Parts.{part_of, parts_of}
 use Rattle.printed_clauses.specs.Renumbered.{new_number}
 use Rattle.derivation_sentences.proofs.Linked.{ex_of, forms_in}
 use Rattle.derivation_sentences.proofs.Owned.{in_either}

@@ -1,6 +1,6 @@
 -- Each line that is a step and is not inferred follows from the line that it names: those with new functions by `skolem`,
 -- and the clauses of given formulas by `cover`.
-use Rattle.std.specs.Prelude.{ℕ, zero, suc, ◌≡◌, ◌+◌, ◌<◌, ◌≤◌, ◌^◌, nat_lt, Bool, true, false, if◌then◌else◌, List, [], ◌∷◌, ◌++◌, length, map, get_or, take, Option, Some, slice_get, refl}
+use Rattle.std.specs.Prelude.{ℕ, zero, suc, ◌≡◌, ◌+◌, ◌<◌, ◌≤◌, ◌^◌, Bool, true, false, if◌then◌else◌, List, [], ◌∷◌, ◌++◌, length, map, get_or, take, Option, Some, slice_get, refl}
 use Rattle.std.specs.List.{All as Each, AllByRecursion, list_any}
 use Rattle.std.specs.Option.{option_map}
 use Rattle.std.proofs.Common.{ap, sym, subst, ◌∙◌, arith, inl, inr}
@@ -19,11 +19,10 @@ use Rattle.clause_form.specs.ClauseView.{closed}
 use Rattle.clause_form.specs.Clauses.{skolemized}
 use Rattle.clause_form.specs.Norm.{norm_of}
 use Rattle.clause_form.specs.Sizes.{norm_size_of}
-use Rattle.clause_rules.specs.CoverRule.{IsCoverStep}
 use Rattle.clause_rules.specs.Steps.{IsReady}
 use Rattle.derivation_items.specs.Words.{Text}
 use Rattle.derivation_items.specs.declared.line.LineSource.{LineSource}
-use Rattle.derivation_items.specs.declared.line.LineSource.TheVariants.{ClauseOf, Given, Inferred, Skolemized}
+use Rattle.derivation_items.specs.declared.line.LineSource.TheVariants.{Given, Skolemized}
 use Rattle.derivation_items.specs.declared.line.ProofLine.{ProofLine}
 use Rattle.derivation_order.specs.Cited.{forms_in}
 use Rattle.derivation_order.specs.Graphs.{is_given}
@@ -54,7 +53,7 @@ use Rattle.proof_check.proofs.InVocabulary.{stays_inside}
 use Rattle.problem_proofs.specs.Found.{IsFound, refutation_by, vocabulary_of}
 use Rattle.problem_proofs.specs.Posed.{clauses_of_given, with_functions}
 use Rattle.problem_proofs.proofs.PosedFacts.{clauses_are}
-use Rattle.refutation_lines.specs.Lines.{clause_line, given_lines, inferred_lines, input_lines, last_line, lines_of, lines_of_member, skolem_line, skolem_lines, source_of_input}
+use Rattle.refutation_lines.specs.Lines.{given_lines, inferred_lines, input_lines, last_line, lines_of, lines_of_member, skolem_line, skolem_lines, source_of_input}
 use Rattle.refutation_lines.specs.Names.{given_name, has_functions, has_some, opened_name, skolem_name}
 use Rattle.refutation_lines.specs.Needs.{uses_part}
 use Rattle.refutation_lines.specs.Plans.{Refutation, owners_in, plan_of, printed_in, used_in}
@@ -291,21 +290,26 @@ module _ (v : Vocabulary) (given : List GivenEntry) (limit : ℕ) (d : Derivatio
   abbrev renumber : ℕ → ℕ
   renumber = number v given used prefix
 
-  -- an input follows from the line of its part
-  input_so : (earlier : List ProofLine) → ((l : ProofLine) → Has opened l → Has earlier l) → (i : ℕ) (c : Clause) → slice_get (clauses_of_given v given) i ≡ Some c → slice_get used (get_or (owners_in r) i 0) ≡ Some true → HasItsVariables c
-      → IsOpened w given earlier (printed renumber c) (source_of_input plan i)
-  input_so earlier keep i c at marked own =
-      let p : IsOfPart given used (length v.symbols) (length v.symbols) (get_or (owners_in r) i 0) 0 c = part_of_input given used (length v.symbols) (length v.symbols) 0 i c long (ap (λ (cs : List Clause). slice_get cs i) (sym (clauses_are v given)) ∙ at) in
-      let same : get_or (owners_in r) i 0 ≡ p.part = p.owned ∙ (omega arith) in
+  -- a clause of a part follows from its line
+  part_so : (earlier : List ProofLine) → ((l : ProofLine) → Has opened l → Has earlier l) → (owner : ℕ) (c : Clause) → IsOfPart given used (length v.symbols) (length v.symbols) owner 0 c → slice_get used owner ≡ Some true → HasItsVariables c
+      → IsOpened w given earlier (printed renumber c) (ClauseOf (opened_name (parts_of given) owner))
+  part_so earlier keep owner c p marked own =
+      let same : owner ≡ p.part = p.owned ∙ (omega arith) in
       let taken : slice_get used p.part ≡ Some true = ap (slice_get used) (sym same) ∙ marked in
       let line = opened_at p.part p.entry taken p.there in
       record {
-        word = opened_name (parts_of given) (get_or (owners_in r) i 0);
+        word = opened_name (parts_of given) owner;
         named = λ lines. refl;
         parent = opened_form v given used prefix p.part p.entry;
         there = (line.0, keep line.0 line.1, line.2 ∙ ap (opened_name (parts_of given)) (sym same), line.3);
-        applies = inr (inl (part_covered v given used prefix w (get_or (owners_in r) i 0) c p (ready_at p.part p.entry p.there) (small_at p.part p.entry p.there) long taken own));
+        applies = inr (inl (part_covered v given used prefix w owner c p (ready_at p.part p.entry p.there) (small_at p.part p.entry p.there) long taken own));
       }
+
+  -- so does an input
+  input_so : (earlier : List ProofLine) → ((l : ProofLine) → Has opened l → Has earlier l) → (i : ℕ) (c : Clause) → slice_get (clauses_of_given v given) i ≡ Some c → slice_get used (get_or (owners_in r) i 0) ≡ Some true → HasItsVariables c
+      → IsOpened w given earlier (printed renumber c) (source_of_input plan i)
+  input_so earlier keep i c at marked own =
+      part_so earlier keep (get_or (owners_in r) i 0) c (part_of_input given used (length v.symbols) (length v.symbols) 0 i c long (ap (λ (cs : List Clause). slice_get cs i) (sym (clauses_are v given)) ∙ at)) marked own
 
   abbrev inputs : List ProofLine
   inputs = chosen_from 0 (input_lines plan) (printed_in r needed) (clauses_of_given v given)

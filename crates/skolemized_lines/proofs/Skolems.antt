@@ -1,13 +1,12 @@
 -- A normal form with the functions of a derivation in place of its existential variables, as the rule `skolem` has it.
-use Rattle.std.specs.Prelude.{ℕ, zero, suc, ◌≡◌, ◌+◌, ◌<◌, ◌≤◌, ◌==◌, nat_eq, Bool, true, false, List, [], ◌∷◌, length, map, get_or, Some, slice_get, refl}
-use Rattle.std.specs.List.{All as Each, AllByRecursion, IsDistinct}
-use Rattle.std.proofs.Common.{ap, sym, subst, ◌∙◌, arith}
+use Rattle.std.specs.Prelude.{ℕ, suc, ◌≡◌, ◌+◌, ◌<◌, ◌≤◌, nat_eq, Bool, true, false, List, [], ◌∷◌, length, map, get_or, Some, slice_get, refl}
+use Rattle.std.specs.List.{AllByRecursion, IsDistinct}
+use Rattle.std.proofs.Common.{ap, sym, ◌∙◌, arith}
 use Rattle.std.proofs.lemmas.Bool.{ne_eqb}
 use Rattle.std.proofs.lemmas.Map.Keys.{IsDistinct-cons}
 use Rattle.fof_terms.specs.declared.form.Form.{Form}
 use Rattle.fof_terms.specs.declared.term.Term.{Term}
 use Rattle.fof_terms.specs.Occurs.{occurs_in}
-use Rattle.fof_terms.specs.SortLaws.{Grows}
 use Rattle.fof_terms.specs.Sorts.{sort_of_term}
 use Rattle.fof_terms.specs.Vocabulary.{Vocabulary}
 use Rattle.fof_terms.proofs.SortLawsFacts.{grown_fits}
@@ -31,11 +30,11 @@ use Rattle.skolem_proofs.proofs.Others.{made_lacks}
 use Rattle.skolem_proofs.proofs.Standing.{no_larger}
 use Rattle.sort_check.specs.declared.line.GivenEntry.{GivenEntry}
 use Rattle.step_clauses.specs.declared.existentials.Existential.{Existential}
-use Rattle.step_clauses.specs.Skolems.{skolems_from, use_of, uses_of}
+use Rattle.step_clauses.specs.Skolems.{skolems_from, use_of}
 use Rattle.step_clauses.proofs.Placed.{skolemized_is}
 use Rattle.derivation_sentences.proofs.Alike.{term_alike}
-use Rattle.derivation_sentences.proofs.Linked.{ex_of, in_front, symbols_in}
-use Rattle.derivation_sentences.proofs.Skolems.{es, named, named_alike, named_grows, part_known, renamed}
+use Rattle.derivation_sentences.proofs.Linked.{ex_of}
+use Rattle.derivation_sentences.proofs.Skolems.{named, named_alike, named_grows, part_known, renamed}
 
 -- ---- over a vocabulary that gives all terms the same sorts
 
