@@ -1,9 +1,9 @@
 -- Each inference is a step by a rule: resolution, paramodulation, equality factoring, or a covering of a parent's clause.
-use Rattle.std.specs.Prelude.{ℕ, ◌+◌, ◌-◌, ◌<◌, ◌≡◌, ◌⊎◌, nat_lt, if◌then◌else◌, Bool, true, false, List, [], ◌∷◌, ◌++◌, length, map, remove, reverse, Option, Some, None, slice_get, slice_set, refl}
+use Rattle.std.specs.Prelude.{ℕ, ◌+◌, ◌-◌, ◌<◌, ◌≡◌, nat_lt, if◌then◌else◌, Bool, List, [], ◌∷◌, ◌++◌, length, map, remove, Option, Some, None, slice_get, slice_set, refl}
 use Rattle.std.proofs.Common.{ap, sym, subst, ◌∙◌, arith, append-nil, zero, suc, inl, inr}
 use Rattle.std.proofs.lemmas.Bool.{lt-ltb, le-ltb}
 use Rattle.std.proofs.lemmas.List.{length-reverse}
-use Rattle.fof_terms.specs.declared.term.Term.{Term, Var, App}
+use Rattle.fof_terms.specs.declared.term.Term.{Term, App}
 use Rattle.fof_terms.specs.Vocabulary.{Vocabulary}
 use Rattle.fof_terms.specs.Lift.{lifted_term}
 use Rattle.fof_terms.proofs.Induction.{term_induction}
@@ -17,7 +17,7 @@ use Rattle.clause_form.specs.declared.clause.Clause.{Clause}
 use Rattle.clause_form.specs.ClauseView.{stated, denied}
 use Rattle.clause_form.specs.Covers.{at_terms, lit_image, lit_apart, scope_of, AreSorted, IsCovered, CoversBy}
 use Rattle.clause_form.specs.Images.{image, IsImages}
-use Rattle.clause_form.proofs.ImagesFacts.{image-App, AgreeOn}
+use Rattle.clause_form.proofs.ImagesFacts.{image-App}
 use Rattle.clause_form.proofs.ClauseLaws.{get_image, lits_agree}
 use Rattle.clause_rules.specs.Places.{args_of, term_at, down_into, args_of_atom, lit_term_at, lit_put_at}
 use Rattle.clause_rules.proofs.PlaceLaws.{args_of-Var, args_of-App, lit_at_walk, lit_put_walk}
@@ -27,7 +27,6 @@ use Rattle.clause_rules.specs.Steps.{instances, scope_of_both, apart_from, equat
 use Rattle.clause_rules.specs.ResolutionRule.{ResolvesTo}
 use Rattle.clause_rules.specs.ParamodulationRule.{Paramodulates, HasPlace}
 use Rattle.clause_rules.specs.EqFactorRule.{Factors}
-use Rattle.clause_order.specs.Weights.{as_term}
 use Rattle.superpose.specs.Drafts.{Draft, IsMadeBy}
 use Rattle.superpose.specs.Inferences.{ResolvesAt, SuperposesAt, FactorsAt, ResolvesEquationAt, FactorsEquationsAt}
 use Rattle.superpose.proofs.PairFacts.{same_args, image_as_term, as_term_injective}

@@ -1,5 +1,5 @@
 -- A parent whose clause the line covers, as code looks for it; and which rule an inference is.
-use Rattle.std.specs.Prelude.{ℕ, ◌<◌, ◌≤◌, ◌≡◌, ◌⊎◌, List, [], ◌∷◌, length, reverse, Some, None, Option, get_or, slice_get, refl}
+use Rattle.std.specs.Prelude.{ℕ, ◌<◌, ◌≤◌, ◌≡◌, List, [], ◌∷◌, length, Some, None, Option, get_or, slice_get, refl}
 use Rattle.std.proofs.Common.{ap, sym, subst, ◌∙◌, arith, zero, suc, inl, inr}
 use Rattle.std.proofs.lemmas.Option.{slice_get_within, slice_get-get_or}
 use Rattle.fof_terms.specs.declared.form.Form.{Form}
@@ -8,7 +8,6 @@ use Rattle.clause_form.specs.declared.path.Parent.{Parent}
 use Rattle.clause_form.specs.declared.clause.Clause.{Clause}
 use Rattle.clause_form.specs.ClauseView.{clause_of}
 use Rattle.clause_form.specs.Covers.{lit_image, scope_of, AreSorted, Covers, CoversBy, IsCovered}
-use Rattle.clause_form.specs.declared.clause.Lit.{Lit}
 use Rattle.fof_terms.specs.declared.term.Term.{Term}
 use Rattle.clause_proofs.specs.declared.opening.Opened.{Opened}
 use Rattle.clause_proofs.specs.Bodies.{IsOpening}
@@ -27,7 +26,7 @@ use Rattle.rule_proofs.proofs.Joints.{parent_clause}
 use Rattle.superpose.specs.Drafts.{Draft, IsMadeBy}
 use Rattle.superpose.specs.Inferences.{IsDraftOfOne, IsDraftOfTwo}
 use Rattle.inference_proofs.specs.code.Covering.{IsByParent}
-use Rattle.inference_proofs.specs.Inferred.{IsInferred, IsInferredFromOne, IsInferredFromTwo, CoversParent}
+use Rattle.inference_proofs.specs.Inferred.{IsInferred, IsInferredFromOne, IsInferredFromTwo, IsRuleStep, CoversParent}
 use Rattle.inference_proofs.proofs.AsSteps.{resolution_is_step, superposition_is_step, other_way, factoring_covers, equation_covers, equations_factor}
 
 -- the parent at a place, whose clause is known
@@ -48,10 +47,7 @@ at_sorted v parents a c ready at =
     (clause_fit v p.0.form c (parent_ready v parents a p.0 ready p.1) p.2).sorted
 
 module _ (v : Vocabulary) (parents : List Parent) (line : Form) where
-  abbrev pub IsStep : Type 0
-  IsStep = IsResolutionStep v parents line ⊎ (IsParamodulationStep v parents line ⊎ (IsEqFactorStep v parents line ⊎ CoversParent v parents line))
-
-  two_step : AreReady v parents → (i : IsInferredFromTwo v parents line) → (f : Draft) → IsDraftOfTwo i.first i.second f → IsMadeBy v (scope_of_both i.first i.second) f i.conclusion i.images → IsStep
+  two_step : AreReady v parents → (i : IsInferredFromTwo v parents line) → (f : Draft) → IsDraftOfTwo i.first i.second f → IsMadeBy v (scope_of_both i.first i.second) f i.conclusion i.images → IsRuleStep v parents line
   two_step ready i f (inl r) made =
       inl (
         i.a,
@@ -87,7 +83,7 @@ module _ (v : Vocabulary) (parents : List Parent) (line : Form) where
         },
       ))
 
-  one_step : (i : IsInferredFromOne v parents line) → (f : Draft) → IsDraftOfOne i.premise f → IsMadeBy v (scope_of i.premise) f i.conclusion i.images → IsStep
+  one_step : (i : IsInferredFromOne v parents line) → (f : Draft) → IsDraftOfOne i.premise f → IsMadeBy v (scope_of i.premise) f i.conclusion i.images → IsRuleStep v parents line
   one_step i f (inl p) made =
       inr (inr (inr (record { a = i.a; clause = i.premise; line_lits = i.conclusion; parent_clause = i.parent_clause; line_clause = i.line_clause; covers = ([], i.images, factoring_covers v i.premise i.conclusion f i.images made p.i p.j p.at) })))
   one_step i f (inr (inl p)) made =
@@ -106,13 +102,15 @@ module _ (v : Vocabulary) (parents : List Parent) (line : Form) where
         record { line_clause = i.line_clause; parent_clause = i.parent_clause; factors = equations_factor v i.premise i.conclusion f i.images made p.i p.first_flipped p.j p.second_flipped p.at },
       )))
 
-  pub inferred_is_step : AreReady v parents → IsInferred v parents line → IsStep
+  pub inferred_is_step : AreReady v parents → IsInferred v parents line → IsRuleStep v parents line
   inferred_is_step ready (inl i) = two_step ready i i.infers.0 i.infers.1 i.infers.2
   inferred_is_step ready (inr i) = one_step i i.infers.0 i.infers.1 i.infers.2
 
-  pub line_is_clause : IsInferred v parents line → (e : Clause) × (clause_of line ≡ Some e)
-  line_is_clause (inl i) = (i.conclusion, i.line_clause)
-  line_is_clause (inr i) = (i.conclusion, i.line_clause)
+  pub line_is_clause : IsRuleStep v parents line → (e : Clause) × (clause_of line ≡ Some e)
+  line_is_clause (inl (a, b, i, j, left, right, e, more, s, at)) = (e, at.line_clause)
+  line_is_clause (inr (inl (a, b, i, place, j, flipped, into, from, e, more, s, at))) = (e, at.line_clause)
+  line_is_clause (inr (inr (inl (a, i, first_flipped, j, second_flipped, c, e, more, s, at)))) = (e, at.line_clause)
+  line_is_clause (inr (inr (inr h))) = (h.line_lits, h.line_clause)
 
 -- the clause of the parent at this place is covered
 abbrev pub CoversAt : Vocabulary → List Parent → Clause → ℕ → Type 0
@@ -148,9 +146,9 @@ settled_covers v line c o x is settles i k at =
     subst (IsCovered line.lits) from.2 (shown.1.covered i from.0 from.1)
 
 -- one of the rules gives it
-pub none_gives : (v : Vocabulary) (parents : List Parent) (line : Form) → AreReady v parents → IsInferred v parents line
+pub none_gives : (v : Vocabulary) (parents : List Parent) (line : Form) → IsRuleStep v parents line
     → (IsResolutionStep v parents line → ⊥) → (IsParamodulationStep v parents line → ⊥) → (IsEqFactorStep v parents line → ⊥) → (CoversParent v parents line → ⊥) → ⊥
-none_gives v parents line ready i a b c d = elim (inferred_is_step v parents line ready i) [
+none_gives v parents line i a b c d = elim i [
   | inl h ↦ a h
   | inr rest ↦ elim rest [
     | inl h ↦ b h

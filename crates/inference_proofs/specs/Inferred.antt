@@ -8,6 +8,9 @@ use Rattle.clause_form.specs.declared.path.Parent.{Parent}
 use Rattle.clause_form.specs.declared.clause.Clause.{Clause}
 use Rattle.clause_form.specs.ClauseView.{clause_of}
 use Rattle.clause_form.specs.Covers.{Covers}
+use Rattle.clause_rules.specs.EqFactorRule.{IsEqFactorStep}
+use Rattle.clause_rules.specs.ParamodulationRule.{IsParamodulationStep}
+use Rattle.clause_rules.specs.ResolutionRule.{IsResolutionStep}
 use Rattle.clause_rules.specs.Steps.{IsClauseAt}
 use Rattle.superpose.specs.Inferences.{InfersFromTwo, InfersFromOne}
 
@@ -45,3 +48,9 @@ pub record CoversParent (v : Vocabulary) (parents : List Parent) (line : Form) :
   pub parent_clause : IsClauseAt parents a clause
   pub line_clause : clause_of line ≡ Some line_lits
   pub covers : Covers v clause line_lits
+
+-- the line follows by resolution, paramodulation or eqfactor, or covers the clause of a parent
+abbrev pub IsRuleStep : Vocabulary → List Parent → Form → Type 0
+IsRuleStep v parents line =
+    IsResolutionStep v parents line ⊎ (IsParamodulationStep v parents line
+    ⊎ (IsEqFactorStep v parents line ⊎ CoversParent v parents line))

@@ -2,7 +2,7 @@
 ghost use Rattle.std.specs.Prelude.{IfOk};
 ghost use Rattle.clause_proofs.specs.Shown.{ShowsLine};
 ghost use Rattle.clause_rules.specs.Steps.{AreReady, IsReady};
-ghost use Rattle.inference_proofs.specs.Inferred.{IsInferred};
+ghost use Rattle.inference_proofs.specs.Inferred.{IsInferred, IsRuleStep};
 
 use crate::covering::by_covering;
 use clause_form::Parent;
@@ -26,6 +26,22 @@ pub fn inference_proof(
     requires ready { AreReady signature.now parents.now }
     requires line { IsReady signature.now line.now }
     requires inferred { IsInferred signature.now parents.now line.now }
+    ensures { IfOk result (ShowsLine signature.now parents.now line.now) }
+{
+    step_proof(alloc, signature, parents, line)
+}
+
+/// A proof of the line, which follows by one of the rules `resolution`, `paramodulation` and `eqfactor`, or covers the
+/// clause of a parent.
+pub fn step_proof(
+    alloc: Global,
+    signature: &Signature,
+    parents: &[Parent],
+    line: &Form,
+) -> Result<Part, Memory>
+    requires ready { AreReady signature.now parents.now }
+    requires line { IsReady signature.now line.now }
+    requires step { IsRuleStep signature.now parents.now line.now }
     ensures { IfOk result (ShowsLine signature.now parents.now line.now) }
 {
     if let Some(proof) = by_resolution(alloc, signature, parents, line)? {

@@ -96,7 +96,7 @@ zip_within R (x ∷ xs) [] k all lt = absurd all
 zip_within R (x ∷ xs) (y ∷ ys) zero all lt = omega arith
 zip_within R (x ∷ xs) (y ∷ ys) (suc k) all lt = let rest = zip_within R xs ys k all.1 (omega arith) in omega arith
 
-zip_at : {X Y : Type 0} (R : X → Y → Type 0) (xs : List X) (ys : List Y) (k : ℕ) (x : X) (y : Y) → AllZip R xs ys → slice_get xs k ≡ Some x → slice_get ys k ≡ Some y → R x y
+pub zip_at : {X Y : Type 0} (R : X → Y → Type 0) (xs : List X) (ys : List Y) (k : ℕ) (x : X) (y : Y) → AllZip R xs ys → slice_get xs k ≡ Some x → slice_get ys k ≡ Some y → R x y
 zip_at R [] ys k x y all own other = cc
 zip_at R (u ∷ xs) [] k x y all own other = absurd all
 zip_at R (u ∷ xs) (z ∷ ys) zero x y all own other = let one : u ≡ x = cc in let two : z ≡ y = cc in subst (λ a. R a y) one (subst (λ b. R u b) two all.0)

@@ -32,13 +32,13 @@ one_long [] x e is = absurd (omega arith)
 one_long (y ∷ []) x e is = ap (λ z. z ∷ []) (sym is)
 one_long (y ∷ z ∷ xs) x e is = absurd (omega arith)
 
-whole_front : {X : Type 0} (xs : List X) (n : ℕ) → length xs ≤ n → take n xs ≡ xs
+pub whole_front : {X : Type 0} (xs : List X) (n : ℕ) → length xs ≤ n → take n xs ≡ xs
 whole_front [] zero le = refl
 whole_front [] (suc n) le = refl
 whole_front (x ∷ xs) zero le = absurd (omega arith)
 whole_front (x ∷ xs) (suc n) le = ap (λ ys. x ∷ ys) (whole_front xs n (omega arith))
 
-zip_long : {X Y : Type 0} (R : X → Y → Type 0) (xs : List X) (ys : List Y) → AllZip R xs ys → length ys ≡ length xs
+pub zip_long : {X Y : Type 0} (R : X → Y → Type 0) (xs : List X) (ys : List Y) → AllZip R xs ys → length ys ≡ length xs
 zip_long R [] [] all = refl
 zip_long R [] (y ∷ ys) all = absurd all
 zip_long R (x ∷ xs) [] all = absurd all

@@ -17,7 +17,7 @@ use Rattle.kernel.specs.declared.proof.Proof.{Proof}
 use Rattle.input_proofs.specs.Formulas.{formula_of, has_or}
 use Rattle.negated_lemmas.specs.Negated.{with_denied}
 use Rattle.saturation.specs.Members.{clauses_of}
-use Rattle.saturation.specs.Origins.{AreMade, IsMade}
+use Rattle.search_proofs.specs.code.Derived.{AreDerived, IsDerived}
 use Rattle.saturation.specs.declared.member.Member.{Member}
 use Rattle.saturation.specs.declared.member.Origin.TheVariants.{Input}
 use Rattle.superpose.specs.Drafts.{IsClause}
@@ -131,14 +131,14 @@ ended_by_last w start members numbers of_inputs sorts last old mid new n p q pas
 }
 
 -- the inputs of a refutation, as many as have a number
-pub inputs_made : (w : Vocabulary) (members : List Member) (last : Member) (base : ℕ) (inputs : List (Option Proof)) (of_inputs lent : List ℕ) → (clauses : List Clause) × (length clauses ≡ length inputs) × AreMade w clauses members × IsMade w clauses (clauses_of members) last
-    → of_inputs ≡ numbers_from base inputs → lent ≡ of_inputs → (clauses : List Clause) × (length clauses ≡ length lent) × AreMade w clauses members
+pub inputs_made : (w : Vocabulary) (members : List Member) (last : Member) (base : ℕ) (inputs : List (Option Proof)) (of_inputs lent : List ℕ) → (clauses : List Clause) × (length clauses ≡ length inputs) × AreDerived w clauses members × IsDerived w clauses (clauses_of members) last
+    → of_inputs ≡ numbers_from base inputs → lent ≡ of_inputs → (clauses : List Clause) × (length clauses ≡ length lent) × AreDerived w clauses members
 inputs_made w members last base inputs of_inputs lent made placed lent_is =
     let many = ap (λ (ns : List ℕ). length ns) (lent_is ∙ placed) ∙ numbers_count base inputs in
     (made.0, made.1 ∙ sym many, made.2)
 
-pub last_made : (w : Vocabulary) (members : List Member) (last : Member) (base : ℕ) (inputs : List (Option Proof)) (of_inputs lent : List ℕ) → (clauses : List Clause) × (length clauses ≡ length inputs) × AreMade w clauses members × IsMade w clauses (clauses_of members) last
-    → of_inputs ≡ numbers_from base inputs → lent ≡ of_inputs → (clauses : List Clause) × (length clauses ≡ length lent) × IsMade w clauses (clauses_of members) last
+pub last_made : (w : Vocabulary) (members : List Member) (last : Member) (base : ℕ) (inputs : List (Option Proof)) (of_inputs lent : List ℕ) → (clauses : List Clause) × (length clauses ≡ length inputs) × AreDerived w clauses members × IsDerived w clauses (clauses_of members) last
+    → of_inputs ≡ numbers_from base inputs → lent ≡ of_inputs → (clauses : List Clause) × (length clauses ≡ length lent) × IsDerived w clauses (clauses_of members) last
 last_made w members last base inputs of_inputs lent made placed lent_is =
     let many = ap (λ (ns : List ℕ). length ns) (lent_is ∙ placed) ∙ numbers_count base inputs in
     (made.0, made.1 ∙ sym many, made.3)

@@ -7,8 +7,11 @@ pub mod Forms
 pub mod InTurn
 pub mod Inputs
 pub mod LastFacts
+pub mod Merged
+pub mod Once
 pub mod Passing
 pub mod PlacedFacts
+pub mod Repeated
 pub mod Sweeping
 pub mod Symbols
 pub mod WantedFacts

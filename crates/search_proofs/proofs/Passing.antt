@@ -19,18 +19,17 @@ use Rattle.derive_kit.specs.Derived.{AreOfTheory}
 use Rattle.kernel.specs.Proves.{Proves}
 use Rattle.kernel.specs.Statements.{Statements}
 use Rattle.kernel.specs.declared.proof.Proof.{Proof}
-use Rattle.inference_proofs.specs.Inferred.{IsInferred}
+use Rattle.inference_proofs.specs.Inferred.{IsRuleStep}
 use Rattle.input_proofs.proofs.ClauseFormulas.{formula_view}
 use Rattle.input_proofs.specs.Formulas.{formula_of}
 use Rattle.negated_lemmas.specs.Negated.{with_denied}
 use Rattle.saturation.proofs.Lists.{got_pushed}
 use Rattle.saturation.specs.Members.{clauses_of}
-use Rattle.saturation.specs.Origins.{Makes, AreMade}
+use Rattle.search_proofs.specs.code.Derived.{AreDerived, Derives}
 use Rattle.saturation.specs.declared.member.Member.{Member}
 use Rattle.saturation.specs.declared.member.Origin.{Origin}
 use Rattle.saturation.specs.declared.member.Origin.TheVariants.{Input, Inferred}
 use Rattle.superpose.specs.Drafts.{IsClause}
-use Rattle.unify_terms.specs.Substitution.{image_at}
 use Rattle.search_proofs.specs.Needed.{Names, IsMarked}
 use Rattle.search_proofs.specs.code.Marks.{NameMarked}
 use Rattle.search_proofs.specs.code.Naming.{NameEarlier}
@@ -38,7 +37,7 @@ use Rattle.search_proofs.specs.code.Facts.{Setting, IsOf, AreShown, StandsAt, fi
 use Rattle.search_proofs.specs.code.Members.{IsPremise, IsConcluded, IsPassed, IsPassedIf, MembersStand, IsMembers, ShowMore, PassMembers}
 use Rattle.search_proofs.proofs.Forms.{formula_ready}
 use Rattle.search_proofs.proofs.InTurn.{stands_in, stands_last, no_more, one_of, shown_twice, stands_on}
-use Rattle.search_proofs.proofs.Sweeping.{origin_names, count_of, each_names}
+use Rattle.search_proofs.proofs.Sweeping.{derived_names, count_of, each_derived_names}
 use Rattle.search_proofs.proofs.Symbols.{clause_at, taken}
 
 -- the member at a place, as code meets it
@@ -55,16 +54,16 @@ premise_there members numbers at m p lt size is number form = record {
 }
 
 -- what an inference names is there
-pub named_within : (v : Vocabulary) (inputs : List Clause) (members : List Member) (e : Clause) (a b : ℕ) (images : List Term) → Makes v inputs (clauses_of members) e (Inferred a b images) → (a < length members) × (b < length members)
+pub named_within : (v : Vocabulary) (inputs : List Clause) (members : List Member) (e : Clause) (a b : ℕ) (images : List Term) → Derives v inputs (clauses_of members) e (Inferred a b images) → (a < length members) × (b < length members)
 named_within v inputs members e a b images made =
-    let below = origin_names v inputs (clauses_of members) e (Inferred a b images) made in
+    let below = derived_names v inputs (clauses_of members) e (Inferred a b images) made in
     let first = below a (inl refl) in
     let second = below b (inr refl) in
     let many = count_of members in
     (omega arith, omega arith)
 
-pub input_within : (v : Vocabulary) (inputs list : List Clause) (e : Clause) (o : Origin) (i : ℕ) → Makes v inputs list e o → o ≡ Input i → slice_get inputs i ≡ Some e
-input_within v inputs list e o i made is = subst (λ (x : Origin). Makes v inputs list e x) is made
+pub input_within : (v : Vocabulary) (inputs list : List Clause) (e : Clause) (o : Origin) (i : ℕ) → Derives v inputs list e o → o ≡ Input i → slice_get inputs i ≡ Some e
+input_within v inputs list e o i made is = subst (λ (x : Origin). Derives v inputs list e x) is made
 
 one_there : (members : List Member) (at : ℕ) (c d : Clause) → slice_get (clauses_of members) at ≡ Some c → slice_get (clauses_of members) at ≡ Some d → c ≡ d
 one_there members at c d e f = let both : Some c ≡ Some d = sym e ∙ f in cc
@@ -84,29 +83,9 @@ module _ (w : Vocabulary) (members : List Member) (numbers : List ℕ) where
       All-cons (λ (x : Parent). IsReady w x.form) p (q ∷ []) (premise_ready a p fit first)
       (All-cons (λ (x : Parent). IsReady w x.form) q [] (premise_ready b q fit second) (All-nil (λ (x : Parent). IsReady w x.form)))
 
-  pub parents_infer : (inputs : List Clause) (a b : ℕ) (p q : Parent) (e : Clause) (images : List Term) → IsPremise members numbers a p → IsPremise members numbers b q
-      → Makes w inputs (clauses_of members) e (Inferred a b images) → IsInferred w (p ∷ q ∷ []) (formula_of e)
-  parents_infer inputs a b p q e images first second (inl two) = inl (record {
-    a = 0;
-    b = 1;
-    first = two.first;
-    second = two.second;
-    conclusion = e;
-    images = image_at images;
-    first_clause = ap Some (premise_clause a p two.first first two.first_at);
-    second_clause = ap Some (premise_clause b q two.second second two.second_at);
-    line_clause = formula_view e;
-    infers = two.infers;
-  })
-  parents_infer inputs a b p q e images first second (inr one) = inr (record {
-    a = 0;
-    premise = one.premise;
-    conclusion = e;
-    images = image_at images;
-    parent_clause = ap Some (premise_clause a p one.premise first one.premise_at);
-    line_clause = formula_view e;
-    infers = one.infers;
-  })
+  pub parents_step : (inputs : List Clause) (a b : ℕ) (p q : Parent) (e : Clause) (images : List Term) → IsPremise members numbers a p → IsPremise members numbers b q
+      → Derives w inputs (clauses_of members) e (Inferred a b images) → IsRuleStep w (p ∷ q ∷ []) (formula_of e)
+  parents_step inputs a b p q e images first second d = d.step p q (premise_clause a p d.first first d.first_at) (premise_clause b q d.second second d.second_at)
 
 -- a member is passed
 module _ (s : Setting) (w : Vocabulary) (voc : s.vocabulary ≡ w) (start : ℕ) (starts : first_fact s ≡ start) (facts : List Form) (earlier : List Member) (numbers : List ℕ) where
@@ -207,25 +186,25 @@ take_count (x ∷ xs) (suc n) le = ap suc (take_count xs n (omega arith))
 pub front_count : (members front : List Member) (numbers : List ℕ) (n : ℕ) → front ≡ take n members → n < length members → length numbers ≡ n → length numbers ≡ length front
 front_count members front numbers n is lt size = let many = ap (λ (ms : List Member). length ms) is in let own = take_count members n (omega arith) in omega arith
 
-pub front_made : (w : Vocabulary) (members front : List Member) (n : ℕ) (m : Member) (count : ℕ) → front ≡ take n members → n < length members → m ≡ get_or members n m → (inputs : List Clause) × (length inputs ≡ count) × AreMade w inputs members
-    → (inputs : List Clause) × (length inputs ≡ count) × Makes w inputs (clauses_of front) m.clause m.origin
+pub front_made : (w : Vocabulary) (members front : List Member) (n : ℕ) (m : Member) (count : ℕ) → front ≡ take n members → n < length members → m ≡ get_or members n m → (inputs : List Clause) × (length inputs ≡ count) × AreDerived w inputs members
+    → (inputs : List Clause) × (length inputs ≡ count) × Derives w inputs (clauses_of front) m.clause m.origin
 front_made w members front n m count is lt at made =
-    (made.0, made.1, subst (λ (ms : List Member). Makes w made.0 (clauses_of ms) m.clause m.origin) (sym is) (made.2 n m (member_there members n m lt at)))
+    (made.0, made.1, subst (λ (ms : List Member). Derives w made.0 (clauses_of ms) m.clause m.origin) (sym is) (made.2 n m (member_there members n m lt at)))
 
 pub step_passed : (w : Vocabulary) (start : ℕ) (members front : List Member) (needed : List Bool) (of_inputs : List ℕ) (n : ℕ) (m : Member) (b : Bool) (numbers lent more : List ℕ) (number : ℕ) (old mid new : List Proof) → NameMarked members needed
-    → ((inputs : List Clause) × (length inputs ≡ length of_inputs) × AreMade w inputs members) → n < length members → length needed ≡ length members → front ≡ take n members → m ≡ get_or members n m → b ≡ get_or needed n false → length numbers ≡ n → lent ≡ numbers
+    → ((inputs : List Clause) × (length inputs ≡ length of_inputs) × AreDerived w inputs members) → n < length members → length needed ≡ length members → front ≡ take n members → m ≡ get_or members n m → b ≡ get_or needed n false → length numbers ≡ n → lent ≡ numbers
     → PassMembers w start members needed of_inputs numbers old mid → IsPassedIf b w start front lent of_inputs m.clause m.origin mid new number → more ≡ numbers ++ number ∷ [] → PassMembers w start members needed of_inputs more old new
 step_passed w start members front needed of_inputs n m b numbers lent more number old mid new needs made lt many is at b_is size lent_is before h push =
     let own : IsPassedIf b w start (take n members) numbers of_inputs m.clause m.origin mid new number =
     subst (λ (ms : List Member). IsPassedIf b w start ms numbers of_inputs m.clause m.origin mid new number) is (subst (λ (ns : List ℕ). IsPassedIf b w start front ns of_inputs m.clause m.origin mid new number) lent_is h) in
     let marked : slice_get needed n ≡ Some b = slice_get-get_or needed n false (omega arith) ∙ ap Some (sym b_is) in
-    pass_one w start members needed of_inputs needs (each_names w made.0 members made.2) n m (member_there members n m lt at) numbers more size number push old mid new before b marked own
+    pass_one w start members needed of_inputs needs (each_derived_names w made.0 members made.2) n m (member_there members n m lt at) numbers more size number push old mid new before b marked own
 
 -- a member that is proved from two
 module _ (w : Vocabulary) (start : ℕ) (earlier : List Member) (numbers of_inputs : List ℕ) (e : Clause) (o : Origin) where
-  pub inferred_made : (a b : ℕ) (images : List Term) → o ≡ Inferred a b images → (inputs : List Clause) × (length inputs ≡ length of_inputs) × Makes w inputs (clauses_of earlier) e o
-      → (images : List Term) × Makes w [] (clauses_of earlier) e (Inferred a b images)
-  inferred_made a b images is made = (images, subst (λ (x : Origin). Makes w made.0 (clauses_of earlier) e x) is made.2)
+  pub inferred_made : (a b : ℕ) (images : List Term) → o ≡ Inferred a b images → (inputs : List Clause) × (length inputs ≡ length of_inputs) × Derives w inputs (clauses_of earlier) e o
+      → (images : List Term) × Derives w [] (clauses_of earlier) e (Inferred a b images)
+  inferred_made a b images is made = (images, subst (λ (x : Origin). Derives w made.0 (clauses_of earlier) e x) is made.2)
 
 -- a proof from two members
 module _ (w : Vocabulary) (members : List Member) (numbers : List ℕ) (a b : ℕ) (e : Clause) (one other : Parent) (first : IsPremise members numbers a one) (second : IsPremise members numbers b other) (parents lent : List Parent) (parents_are : parents ≡ one ∷ other ∷ []) (lent_is : lent ≡ parents)
@@ -239,9 +218,9 @@ module _ (w : Vocabulary) (members : List Member) (numbers : List ℕ) (a b : �
   pub line_ready : IsClause w e → IsReady w line
   line_ready fit = subst (IsReady w) (sym line_is) (formula_ready w e fit)
 
-  pub lent_infer : (images : List Term) × Makes w [] (clauses_of members) e (Inferred a b images) → IsInferred w lent line
-  lent_infer made =
-      subst (λ (ps : List Parent). IsInferred w ps line) (sym both) (subst (IsInferred w (one ∷ other ∷ [])) (sym line_is) (parents_infer w members numbers [] a b one other e made.0 first second made.1))
+  pub lent_step : (images : List Term) × Derives w [] (clauses_of members) e (Inferred a b images) → IsRuleStep w lent line
+  lent_step made =
+      subst (λ (ps : List Parent). IsRuleStep w ps line) (sym both) (subst (IsRuleStep w (one ∷ other ∷ [])) (sym line_is) (parents_step w members numbers [] a b one other e made.0 first second made.1))
 
   pub lent_shows : (proof : Proof) → ShowsLine w lent line proof → IsConcluded w members numbers a b e proof
   lent_shows proof shows = record {

@@ -11,6 +11,7 @@ use Rattle.saturation.specs.Origins.{Makes, IsMade, AreMade}
 use Rattle.saturation.specs.declared.member.Member.{Member}
 use Rattle.saturation.specs.declared.member.Origin.{Origin}
 use Rattle.saturation.specs.declared.member.Origin.TheVariants.{Input, Inferred}
+use Rattle.search_proofs.specs.code.Derived.{AreDerived, Derives, IsDerived}
 use Rattle.search_proofs.specs.Needed.{Names, IsMarked, IsNamed, AreNeeded}
 use Rattle.search_proofs.specs.code.Naming.{NameEarlier, NamesBelow}
 use Rattle.search_proofs.specs.code.Marks.{IsSweptFrom, IsUnmarked, Marks, Passes}
@@ -175,6 +176,12 @@ origin_names v inputs list e (Inferred a b images) (inr one) i (inl x) = subst (
 origin_names v inputs list e (Inferred a b images) (inr one) i (inr y) =
     subst (λ n. n < length list) (one.twice ∙ sym y) (slice_get_within list a one.premise one.premise_at)
 
+-- what the origin of a member names that follows by a rule
+pub derived_names : (v : Vocabulary) (inputs list : List Clause) (e : Clause) (o : Origin) → Derives v inputs list e o → NamesBelow (length list) o
+derived_names v inputs list e (Input n) d i names = absurd names
+derived_names v inputs list e (Inferred a b images) d i (inl x) = subst (λ n. n < length list) (sym x) (slice_get_within list a d.first d.first_at)
+derived_names v inputs list e (Inferred a b images) d i (inr y) = subst (λ n. n < length list) (sym y) (slice_get_within list b d.second d.second_at)
+
 pub count_of : (list : List Member) → length (clauses_of list) ≡ length list
 count_of [] = refl
 count_of (m ∷ list) = ap suc (count_of list)
@@ -184,13 +191,25 @@ front_count list zero = omega arith
 front_count [] (suc j) = omega arith
 front_count (m ∷ list) (suc j) = omega (arith, front_count list j)
 
+last_of : (list : List Member) (o : Origin) → NamesBelow (length (clauses_of list)) o → NamesBelow (length list) o
+last_of list o below i names = let lt = below i names in omega (arith, count_of list)
+
+each_of : (list : List Member) → ((j : ℕ) (m : Member) → slice_get list j ≡ Some m → NamesBelow (length (clauses_of (take j list))) m.origin) → NameEarlier list
+each_of list below j m at i names =
+    let lt = below j m at i names in
+    omega (arith, count_of (take j list), front_count list j)
+
 pub last_names : (v : Vocabulary) (inputs : List Clause) (list : List Member) (m : Member) → IsMade v inputs (clauses_of list) m → NamesBelow (length list) m.origin
-last_names v inputs list m made i names = let lt = origin_names v inputs (clauses_of list) m.clause m.origin made i names in omega (arith, count_of list)
+last_names v inputs list m made = last_of list m.origin (origin_names v inputs (clauses_of list) m.clause m.origin made)
 
 pub each_names : (v : Vocabulary) (inputs : List Clause) (list : List Member) → AreMade v inputs list → NameEarlier list
-each_names v inputs list made j m at i names =
-    let lt = origin_names v inputs (clauses_of (take j list)) m.clause m.origin (made j m at) i names in
-    omega (arith, count_of (take j list), front_count list j)
+each_names v inputs list made = each_of list (λ j m at. origin_names v inputs (clauses_of (take j list)) m.clause m.origin (made j m at))
+
+pub last_derived_names : (v : Vocabulary) (inputs : List Clause) (list : List Member) (m : Member) → IsDerived v inputs (clauses_of list) m → NamesBelow (length list) m.origin
+last_derived_names v inputs list m derived = last_of list m.origin (derived_names v inputs (clauses_of list) m.clause m.origin derived)
+
+pub each_derived_names : (v : Vocabulary) (inputs : List Clause) (list : List Member) → AreDerived v inputs list → NameEarlier list
+each_derived_names v inputs list derived = each_of list (λ j m at. derived_names v inputs (clauses_of (take j list)) m.clause m.origin (derived j m at))
 
 -- at the places of the loop
 member_there : (members : List Member) (at : ℕ) (m : Member) → at < length members → m ≡ get_or members at m → slice_get members at ≡ Some m

@@ -1,7 +1,7 @@
 -- Members of a refutation have no symbol that its inputs lack.
 use Rattle.std.specs.Prelude.{ℕ, ◌≡◌, ◌<◌, ◌||◌, Bool, true, false, List, [], ◌∷◌, map, Some, slice_get, refl}
 use Rattle.std.specs.List.{AllByRecursion, list_any}
-use Rattle.std.proofs.Common.{sym, subst, ◌∙◌, arith, zero, suc, take, inl, inr}
+use Rattle.std.proofs.Common.{sym, subst, ◌∙◌, arith, zero, suc, take}
 use Rattle.std.proofs.lemmas.List.Elements.{All-from_recursion, recursion_from_All}
 use Rattle.fof_terms.specs.Vocabulary.{Vocabulary}
 use Rattle.fof_terms.specs.Occurs.{occurs_in}
@@ -16,7 +16,7 @@ use Rattle.clause_form.specs.ClauseView.{form_of_atom, form_of_lit, closed_by}
 use Rattle.clause_proofs.specs.Bodies.{body_of}
 use Rattle.input_proofs.specs.Formulas.{formula_of, has_or}
 use Rattle.saturation.specs.Members.{clauses_of}
-use Rattle.saturation.specs.Origins.{Makes, AreMade}
+use Rattle.search_proofs.specs.code.Derived.{AreDerived, Derives}
 use Rattle.saturation.specs.declared.member.Member.{Member}
 use Rattle.saturation.specs.declared.member.Origin.{Origin}
 use Rattle.saturation.specs.declared.member.Origin.TheVariants.{Input, Inferred}
@@ -91,12 +91,11 @@ module _ (k : ℕ) where
   formula_without c h = formula_occurs c ∙ not_any c.lits (recursion_from_All (λ (l : Lit). in_lit l ≡ false) c.lits h)
 
   module _ (v : Vocabulary) (inputs : List Clause) (inputs_lack : (i : ℕ) (c : Clause) → slice_get inputs i ≡ Some c → AreWithout k c.lits) where
-    pub made_without : (earlier : List Clause) → ((i : ℕ) (c : Clause) → slice_get earlier i ≡ Some c → AreWithout k c.lits) → (e : Clause) (o : Origin) → Makes v inputs earlier e o → AreWithout k e.lits
+    pub made_without : (earlier : List Clause) → ((i : ℕ) (c : Clause) → slice_get earlier i ≡ Some c → AreWithout k c.lits) → (e : Clause) (o : Origin) → Derives v inputs earlier e o → AreWithout k e.lits
     made_without earlier all e (Input i) at = inputs_lack i e at
-    made_without earlier all e (Inferred a b images) (inl two) = two.no_new k (all a two.first two.first_at) (all b two.second two.second_at)
-    made_without earlier all e (Inferred a b images) (inr one) = one.no_new k (all a one.premise one.premise_at)
+    made_without earlier all e (Inferred a b images) d = d.no_new k (all a d.first d.first_at) (all b d.second d.second_at)
 
-    module _ (list : List Member) (made : AreMade v inputs list) where
+    module _ (list : List Member) (made : AreDerived v inputs list) where
       earlier : (j : ℕ) → ((i : ℕ) (x : Member) → i < j → slice_get list i ≡ Some x → AreWithout k x.clause.lits) → (i : ℕ) (c : Clause) → slice_get (clauses_of (take j list)) i ≡ Some c → AreWithout k c.lits
       earlier j all i c e =
           let found = clause_at (take j list) i c e in

@@ -6,7 +6,7 @@ use Rattle.std.proofs.lemmas.Option.{slice_get-get_or, slice_get_within}
 use Rattle.clause_form.specs.declared.clause.Clause.{Clause}
 use Rattle.fof_terms.specs.Vocabulary.{Vocabulary}
 use Rattle.saturation.specs.Members.{clauses_of}
-use Rattle.saturation.specs.Origins.{IsMade, AreMade}
+use Rattle.search_proofs.specs.code.Derived.{AreDerived, IsDerived}
 use Rattle.saturation.specs.declared.member.Member.{Member}
 use Rattle.saturation.specs.declared.member.Origin.{Origin}
 use Rattle.saturation.specs.declared.member.Origin.TheVariants.{Input}
@@ -70,8 +70,8 @@ marked_all count members needed last n marks end so = record {
 }
 
 -- which inputs origins have
-pub last_input : (v : Vocabulary) (inputs list : List Clause) (m : Member) → IsMade v inputs list m → IsInputBelow (length inputs) m.origin
+pub last_input : (v : Vocabulary) (inputs list : List Clause) (m : Member) → IsDerived v inputs list m → IsInputBelow (length inputs) m.origin
 last_input v inputs list m made i e = slice_get_within inputs i m.clause (input_within v inputs list m.clause m.origin i made e)
 
-pub each_input : (v : Vocabulary) (inputs : List Clause) (members : List Member) → AreMade v inputs members → (j : ℕ) (m : Member) → slice_get members j ≡ Some m → IsInputBelow (length inputs) m.origin
+pub each_input : (v : Vocabulary) (inputs : List Clause) (members : List Member) → AreDerived v inputs members → (j : ℕ) (m : Member) → slice_get members j ≡ Some m → IsInputBelow (length inputs) m.origin
 each_input v inputs members made j m at = last_input v inputs (clauses_of (take j members)) m (made j m at)

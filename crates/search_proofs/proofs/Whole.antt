@@ -31,7 +31,7 @@ use Rattle.input_proofs.specs.Opened.{AreOpened}
 use Rattle.input_proofs.specs.declared.opening.OpenedInputs.{OpenedInputs}
 use Rattle.negated_lemmas.specs.Negated.{ConcludeLine, ShowFalsehood, implied, lemmas_by, with_denied}
 use Rattle.saturation.specs.Members.{clauses_of}
-use Rattle.saturation.specs.Origins.{AreMade, IsMade}
+use Rattle.search_proofs.specs.code.Derived.{AreDerived, IsDerived}
 use Rattle.saturation.specs.declared.member.Member.{Member}
 use Rattle.saturation.specs.declared.member.Origin.TheVariants.{Input}
 use Rattle.skolem_fresh.specs.Entered.{Enters, formulas_told}
@@ -121,7 +121,7 @@ module _ (k : ℕ) where
   each_of P f [] h = tt
   each_of P f (a ∷ as_) h = (f a h.0, each_of P f as_ h.1)
 
-  module _ (v : Vocabulary) (inputs : List Clause) (all : AllByRecursion Lacks (map formula_of inputs)) (members : List Member) (made : AreMade v inputs members) (last : Member) (made_last : IsMade v inputs (clauses_of members) last) where
+  module _ (v : Vocabulary) (inputs : List Clause) (all : AllByRecursion Lacks (map formula_of inputs)) (members : List Member) (made : AreDerived v inputs members) (last : Member) (made_last : IsDerived v inputs (clauses_of members) last) where
     input_lacks : (i : ℕ) (c : Clause) → slice_get inputs i ≡ Some c → AreWithout k c.lits
     input_lacks i c at = clause_without k c (member_of Lacks (map formula_of inputs) i (formula_of c) all (get_lifted formula_of inputs i c at))
 
@@ -191,7 +191,7 @@ module _ (t : Statements) (parents : List Parent) (line : Form) (wanted : List B
           let same : (fs ++ told) ++ ending ≡ fs ++ ((told ++ implied line f.facts) ++ line ∷ []) = append_assoc fs told ending ∙ ap (λ (gs : List Form). fs ++ gs) (sym (append_assoc told (implied line f.facts) (line ∷ []))) in
           subst (λ (gs : List Form). Admits (over fs) (declare_all functions ++ (opened.choices ++ lemmas)) (record { vocabulary = grown; formulas = gs })) same all
 
-      speak : AreMade grown (searched_clauses t.vocabulary parents line) members → IsMade grown (searched_clauses t.vocabulary parents line) (clauses_of members) last → SpeakOfKnown (over fs) line (told ++ implied line f.facts)
+      speak : AreDerived grown (searched_clauses t.vocabulary parents line) members → IsDerived grown (searched_clauses t.vocabulary parents line) (clauses_of members) last → SpeakOfKnown (over fs) line (told ++ implied line f.facts)
       speak made made_last k lt fresh off =
           let clauses = searched_clauses t.vocabulary parents line in
           let P = λ (a : Form). occurs_in k a ≡ false in
@@ -209,7 +209,7 @@ module _ (t : Statements) (parents : List Parent) (line : Form) (wanted : List B
   is_base = is_of t.formulas (itself t (numbers_of parents))
 
   -- the entries of the search
-  pub whole_search : (proofs : List Proof) (members : List Member) (last : Member) → AreMade grown (searched_clauses t.vocabulary parents line) members → IsMade grown (searched_clauses t.vocabulary parents line) (clauses_of members) last
+  pub whole_search : (proofs : List Proof) (members : List Member) (last : Member) → AreDerived grown (searched_clauses t.vocabulary parents line) members → IsDerived grown (searched_clauses t.vocabulary parents line) (clauses_of members) last
       → ShowFalsehoodLast setting (IsLater members last) proofs (input_facts t parents line wanted opened o) → (declarations lemmas entries : List Entry) → declarations ≡ declare_all (functions_of t.vocabulary parents line)
       → ConcludeLine line (length t.formulas + length opened.choices) proofs lemmas → entries ≡ (declarations ++ opened.choices) ++ lemmas → IsSearchedFrom t parents entries line
   whole_search proofs members last made made_last f declarations lemmas entries declares concludes is =
@@ -237,7 +237,7 @@ take_front (x ∷ xs) ys = ap (λ (zs : List _). x ∷ zs) (take_front xs ys)
 
 -- what the calls give together
 module _ (t : Statements) (parents : List Parent) (line : Form) (w : Vocabulary) (w_is : w ≡ searched_vocabulary t.vocabulary parents line) (inputs : List Clause) (inputs_are : inputs ≡ searched_clauses t.vocabulary parents line)
-    (members : List Member) (last : Member) (made_in : AreMade w inputs members) (last_in : IsMade w inputs (clauses_of members) last) where
+    (members : List Member) (last : Member) (made_in : AreDerived w inputs members) (last_in : IsDerived w inputs (clauses_of members) last) where
   abbrev functions : List Symbol
   functions = functions_of t.vocabulary parents line
 
@@ -247,11 +247,11 @@ module _ (t : Statements) (parents : List Parent) (line : Form) (w : Vocabulary)
   abbrev step_clauses : List Clause
   step_clauses = searched_clauses t.vocabulary parents line
 
-  made : AreMade step_vocabulary step_clauses members
-  made = subst (λ (v : Vocabulary). AreMade v step_clauses members) w_is (subst (λ (cs : List Clause). AreMade w cs members) inputs_are made_in)
+  made : AreDerived step_vocabulary step_clauses members
+  made = subst (λ (v : Vocabulary). AreDerived v step_clauses members) w_is (subst (λ (cs : List Clause). AreDerived w cs members) inputs_are made_in)
 
-  made_last : IsMade step_vocabulary step_clauses (clauses_of members) last
-  made_last = subst (λ (v : Vocabulary). IsMade v step_clauses (clauses_of members) last) w_is (subst (λ (cs : List Clause). IsMade w cs (clauses_of members) last) inputs_are last_in)
+  made_last : IsDerived step_vocabulary step_clauses (clauses_of members) last
+  made_last = subst (λ (v : Vocabulary). IsDerived v step_clauses (clauses_of members) last) w_is (subst (λ (cs : List Clause). IsDerived w cs (clauses_of members) last) inputs_are last_in)
 
   module _ (needed wanted : List Bool) (opened : OpenedInputs) (o : AreOpened t parents line wanted opened) (marks : AreInputsMarked (length inputs) members needed last wanted) (of_theory : AreOfTheory t parents) (ready : IsReady t.vocabulary line) (ok : IsVocabulary w)
       (denied start : ℕ) (denied_is : denied ≡ length t.formulas + length opened.choices) (start_is : start ≡ denied + 1) where

@@ -1,16 +1,13 @@
 //! How a refutation ends, and what it needs for that.
-ghost use Rattle.std.specs.Prelude.{◌<◌, ℕ, length, List as Clauses, IfOk};
+ghost use Rattle.std.specs.Prelude.{◌<◌, ℕ, length, IfOk};
 ghost use Rattle.fof_terms.specs.Vocabulary.{Vocabulary};
-ghost use Rattle.clause_form.specs.declared.clause.Clause.{Clause as Disjunction};
-ghost use Rattle.saturation.specs.Members.{clauses_of};
-ghost use Rattle.saturation.specs.Origins.{AreMade, IsMade};
 ghost use Rattle.saturation.specs.declared.member.Member.{Member as Listed};
 ghost use Rattle.search_proofs.specs.code.Contradictions.{AreNeededFor, Contradicts, ContradictsIn, IsListed, Suffice};
 ghost use Rattle.search_proofs.specs.code.Marks.{MarksAll};
-ghost use Rattle.search_proofs.specs.code.Naming.{NameEarlier};
+ghost use Rattle.search_proofs.specs.code.Naming.{NameEarlier, NamesBelow};
 
 use crate::contradicting::{Contradiction, find_contradiction};
-use crate::needing::{needed_members, sweep, unmarked};
+use crate::needing::{needed_earlier, sweep, unmarked};
 use fof_terms::Signature;
 use saturation::Member;
 use std::alloc::Global;
@@ -32,12 +29,12 @@ pub(crate) fn ending_of(
     members: &[Member],
     last: &Member,
 ) -> Result<Ending, Memory>
-    requires { (v : Vocabulary) × (inputs : Clauses Disjunction) × AreMade v inputs members.now
-        × IsMade v inputs (clauses_of members.now) last.now }
+    requires earlier { NameEarlier members.now }
+    requires last { NamesBelow (length members.now) last.now.origin }
     ensures { IfOk result (λ ending. Suffice signature.now members.now last.now ending.found
         ending.needed) }
 {
-    let needed = needed_members(alloc, members, last)?;
+    let needed = needed_earlier(alloc, members, last)?;
     match find_contradiction(alloc, signature, members, needed.as_slice())? {
         Some(contradiction) => ended_by(alloc, members, contradiction),
         None => {

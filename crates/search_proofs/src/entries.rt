@@ -9,12 +9,14 @@ ghost use Rattle.kernel.specs.Statements.{AreClosed};
 ghost use Rattle.saturation.specs.Members.{clauses_of};
 ghost use Rattle.saturation.specs.Origins.{AreMade, IsMade};
 ghost use Rattle.search_proofs.specs.Searched.{IsSearchedFrom};
+ghost use Rattle.search_proofs.specs.code.Derived.{AreDerived, IsDerived};
 ghost use Rattle.step_clauses.specs.Room.{HasRoom};
 ghost use Rattle.step_clauses.specs.Wide.{is_wide};
 ghost use Rattle.superpose.specs.Drafts.{IsClause};
 
 use crate::declaring::declarations;
 use crate::ending::ending_of;
+use crate::merging::merged_members;
 use crate::placing::further;
 use crate::refuting::proofs_of_refutation;
 use crate::wanting::wanted_inputs;
@@ -50,6 +52,45 @@ pub fn refutation_entries(
     requires inputs { inputs.now ≡ searched_clauses theory.now.vocabulary parents.now line.now }
     requires members { AreMade signature.now inputs.now members.now }
     requires last { IsMade signature.now inputs.now (clauses_of members.now) empty.now }
+    requires fit { Each (λ m. IsClause signature.now m.clause) members.now }
+    requires last_fit { IsClause signature.now empty.now.clause }
+    requires empty { empty.now.clause.lits ≡ [] }
+    ensures { IfOk result (λ entries. IsSearchedFrom theory.now parents.now entries line.now) }
+{
+    let merged = merged_members(alloc, members)?;
+    entries_by(
+        alloc,
+        theory,
+        signature,
+        parents,
+        line,
+        inputs,
+        merged.as_slice(),
+        empty,
+    )
+}
+
+// The same by members each of which follows by a rule.
+fn entries_by(
+    alloc: Global,
+    theory: &Theory,
+    signature: &Signature,
+    parents: &[Parent],
+    line: &Form,
+    inputs: &[Clause],
+    members: &[Member],
+    empty: &Member,
+) -> Result<List<Entry>, Memory>
+    requires closed { AreClosed theory.now }
+    requires parents { AreOfTheory theory.now parents.now }
+    requires ready { AreReady theory.now.vocabulary parents.now }
+    requires line { IsReady theory.now.vocabulary line.now }
+    requires room { HasRoom (length theory.now.vocabulary.symbols) (forms_of parents.now) line.now }
+    requires narrow { is_wide (length theory.now.vocabulary.symbols) (forms_of parents.now) line.now ≡ false }
+    requires signature { signature.now ≡ searched_vocabulary theory.now.vocabulary parents.now line.now }
+    requires inputs { inputs.now ≡ searched_clauses theory.now.vocabulary parents.now line.now }
+    requires members { AreDerived signature.now inputs.now members.now }
+    requires last { IsDerived signature.now inputs.now (clauses_of members.now) empty.now }
     requires fit { Each (λ m. IsClause signature.now m.clause) members.now }
     requires last_fit { IsClause signature.now empty.now.clause }
     requires empty { empty.now.clause.lits ≡ [] }

@@ -9,6 +9,7 @@ mod entries;
 mod falsehood;
 mod formula;
 mod members;
+mod merging;
 mod needing;
 mod opposing;
 mod placing;

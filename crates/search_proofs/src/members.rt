@@ -4,7 +4,7 @@ ghost use Rattle.std.specs.List.{All as Each};
 ghost use Rattle.fof_terms.specs.declared.term.Term.{Term as Image};
 ghost use Rattle.clause_form.specs.declared.clause.Clause.{Clause as Disjunction};
 ghost use Rattle.saturation.specs.Members.{clauses_of};
-ghost use Rattle.saturation.specs.Origins.{AreMade, Makes};
+ghost use Rattle.search_proofs.specs.code.Derived.{AreDerived, Derives};
 ghost use Rattle.saturation.specs.declared.member.Origin.TheVariants.{Inferred as ByInference};
 ghost use Rattle.search_proofs.specs.code.Marks.{NameMarked};
 ghost use Rattle.search_proofs.specs.code.Members.{IsConcluded, IsPassed, IsPassedIf, IsPremise, PassMembers};
@@ -15,7 +15,7 @@ use crate::placing::further;
 use clause_form::{Clause, Parent};
 use derive_kit::Part;
 use fof_terms::Signature;
-use inference_proofs::inference_proof;
+use inference_proofs::step_proof;
 use kernel::Proof;
 use saturation::{Member, Origin};
 use std::alloc::Global;
@@ -35,7 +35,7 @@ pub fn push_members(
     requires clauses { Each (λ m. IsClause signature.now m.clause) members.now }
     requires needed { length needed.now ≡ length members.now }
     requires made { (inputs : Clauses Disjunction) × (length inputs ≡ length of_inputs.now)
-        × AreMade signature.now inputs members.now }
+        × AreDerived signature.now inputs members.now }
     ensures size { IfOk result (λ numbers. length numbers ≡ length members.now) }
     ensures passed { IfOk result (λ numbers. NameMarked members.now needed.now
         → PassMembers signature.now start members.now needed.now of_inputs.now numbers proofs.old proofs.new) }
@@ -74,7 +74,7 @@ fn push_if_needed(
     requires clause { IsClause signature.now member.now.clause }
     requires size { length numbers.now ≡ length earlier.now }
     requires made { (inputs : Clauses Disjunction) × (length inputs ≡ length of_inputs.now)
-        × Makes signature.now inputs (clauses_of earlier.now) member.now.clause member.now.origin }
+        × Derives signature.now inputs (clauses_of earlier.now) member.now.clause member.now.origin }
     ensures { IfOk result (IsPassedIf needed signature.now start earlier.now numbers.now of_inputs.now member.now.clause
         member.now.origin proofs.old proofs.new) }
 {
@@ -101,7 +101,7 @@ pub fn push_member(
     requires clause { IsClause signature.now member.now.clause }
     requires size { length numbers.now ≡ length earlier.now }
     requires made { (inputs : Clauses Disjunction) × (length inputs ≡ length of_inputs.now)
-        × Makes signature.now inputs (clauses_of earlier.now) member.now.clause member.now.origin }
+        × Derives signature.now inputs (clauses_of earlier.now) member.now.clause member.now.origin }
     ensures { IfOk result (IsPassed signature.now start earlier.now numbers.now of_inputs.now member.now.clause
         member.now.origin proofs.old proofs.new) }
 {
@@ -140,14 +140,14 @@ fn conclude(
     requires clause { IsClause signature.now clause.now }
     requires size { length numbers.now ≡ length members.now }
     requires made { (images : Clauses Image)
-        × Makes signature.now [] (clauses_of members.now) clause.now (ByInference first second images) }
+        × Derives signature.now [] (clauses_of members.now) clause.now (ByInference first second images) }
     ensures { IfOk result (IsConcluded signature.now members.now numbers.now first second clause.now) }
 {
     let mut parents = List::new(alloc);
     parents.push(premise(alloc, members, numbers, first)?)?;
     parents.push(premise(alloc, members, numbers, second)?)?;
     let line = formula_of(alloc, clause)?;
-    inference_proof(alloc, signature, parents.as_slice(), &line)
+    step_proof(alloc, signature, parents.as_slice(), &line)
 }
 
 // The clause of the member, at its number.

@@ -23,6 +23,19 @@ pub fn needed_members(
         × IsMade v inputs (clauses_of members.now) last.now }
     ensures { IfOk result (AreNeeded members.now last.now) }
 {
+    needed_earlier(alloc, members, last)
+}
+
+/// The same of members whose origins name earlier ones alone.
+pub(crate) fn needed_earlier(
+    alloc: Global,
+    members: &[Member],
+    last: &Member,
+) -> Result<List<bool>, Memory>
+    requires earlier { NameEarlier members.now }
+    requires last { NamesBelow (length members.now) last.now.origin }
+    ensures { IfOk result (AreNeeded members.now last.now) }
+{
     let mut marks = unmarked(alloc, members.len())?;
     mark(&mut marks, &last.origin);
     sweep(members, &mut marks);

@@ -3,7 +3,7 @@ ghost use Rattle.std.specs.Prelude.{◌≡◌, ◌+◌, ◌++◌, [], List as Cl
 ghost use Rattle.std.specs.List.{All as Each};
 ghost use Rattle.clause_form.specs.declared.clause.Clause.{Clause as Disjunction};
 ghost use Rattle.saturation.specs.Members.{clauses_of};
-ghost use Rattle.saturation.specs.Origins.{AreMade, IsMade};
+ghost use Rattle.search_proofs.specs.code.Derived.{AreDerived, IsDerived};
 ghost use Rattle.search_proofs.specs.code.Contradictions.{Contradicts, Suffice};
 ghost use Rattle.search_proofs.specs.code.Ended.{IsEnded, IsEndedBy, IsEndedByLast, IsSound};
 ghost use Rattle.search_proofs.specs.code.Members.{LeadOn};
@@ -38,8 +38,8 @@ pub(crate) fn proofs_of_refutation(
     requires clause { IsClause signature.now empty.now.clause }
     requires needed { Suffice signature.now members.now empty.now found.now needed.now }
     requires made { (clauses : Clauses Disjunction) × (length clauses ≡ length inputs)
-        × AreMade signature.now clauses members.now
-        × IsMade signature.now clauses (clauses_of members.now) empty.now }
+        × AreDerived signature.now clauses members.now
+        × IsDerived signature.now clauses (clauses_of members.now) empty.now }
     requires empty { empty.now.clause.lits ≡ [] }
     ensures { IfOk result (LeadOn signature.now start members.now needed.now empty.now
         (numbers_from (start + length facts) inputs) (facts ++ there inputs)) }
@@ -86,7 +86,7 @@ fn push_falsehood(
     requires clause { IsClause signature.now empty.now.clause }
     requires size { length numbers.now ≡ length members.now }
     requires made { (inputs : Clauses Disjunction) × (length inputs ≡ length of_inputs.now)
-        × IsMade signature.now inputs (clauses_of members.now) empty.now }
+        × IsDerived signature.now inputs (clauses_of members.now) empty.now }
     requires sound { IsSound members.now found.now }
     ensures { OnOk result (IsEnded signature.now start members.now numbers.now of_inputs.now empty.now found.now
         proofs.old proofs.new) }
@@ -131,7 +131,7 @@ fn push_last(
     requires clause { IsClause signature.now empty.now.clause }
     requires size { length numbers.now ≡ length members.now }
     requires made { (inputs : Clauses Disjunction) × (length inputs ≡ length of_inputs.now)
-        × IsMade signature.now inputs (clauses_of members.now) empty.now }
+        × IsDerived signature.now inputs (clauses_of members.now) empty.now }
     ensures { OnOk result (IsEndedByLast signature.now start members.now numbers.now of_inputs.now empty.now proofs.old
         proofs.new) }
 {

@@ -2,14 +2,10 @@ use Rattle.std.proofs.Common.{ap, ◌∙◌, subst, length}
 use Rattle.std.specs.Prelude.{Bool, List, IfSome}
 use Rattle.derive_kit.proofs.Built.{ok_map}
 use Rattle.search_proofs.specs.code.Contradictions.{ContradictsIn}
-use Rattle.search_proofs.proofs.Sweeping.{each_names}
 use Rattle.search_proofs.proofs.ending.ending_of.Goals as goal
 
 pub find_contradiction-requires : goal.find_contradiction-requires
 find_contradiction-requires c = ap (λ (bs : List Bool). length bs) c.as_slice.ensures ∙ c.in_ok-needed.ensures.count
-
-pub ended_by-requires-clause-earlier : goal.ended_by-requires-clause-earlier
-ended_by-requires-clause-earlier c = each_names c.requires.0 c.requires.1 c.args.members.now c.requires.2
 
 pub ended_by-requires-clause-contradicts : goal.ended_by-requires-clause-contradicts
 ended_by-requires-clause-contradicts c = (subst (λ found. IfSome found (ContradictsIn c.args.signature.now c.args.members.now)) c.in-Some.is c.in_ok-contradiction.ensures).found

@@ -1,15 +1,8 @@
-use Rattle.std.proofs.Common.{◌∙◌}
-use Rattle.search_proofs.proofs.Sweeping.{last_names, each_names, last_below, needed_swept}
+use Rattle.search_proofs.proofs.Sweeping.{last_names, each_names}
 use Rattle.search_proofs.proofs.needing.needed_members.Goals as goal
 
-pub mark-requires : goal.mark-requires
-mark-requires c = last_below c.args.members.now c.args.last.now c.in_ok-marks.marks c.in_ok-marks.ensures (last_names c.requires.0 c.requires.1 c.args.members.now c.args.last.now c.requires.3)
+pub needed_earlier-requires-clause-earlier : goal.needed_earlier-requires-clause-earlier
+needed_earlier-requires-clause-earlier c = each_names c.requires.0 c.requires.1 c.args.members.now c.requires.2
 
-pub sweep-requires-clause-earlier : goal.sweep-requires-clause-earlier
-sweep-requires-clause-earlier c = each_names c.requires.0 c.requires.1 c.args.members.now c.requires.2
-
-pub sweep-requires-clause-size : goal.sweep-requires-clause-size
-sweep-requires-clause-size c = c.mark.ensures.count ∙ c.in_ok-marks.ensures.count
-
-pub returns : goal.returns
-returns c = needed_swept c.args.members.now c.args.last.now c.in_ok-marks.marks c.mark.new.marks c.sweep.new.marks c.in_ok-marks.ensures c.mark.ensures c.sweep.ensures
+pub needed_earlier-requires-clause-last : goal.needed_earlier-requires-clause-last
+needed_earlier-requires-clause-last c = last_names c.requires.0 c.requires.1 c.args.members.now c.args.last.now c.requires.3
