@@ -1,8 +1,8 @@
-//! Lines that follow by an inference.
+//! Lines that follow by a rule, as what an inference gives does.
 ghost use Rattle.std.specs.Prelude.{IfOk};
 ghost use Rattle.clause_proofs.specs.Shown.{ShowsLine};
 ghost use Rattle.clause_rules.specs.Steps.{AreReady, IsReady};
-ghost use Rattle.inference_proofs.specs.Inferred.{IsInferred, IsRuleStep};
+ghost use Rattle.inference_proofs.specs.Inferred.{IsRuleStep};
 
 use crate::covering::by_covering;
 use clause_form::Parent;
@@ -12,27 +12,11 @@ use rule_proofs::{by_eqfactor, by_paramodulation, by_resolution};
 use std::alloc::Global;
 use tptp_base::Memory;
 
-/// A proof of the line, which follows by an inference from two of the parents, or from one.
-///
-/// Resolution, superposition and equality factoring are steps by the rules `resolution`, `paramodulation` and
-/// `eqfactor`. The conclusion of factoring or of equality resolution covers the premise itself, so its proof needs no
-/// normal form.
-pub fn inference_proof(
-    alloc: Global,
-    signature: &Signature,
-    parents: &[Parent],
-    line: &Form,
-) -> Result<Part, Memory>
-    requires ready { AreReady signature.now parents.now }
-    requires line { IsReady signature.now line.now }
-    requires inferred { IsInferred signature.now parents.now line.now }
-    ensures { IfOk result (ShowsLine signature.now parents.now line.now) }
-{
-    step_proof(alloc, signature, parents, line)
-}
-
 /// A proof of the line, which follows by one of the rules `resolution`, `paramodulation` and `eqfactor`, or covers the
 /// clause of a parent.
+///
+/// So does what an inference gives: resolution, superposition and equality factoring are steps by these rules. The
+/// conclusion of factoring or of equality resolution covers the premise itself, so its proof needs no normal form.
 pub fn step_proof(
     alloc: Global,
     signature: &Signature,

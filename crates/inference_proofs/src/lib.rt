@@ -6,5 +6,5 @@ mod covering;
 mod inference;
 mod laws;
 
-pub use inference::{inference_proof, step_proof};
+pub use inference::step_proof;
 pub use laws::inference_is_step;

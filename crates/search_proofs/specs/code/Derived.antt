@@ -18,7 +18,9 @@ pub record FollowsFrom (v : Vocabulary) (list : List Clause) (e : Clause) (a b :
   pub second : Clause
   pub first_at : slice_get list a ≡ Some first
   pub second_at : slice_get list b ≡ Some second
-  pub step : (p q : Parent) → clause_of p.form ≡ Some first → clause_of q.form ≡ Some second → IsRuleStep v (p ∷ q ∷ []) (formula_of e)
+  pub step :
+      (p q : Parent) → clause_of p.form ≡ Some first → clause_of q.form ≡ Some second
+      → IsRuleStep v (p ∷ q ∷ []) (formula_of e)
   pub no_new : (k : ℕ) → AreWithout k first.lits → AreWithout k second.lits → AreWithout k e.lits
 
 -- the clause is the input that the origin names, or follows from the members that it names
@@ -31,4 +33,5 @@ IsDerived v inputs list m = Derives v inputs list m.clause m.origin
 
 -- so is each member, by earlier members
 abbrev pub AreDerived : Vocabulary → List Clause → List Member → Type 0
-AreDerived v inputs list = (i : ℕ) (m : Member) → slice_get list i ≡ Some m → IsDerived v inputs (clauses_of (take i list)) m
+AreDerived v inputs list =
+    (i : ℕ) (m : Member) → slice_get list i ≡ Some m → IsDerived v inputs (clauses_of (take i list)) m
