@@ -1,5 +1,6 @@
-# Reads the log of a searched line. Writes the bytes of the facts that its inferences show, and of the line's negation for
-# each: what the entries of the search are measured by. Such a fact stands behind `raa`, and the negation behind `impi`.
+# Reads the log of a searched line. Writes the bytes of the facts that its inferences show, and of the line's negation
+# for each: what the entries of the search are measured by. Such a fact stands behind `raa`, and the negation behind
+# `impi`.
 function after(i, n) {
     if ($i == "~") return after(i + 1)
     if ($i == "!" || $i == "?") return after(i + 2)

@@ -1,7 +1,8 @@
 #!/bin/sh
-# Measures lines that a search or a decision shows: for each input (search.awk says which) and size what is said of the line, the
-# processor's seconds of `verify`, how they grow from half the size, and its peak memory; the entries of the log, its bytes
-# and how many times they are the text of the facts that inferences show (facts.awk), and the processor's seconds of `check`.
+# Measures lines that a search or a decision shows: for each input (search.awk says which) and size what is said of the
+# line, the processor's seconds of `verify`, how they grow from half the size, and its peak memory; the entries of the
+# log, its bytes, and how many times they are the text of what inferences show (facts.awk); and the processor's seconds of
+# `check`.
 #
 #     bench/search.sh [PROGRAM]
 #
@@ -33,8 +34,8 @@ while read -r input size limit; do
     case "$said" in "l ok "*) checked=$(processor check x.p x.log) ;; esac
     bytes=$(wc -c < x.log)
     text=$(awk -f "$top/bench/facts.awk" x.log)
-    printf '%-8s %5d  %-22s %7.2f s  x%4.1f  %5d MB  %7d entries %9d bytes, x%4.1f  check %s s\n' "$input" "$size" "$said" \
-        "$time" "$(calculate "$time / ($half + 0.01)")" "$memory" $(($(wc -l < x.log) - 1)) "$bytes" \
+    printf '%-8s %5d  %-22s %7.2f s  x%4.1f  %5d MB  %7d entries %9d bytes, x%4.1f  check %s s\n' \
+        "$input" "$size" "$said" "$time" "$(calculate "$time / ($half + 0.01)")" "$memory" $(($(wc -l < x.log) - 1)) "$bytes" \
         "$(calculate "$bytes / ($text + 0.01) * ($text > 0)")" "$checked"
 done << END
 chain 500 10000
