@@ -1,4 +1,6 @@
 pub mod Cutting
+pub mod DenotedForms
+pub mod DenotedWords
 pub mod FormulasSpelled
 pub mod ItemsSpelled
 pub mod TermsSpelled

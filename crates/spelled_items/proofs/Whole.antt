@@ -4,8 +4,8 @@ use Rattle.std.specs.Prelude.{◌<◌, ◌^◌, ◌%◌, ◌&&◌, if◌then◌e
 use Rattle.std.specs.List.{list_all, AllByRecursion}
 use Rattle.std.proofs.lemmas.Bool.{and_parts, and_from}
 use Rattle.std.proofs.lemmas.Bool.Decides.{nat_tests}
-use Rattle.std.proofs.lemmas.Fmt.{decimal_by_steps}
-use Rattle.std.proofs.lemmas.List.{length-map}
+use Rattle.std.proofs.lemmas.Fmt.{decimal_by_steps, decimal_nonempty}
+use Rattle.std.proofs.lemmas.List.{length-append, length-map}
 use Rattle.std.proofs.lemmas.List.Folds.{list_all-append}
 use Rattle.tptp_base.specs.Quotable.{is_printable}
 use Rattle.tptp_base.specs.declared.item.Item.{Item}
@@ -45,9 +45,16 @@ decimal_printable n few =
     list_all-append is_printable ds ((48 + m % 10) ∷ []) ∙ and_from (list_all is_printable ds) (is_printable (48 + m % 10) && true) e (and_from (is_printable (48 + m % 10)) true last refl))
     n few
 
+-- a word with a number behind it
+pub numbered_is_word : (front : Text) (k : ℕ) → list_all is_printable front ≡ true → k < 2 ^ 64 → is_word (numbered_word front k) ≡ true
+numbered_is_word front k printable few =
+    let some = decimal_nonempty k few in
+    let long = length-append front (decimal k) in
+    printable_word (numbered_word front k) (omega arith) (list_all-append is_printable front (decimal k) ∙ and_from (list_all is_printable front) (list_all is_printable (decimal k)) printable (decimal_printable k few))
+
 -- the names of type lines can be written
 pub typing_words : (k : ℕ) → k < 2 ^ 64 → is_word (numbered_word (codes "y") k) ≡ true
-typing_words k few = printable_word (numbered_word (codes "y") k) (omega arith) (decimal_printable k few)
+typing_words k few = numbered_is_word (codes "y") k refl few
 
 -- ---- items
 

@@ -11,7 +11,7 @@ use Rattle.tptp_base.specs.declared.surface.STerm.TheVariants as tm
 use Rattle.tptp_base.specs.declared.surface.Surface.{Surface}
 use Rattle.tptp_base.specs.declared.surface.Surface.TheVariants as fm
 use Rattle.derivation_items.specs.Words.{Text}
-use Rattle.sort_check.proofs.Equations.{fold-Var, fold-App, fold-Atom, fold-Eq, fold-Neq, fold-Not, fold-And, fold-Or, fold-Binary, fold-Bind}
+use Rattle.sort_check.proofs.Equations.{fold-Var, fold-App, fold-True, fold-False, fold-Atom, fold-Eq, fold-Neq, fold-Not, fold-And, fold-Or, fold-Binary, fold-Bind}
 use Rattle.spelled_items.specs.Writable.{all_true, formula_step, has_one, has_two, is_bound, is_formula, is_term, is_variable, is_word, term_step}
 
 pub is_term-Var : (name : Text) → is_term (tm.Var name) ≡ is_variable name
@@ -21,6 +21,14 @@ is_term-Var name = fold-Var Bool term_step name
 pub is_term-App : (word : Text) (args : List STerm) → is_term (tm.App word args) ≡ (is_word word && all_true (map is_term args))
 unfolding is_term
 is_term-App word args = fold-App Bool term_step word args
+
+pub is_formula-True : is_formula fm.True ≡ true
+unfolding is_formula
+is_formula-True = fold-True Bool formula_step
+
+pub is_formula-False : is_formula fm.False ≡ true
+unfolding is_formula
+is_formula-False = fold-False Bool formula_step
 
 pub is_formula-Atom : (word : Text) (args : List STerm) → is_formula (fm.Atom word args) ≡ (is_word word && list_all is_term args)
 unfolding is_formula

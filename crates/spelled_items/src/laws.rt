@@ -7,7 +7,11 @@ ghost use Rattle.derivation_items.specs.Items.{typing_items};
 ghost use Rattle.derivation_items.specs.Typings.{typings_of};
 ghost use Rattle.derivation_limits.specs.Nesting.{nesting_of};
 ghost use Rattle.fof_terms.specs.Vocabulary.{Vocabulary};
+ghost use Rattle.fof_terms.specs.declared.form.Form.{Form as Formula};
+ghost use Rattle.printed_forms.specs.Lists.{has_no_list_of_one};
 ghost use Rattle.printed_forms.specs.Words.{HasWords};
+ghost use Rattle.prove_out.specs.Denoting.{Denotes};
+ghost use Rattle.prove_out.specs.Variables.{is_numbered};
 ghost use Rattle.spelled_items.specs.Spelled.{IsSpelledWithin};
 ghost use Rattle.spelled_items.specs.Writable.{AreWritable, is_formula, is_typing};
 ghost use Rattle.tptp_base.specs.declared.item.Item.{Item as AnyItem};
@@ -33,4 +37,11 @@ pub fn a_canonical_text_spells_its_items()
 /// The type lines of a vocabulary whose names have spellings can be written.
 pub fn type_lines_can_be_written()
     ensures { (v : Vocabulary) (first : ℕ) → HasWords v → list_all is_typing (typings_of v first) ≡ true }
+{}
+
+/// A formula that numbers its variables and denotes a form can be written: where the form has no conjunction and no
+/// disjunction of one member, and the names of the vocabulary have spellings.
+pub fn what_denotes_can_be_written()
+    ensures { (v : Vocabulary) (form : Formula) (formula : Written) → HasWords v → has_no_list_of_one form ≡ true
+        → Denotes v formula form → is_numbered 0 formula ≡ true → is_formula formula ≡ true }
 {}

@@ -5,4 +5,5 @@ mod laws;
 
 pub use laws::{
     a_canonical_text_spells_its_items, a_formula_is_spelled, type_lines_can_be_written,
+    what_denotes_can_be_written,
 };
