@@ -29,7 +29,8 @@ use Rattle.sort_check.proofs.LineBringing.{text_brings}
 use Rattle.printed_forms.specs.Written.{AreGivenListed, AreItemsListed, IsItemListed}
 use Rattle.printed_forms.proofs.Denoted.{denoted_listed, given_listed}
 use Rattle.printed_forms.proofs.Spelled.{spelled_listed}
-use Rattle.printed_forms.specs.Words.{HasWords}
+use Rattle.printed_forms.specs.Words.{AreNamed, HasWords}
+use Rattle.written_names.proofs.GivenNames.{IsItemNamed, denoted_named, spelled_named}
 
 -- what holds of each item that a text spells holds of each item of a problem with all that it includes
 resolved_has : (P : Item → Type 0) → ((number : ℕ) (text : Text) (items : List Item) → IsSpelled number text items → AllByRecursion P items) → (told : Option Files) (root : Option Text) (file : Text) (whole : Problem)
@@ -81,3 +82,15 @@ pub problem_listed : (told : Option Files) (root : Option (List ℕ)) (file : Li
     → AreGivenListed (given_entries lines)
 problem_listed told root file whole lines v w resolves denotes =
     given_listed lines (denoted_listed whole.items v w kind.Problem lines (resolved_has IsItemListed text_listed told root file whole resolves) denotes)
+
+-- ---- names of given formulas
+
+text_named : (number : ℕ) (text : Text) (items : List Item) → IsSpelled number text items → AllByRecursion IsItemNamed items
+text_named number text items spells =
+    let (fits, same, (offset, cut, end)) = spells.lexed in
+    let (us, file, within) = spells.parsed in
+    spelled_named ProblemStyle number text _ _ spells.tokens.items offset [] items cut (us, subst (λ (style : Style). IsFile style items spells.tokens.items us) same file)
+
+pub problem_named : (told : Option Files) (root : Option (List ℕ)) (file : List ℕ) (whole : Problem) (lines : List Line) (v w : Vocabulary) → Resolves told root file (Ok whole) → denoted whole.items v kind.Problem ≡ Ok (lines, w)
+    → AreNamed (given_entries lines)
+problem_named told root file whole lines v w resolves denotes = denoted_named whole.items v w kind.Problem lines (resolved_has IsItemNamed text_named told root file whole resolves) denotes

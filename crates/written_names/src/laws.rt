@@ -9,7 +9,7 @@ ghost use Rattle.sort_check.specs.Texts.{denoted};
 ghost use Rattle.sort_check.specs.declared.line.Line.{Line as Denoted};
 ghost use Rattle.sort_check.specs.declared.line.TextKind.TheVariants as kind;
 ghost use Rattle.tptp_base.specs.Store.{Files};
-ghost use Rattle.printed_forms.specs.Words.{HasWords};
+ghost use Rattle.printed_forms.specs.Words.{AreNamed, HasWords};
 
 /// What a problem denotes, with all that it includes, over a vocabulary whose names have spellings between single quotes
 /// leaves one whose names have them.
@@ -26,4 +26,12 @@ pub fn a_problem_gives_no_list_of_one()
         (v w : Vocabulary)
         → Resolves told root file (Ok whole) → denoted whole.items v kind.Problem ≡ Ok (lines, w)
         → AreGivenListed (given_entries lines) }
+{}
+
+/// Each formula that a problem gives, with all that it includes, has a name that a text can write.
+pub fn a_problem_gives_names()
+    ensures { (told : Option Files) (root : Option (List ℕ)) (file : List ℕ) (whole : Whole) (lines : List Denoted)
+        (v w : Vocabulary)
+        → Resolves told root file (Ok whole) → denoted whole.items v kind.Problem ≡ Ok (lines, w)
+        → AreNamed (given_entries lines) }
 {}

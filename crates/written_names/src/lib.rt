@@ -3,4 +3,4 @@
 
 mod laws;
 
-pub use laws::{a_problem_gives_no_list_of_one, a_problem_has_words};
+pub use laws::{a_problem_gives_names, a_problem_gives_no_list_of_one, a_problem_has_words};
