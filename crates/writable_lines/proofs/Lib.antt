@@ -1,0 +1,4 @@
+pub mod Each
+pub mod Listing
+pub mod Naming
+pub mod Whole
