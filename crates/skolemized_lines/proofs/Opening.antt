@@ -22,7 +22,7 @@ use Rattle.clause_form.specs.Sizes.{norm_size_of}
 use Rattle.clause_rules.specs.Steps.{IsReady}
 use Rattle.derivation_items.specs.Words.{Text}
 use Rattle.derivation_items.specs.declared.line.LineSource.{LineSource}
-use Rattle.derivation_items.specs.declared.line.LineSource.TheVariants.{Given, Skolemized}
+use Rattle.derivation_items.specs.declared.line.LineSource.TheVariants.{ClauseOf, Given, Skolemized}
 use Rattle.derivation_items.specs.declared.line.ProofLine.{ProofLine}
 use Rattle.derivation_order.specs.Cited.{forms_in}
 use Rattle.derivation_order.specs.Graphs.{is_given}
