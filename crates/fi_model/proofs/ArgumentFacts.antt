@@ -5,7 +5,6 @@ use Rattle.std.specs.Option.{option_map, option_and_then}
 use Rattle.std.proofs.lemmas.Option.{slice_get-map}
 use Rattle.std.proofs.lemmas.List.{length-map}
 use Rattle.tptp_base.specs.declared.surface.STerm.{STerm}
-use Rattle.fi_model.specs.declared.sentence.Element.{Element}
 use Rattle.fi_model.specs.Sentences.{all_there, or_none, element, elements}
 use Rattle.fi_model.proofs.Loops.{some_of, more_there}
 

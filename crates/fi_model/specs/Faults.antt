@@ -2,7 +2,7 @@
 -- that is wrong, or a sort without one; then an element that is not of the sort wanted; then a second value of a symbol
 -- at the same elements; then a symbol that lacks a value.
 use Rattle.std.specs.Prelude.{ℕ, ◌≡◌, ◌⊎◌, ◌<◌, ◌==◌, ◌||◌, not, if◌then◌else◌, Bool, true, false, List, [], ◌∷◌, ◌++◌}
-use Rattle.std.specs.Prelude.{codes, is_some, length, slice_get, Option, Some, None, Result, Ok, Err}
+use Rattle.std.specs.Prelude.{codes, is_some, length, slice_get, Option, Some, None, Ok, Err}
 use Rattle.std.specs.List.{list_any}
 use Rattle.tptp_base.specs.declared.place.Place.{Place}
 use Rattle.tptp_base.specs.declared.name.Name.{Name}

@@ -138,7 +138,7 @@ fn all_choices<'a>(
 ) -> Result<Option<List<Element<'a>>>, Memory>
     ensures { IfOk result (λ found. found ≡ spec.all_there (map (spec.choice name.now) forms.now)) }
 {
-    let mut found = List::new(alloc);
+    let mut found = List::from_vec(Vec::with_capacity(alloc, forms.len())?);
     for form in forms {
         match choice(name, form) {
             Some(element) => found.push(element)?,

@@ -50,7 +50,7 @@ fn one_entry(alloc: Global, kind: Kind, form: &Surface) -> Result<Option<List<En
 fn entries(alloc: Global, kind: Kind, forms: &[Surface]) -> Result<Option<List<Entry<'_>>>, Memory>
     ensures { IfOk result (λ found. found ≡ spec.all_there (map (spec.entry kind) forms.now)) }
 {
-    let mut found = List::new(alloc);
+    let mut found = List::from_vec(Vec::with_capacity(alloc, forms.len())?);
     for form in forms {
         match entry(kind, form) {
             Some(entry) => found.push(entry)?,

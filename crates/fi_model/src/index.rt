@@ -11,7 +11,7 @@ use crate::fault::ModelFault;
 use crate::rows::Row;
 use crate::sentence::Sentence;
 use indexmap::IndexMap;
-use std::alloc::Global;
+use std::alloc::{AllocError, Global};
 use std::marker::Model;
 use tptp_base::Memory;
 
@@ -31,13 +31,13 @@ impl Model for Index {
 }
 
 impl Index {
-    // The index without rows.
-    fn new(alloc: Global) -> Index
-        ensures { result ≡ [] }
+    // The index without rows. It has room for so many.
+    fn with_room(alloc: Global, count: usize) -> Result<Index, AllocError>
+        ensures { IfOk result (λ index. index ≡ []) }
     {
-        Index {
-            values: IndexMap::new(alloc),
-        }
+        Ok(Index {
+            values: IndexMap::with_capacity(alloc, count)?,
+        })
     }
 
     /// The value under the number of a symbol and elements.
@@ -74,7 +74,7 @@ pub fn index_rows(alloc: Global, rows: &[Row], said: &[Sentence<'_>]) -> Result<
     ensures entries { IfOk result (λ index. index ≡ map spec_code.entry_of rows.now) }
     ensures fault { IfErr result (λ fault. spec_code.IsDoubleAt said.now (first_double [] rows.now) fault) }
 {
-    let mut index = Index::new(alloc);
+    let mut index = Index::with_room(alloc, rows.len())?;
     for row in rows {
         let key = key_of(alloc, row)?;
         let added = index.add(key, row.value)?;

@@ -35,7 +35,7 @@ pub fn rows(
     ensures fault { IfErr result (λ fault.
         IsElement said.now (spec.rows signature.now domains.now 0 said.now) fault) }
 {
-    let mut found = List::new(alloc);
+    let mut found = List::from_vec(Vec::with_capacity(alloc, entry_count(said))?);
     for at in 0..said.len() {
         let good = add_rows(alloc, signature, domains, at, &said[at].what, &mut found)?;
         if !good {
@@ -43,6 +43,17 @@ pub fn rows(
         }
     }
     Ok(found)
+}
+
+// How many entries the sentences have. There is room for so many rows.
+fn entry_count(said: &[Sentence<'_>]) -> usize {
+    let mut count: usize = 0;
+    for sentence in said {
+        if let What::Entries(entries) = &sentence.what {
+            count = count.saturating_add(entries.len());
+        }
+    }
+    count
 }
 
 // The fault of a sentence with an element that is not of the sort wanted.
@@ -179,7 +190,7 @@ fn places(
     if sorts.len() != elements.len() {
         return Ok(None);
     }
-    let mut found = List::new(alloc);
+    let mut found = List::from_vec(Vec::with_capacity(alloc, sorts.len())?);
     for i in 0..sorts.len() {
         match place_of(domains, sorts[i], elements.get(i)) {
             Some(number) => found.push(number)?,
