@@ -22,6 +22,7 @@ use read_problems::{
 };
 use sort_check::GivenEntry;
 use std::alloc::{AllocError, Global};
+use std::mem::forget;
 use tptp_base::{Item, Memory, Name, Place, Store};
 
 /// Reads a problem with all that it includes, and a finite model, and says whether each formula that the problem gives
@@ -79,7 +80,10 @@ fn model_text(alloc: Global, posed: &Posed, file: &str, text: &[u8]) -> Result<A
     ensures cause { IfStopped result (λ stop. HasCause stop ⊥ ⊥) }
 {
     let items = read_model_items(alloc, file, text)?;
-    Ok(model_items(alloc, posed, file, items.as_slice())?)
+    let said = model_items(alloc, posed, file, items.as_slice())?;
+    // The program ends with this answer, and its memory with it: the items are not taken apart one by one.
+    forget(items);
+    Ok(said)
 }
 
 // What is said of the items of a model.
