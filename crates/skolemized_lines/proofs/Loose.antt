@@ -3,7 +3,9 @@
 use Rattle.std.specs.Prelude.{ℕ, ◌≡◌, ◌+◌, ◌⊎◌, ◌||◌, Bool, true, false, not, List, [], ◌∷◌, ◌++◌, flat_map, map, refl}
 use Rattle.std.specs.List.{AllByRecursion, list_any}
 use Rattle.std.proofs.Common.{ap, sym, ◌∙◌, inl, inr}
+use Rattle.std.proofs.lemmas.Bool.{or_left, or_right}
 use Rattle.std.proofs.lemmas.List.Concat.{flat_map-cons}
+use Rattle.std.proofs.lemmas.List.Folds.{list_any-append}
 use Rattle.fof_terms.specs.declared.form.Form.{Form, Atom, Eq, Not, All}
 use Rattle.fof_terms.specs.declared.term.Term.{Term}
 use Rattle.fof_terms.specs.Variables.{has_variable}
@@ -19,6 +21,7 @@ use Rattle.clause_form.proofs.NormFacts.{joined_flat-alone, norm_of-All, norm_of
 use Rattle.flat_form.proofs.Own.{IsOwn, OwnStands, flat_own, none_ends, stand_all}
 use Rattle.flat_form.proofs.OwnNorms.{norm_own}
 use Rattle.flat_form.proofs.Standing.{end_ends, node_members, stands_ends, stands_members}
+use Rattle.printed_steps.proofs.Terms.{either}
 use Rattle.skolemized_lines.proofs.Merging.{join_clauses, merged_all, node_clauses}
 
 mutual
@@ -77,25 +80,6 @@ all_kept s a there k =
 
 -- ---- a node
 
-pub either : (a b : Bool) → (a || b) ≡ true → (a ≡ true) ⊎ (b ≡ true)
-either true b e = inl refl
-either false b e = inr e
-
-pub with_true : (b : Bool) → (b || true) ≡ true
-with_true true = refl
-with_true false = refl
-
-any_behind : {X : Type 0} (p : X → Bool) (xs ys : List X) → list_any p ys ≡ true → list_any p (xs ++ ys) ≡ true
-any_behind p [] ys e = e
-any_behind p (x ∷ xs) ys e = ap (λ (b : Bool). p x || b) (any_behind p xs ys e) ∙ with_true (p x)
-
-any_before : {X : Type 0} (p : X → Bool) (xs ys : List X) → list_any p xs ≡ true → list_any p (xs ++ ys) ≡ true
-any_before p [] ys e = cc
-any_before p (x ∷ xs) ys e = elim (either (p x) (list_any p xs) e) [
-  | inl h ↦ ap (λ (b : Bool). b || list_any p (xs ++ ys)) h
-  | inr h ↦ ap (λ (b : Bool). p x || b) (any_before p xs ys h) ∙ with_true (p x)
-]
-
 node_variable : (g : Bool) (k : ℕ) (as_ : List Form) → has_variable k (node g as_) ≡ list_any (has_variable k) as_
 node_variable true k as_ = has_variable-And k as_
 node_variable false k as_ = has_variable-Or k as_
@@ -147,10 +131,12 @@ module _ (g : Bool) where
   in_flat : (k : ℕ) (as_ : List Form) → AllByRecursion IsKept as_ → list_any (has_variable k) as_ ≡ true → list_any (has_variable k) (flat as_) ≡ true
   in_flat k [] all h = cc
   in_flat k (a ∷ as_) all h =
-      ap (list_any (has_variable k)) (flat_more a as_)
+      let own : Bool = list_any (has_variable k) (members_of g (norm_of true a)) in
+      let rest : Bool = list_any (has_variable k) (flat as_) in
+      ap (list_any (has_variable k)) (flat_more a as_) ∙ list_any-append (has_variable k) (members_of g (norm_of true a)) (flat as_)
       ∙ elim (either (has_variable k a) (list_any (has_variable k) as_) h) [
-        | inl one ↦ any_before (has_variable k) (members_of g (norm_of true a)) (flat as_) (in_members k (norm_of true a) (all.0.variables k one))
-        | inr others ↦ any_behind (has_variable k) (members_of g (norm_of true a)) (flat as_) (in_flat k as_ all.1 others)
+        | inl one ↦ or_left own rest (in_members k (norm_of true a) (all.0.variables k one))
+        | inr others ↦ or_right own rest (in_flat k as_ all.1 others)
       ]
 
   alone_variable : (k : ℕ) (as_ : List Form) → list_any (has_variable k) as_ ≡ true → has_variable k (alone g as_) ≡ true

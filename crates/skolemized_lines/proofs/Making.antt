@@ -2,7 +2,7 @@
 use Rattle.std.specs.Prelude.{ℕ, suc, ◌≡◌, ◌+◌, ◌||◌, Bool, true, false, List, [], ◌∷◌, map, refl}
 use Rattle.std.specs.List.{AllByRecursion, list_any}
 use Rattle.std.proofs.Common.{ap, sym, subst, ◌∙◌, arith, eq-eqb, inl, inr}
-use Rattle.std.proofs.lemmas.Bool.{eqb-true}
+use Rattle.std.proofs.lemmas.Bool.{eqb-true, or_left, or_right}
 use Rattle.fof_terms.specs.declared.form.Form.{Form, Not}
 use Rattle.fof_terms.specs.declared.term.Term.{Term, Var, App}
 use Rattle.fof_terms.specs.Lift.{lifted_term}
@@ -17,7 +17,8 @@ use Rattle.clause_form.proofs.ImagesFacts.{image-App, image-Var}
 use Rattle.step_clauses.proofs.SkolemizingFacts.{made-All, made-And, made-Atom, made-Eq, made-Ex, made-Iff, made-Imp, made-Not, made-Or}
 use Rattle.flat_form.proofs.Own.{IsOwn, Stands, own, own_iff, own_imp, own_in, own_node, own_quantifier, own-All, own-And, own-Ex, own-Iff, own-Imp, own-Not, own-Or}
 use Rattle.flat_form.proofs.OwnNorms.{norm_own}
-use Rattle.skolemized_lines.proofs.Loose.{AreLoose, IsFilled, IsLoose, a_denied_atom, a_denied_equation, a_node, an_atom, an_equation, either, for_each, loose_kept, more, none, standing_filled, with_true}
+use Rattle.printed_steps.proofs.Terms.{either}
+use Rattle.skolemized_lines.proofs.Loose.{AreLoose, IsFilled, IsLoose, a_denied_atom, a_denied_equation, a_node, an_atom, an_equation, for_each, loose_kept, more, none, standing_filled}
 
 -- ---- variables that stay
 
@@ -27,8 +28,8 @@ Stays s k j t = has_in_term k t ≡ true → has_in_term j (image s t) ≡ true
 any_image : (s : ℕ → Term) (k j : ℕ) (ts : List Term) → AllByRecursion (Stays s k j) ts → list_any (has_in_term k) ts ≡ true → list_any (has_in_term j) (map (image s) ts) ≡ true
 any_image s k j [] all h = h
 any_image s k j (t ∷ ts) all h = elim (either (has_in_term k t) (list_any (has_in_term k) ts) h) [
-  | inl one ↦ ap (λ (b : Bool). b || list_any (has_in_term j) (map (image s) ts)) (all.0 one)
-  | inr others ↦ ap (λ (b : Bool). has_in_term j (image s t) || b) (any_image s k j ts all.1 others) ∙ with_true (has_in_term j (image s t))
+  | inl one ↦ or_left (has_in_term j (image s t)) (list_any (has_in_term j) (map (image s) ts)) (all.0 one)
+  | inr others ↦ or_right (has_in_term j (image s t)) (list_any (has_in_term j) (map (image s) ts)) (any_image s k j ts all.1 others)
 ]
 
 in_image : (s : ℕ → Term) (k j : ℕ) → s k ≡ Var j → (t : Term) → Stays s k j t
@@ -48,8 +49,8 @@ any_in_image s k j e ts h = any_image s k j ts (each_image s k j e ts) h
 
 one_of_two : (a b c d : Bool) → (a ≡ true → c ≡ true) → (b ≡ true → d ≡ true) → (a || b) ≡ true → (c || d) ≡ true
 one_of_two a b c d f g h = elim (either a b h) [
-  | inl one ↦ ap (λ (x : Bool). x || d) (f one)
-  | inr other ↦ ap (λ (x : Bool). c || x) (g other) ∙ with_true c
+  | inl one ↦ or_left c d (f one)
+  | inr other ↦ or_right c d (g other)
 ]
 
 raised : (s : ℕ → Term) (k j : ℕ) → s k ≡ Var j → under_all s (k + 1) ≡ Var (j + 1)

@@ -3,7 +3,9 @@ use Rattle.std.specs.Prelude.{ℕ, zero, suc, ◌≡◌, ◌+◌, ◌-◌, ◌<�
 use Rattle.std.specs.List.{range_with_len}
 use Rattle.std.proofs.Common.{ap, sym, subst, ◌∙◌, arith, inl, inr}
 use Rattle.std.proofs.lemmas.Bool.{le-ltb}
-use Rattle.std.proofs.lemmas.List.{length-replicate, get_or_append_left, get_or-append-add}
+use Rattle.std.proofs.lemmas.List.FromFn.{get_or-range_with_len, length-range_with_len}
+use Rattle.std.proofs.lemmas.List.{length-replicate, get_or-replicate, get_or_append_left, get_or-append-add}
+use Rattle.std.proofs.lemmas.Option.{slice_get_within}
 use Rattle.clause_form.specs.declared.clause.Clause.{Clause}
 use Rattle.clause_form.specs.ClauseWays.{IsIn}
 use Rattle.clause_form.specs.Clauses.{clauses_of}
@@ -19,26 +21,12 @@ use Rattle.printed_clauses.specs.Renumbered.{new_number}
 use Rattle.derivation_sentences.proofs.Linked.{ex_of, forms_in}
 use Rattle.derivation_sentences.proofs.Owned.{in_either}
 
--- ---- numbers in a range
-
-range_count : (k n : ℕ) → length (range_with_len k n) ≡ n
-range_count k zero = refl
-range_count k (suc n) = ap suc (range_count (k + 1) n)
-
-range_at : (k n i d : ℕ) → i < n → get_or (range_with_len k n) i d ≡ k + i
-range_at k zero i d lt = absurd (omega arith)
-range_at k (suc n) zero d lt = omega arith
-range_at k (suc n) (suc i) d lt = range_at (k + 1) n i d (omega arith) ∙ (omega arith)
+-- ---- lists
 
 in_list : {X : Type 0} (xs : List X) (i : ℕ) (x : X) → slice_get xs i ≡ Some x → IsIn x xs
 in_list [] i x e = cc
 in_list (y ∷ xs) zero x e = let same : x ≡ y = cc in inl same
 in_list (y ∷ xs) (suc i) x e = inr (in_list xs i x e)
-
-same_owner : (n k i : ℕ) → i < n → get_or (replicate n k) i 0 ≡ k
-same_owner zero k i lt = absurd (omega arith)
-same_owner (suc n) k zero lt = refl
-same_owner (suc n) k (suc i) lt = same_owner n k i (omega arith)
 
 -- ---- the part of an input
 
@@ -63,11 +51,11 @@ module _ (g : GivenEntry) (given : List GivenEntry) (b : Bool) (used : List Bool
     front = 0;
     listed = let same : next ≡ next + 0 = omega arith in subst (λ (n : ℕ). IsIn c (clauses_of g.form n)) same listed;
     numbered = λ long j other lt.
-        let count = range_count new (length (ex_of g)) in
+        let count = length-range_with_len new (length (ex_of g)) in
         let same : 0 + j ≡ j = omega arith in
         ap (λ (n : ℕ). get_or (range_with_len new (length (ex_of g)) ++ numbers_from (next_number new b (part_of g.form)) used (parts_of given)) n other) same
         ∙ get_or_append_left (range_with_len new (length (ex_of g))) (numbers_from (next_number new b (part_of g.form)) used (parts_of given)) other j (omega (arith, count, lt))
-        ∙ range_at new (length (ex_of g)) j other lt;
+        ∙ get_or-range_with_len new (length (ex_of g)) j other lt;
   }
 
   in_later : IsOfPart given used (next_behind next g.form) (next_number new b (part_of g.form)) owner (k + 1) c → IsOfPart (g ∷ given) (b ∷ used) next new owner k c
@@ -79,7 +67,7 @@ module _ (g : GivenEntry) (given : List GivenEntry) (b : Bool) (used : List Bool
     front = length (ex_of g) + p.front;
     listed = let same : next + length (ex_of g) + p.front ≡ next + (length (ex_of g) + p.front) = omega arith in subst (λ (n : ℕ). IsIn c (clauses_of p.entry.form n)) same p.listed;
     numbered = λ long j other lt.
-        let count = range_count new (length (ex_of g)) in
+        let count = length-range_with_len new (length (ex_of g)) in
         let place : length (ex_of g) + p.front + j ≡ length (range_with_len new (length (ex_of g))) + (p.front + j) = omega (arith, count) in
         ap (λ (n : ℕ). get_or (range_with_len new (length (ex_of g)) ++ numbers_from (next_number new b (part_of g.form)) used (parts_of given)) n other) place
         ∙ get_or-append-add (range_with_len new (length (ex_of g))) (numbers_from (next_number new b (part_of g.form)) used (parts_of given)) (p.front + j) other
@@ -97,8 +85,8 @@ part_of_input (g ∷ given) (b ∷ used) next new k i c long at =
     let many = length-replicate (clause_count_of (norm_of true g.form)) k in
     elim (in_either (clauses_of g.form next) (clauses_from (next_behind next g.form) (forms_in given)) i c at) [
       | inl h ↦
-          let inside : i < clause_count_of (norm_of true g.form) = omega (arith, within (clauses_of g.form next) i c h, counted) in
-          let own : get_or (mine ++ others) i 0 ≡ k = get_or_append_left mine others 0 i (omega (arith, many, inside)) ∙ same_owner (clause_count_of (norm_of true g.form)) k i inside in
+          let inside : i < clause_count_of (norm_of true g.form) = omega (arith, slice_get_within (clauses_of g.form next) i c h, counted) in
+          let own : get_or (mine ++ others) i 0 ≡ k = get_or_append_left mine others 0 i (omega (arith, many, inside)) ∙ get_or-replicate (clause_count_of (norm_of true g.form)) i k 0 inside in
           in_first g given b used next new (get_or (mine ++ others) i 0) k c own (in_list (clauses_of g.form next) i c h)
       | inr h ↦
           let place : i ≡ length mine + h.0 = omega (arith, h.1, counted, many) in
@@ -106,11 +94,6 @@ part_of_input (g ∷ given) (b ∷ used) next new k i c long at =
           let later = part_of_input given used (next_behind next g.form) (next_number new b (part_of g.form)) (k + 1) h.0 c (omega (arith, long)) h.2 in
           in_later g given b used next new (get_or (mine ++ others) i 0) k c (subst (λ (o : ℕ). IsOfPart given used (next_behind next g.form) (next_number new b (part_of g.form)) o (k + 1) c) behind later)
     ]
-  where
-    within : {X : Type 0} (xs : List X) (j : ℕ) (x : X) → slice_get xs j ≡ Some x → j < length xs
-    within [] j x e = cc
-    within (y ∷ xs) zero x e = omega arith
-    within (y ∷ xs) (suc j) x e = let rest = within xs j x e in omega (arith, rest)
 
 -- the number in the derivation of a function of the search
 pub new_behind : (first : ℕ) (numbers : List ℕ) (k : ℕ) → new_number first numbers (first + k) ≡ get_or numbers k (first + k)
