@@ -21,12 +21,12 @@ use Rattle.derivation_follows.proofs.Applying.{all_apply, inferred_apply}
 use Rattle.derivation_follows.proofs.Fitting.{members_fit}
 use Rattle.derivation_follows.proofs.Proofs.{printed_case}
 use Rattle.skolemized_lines.proofs.Opening.{others_apply}
-use Rattle.spelled_items.specs.Writable.{AreWritable}
+use Rattle.writable_lines.proofs.Naming.{names_are}
 use Rattle.proofs_are_verified.specs.Printed.{Asks, IsPrintedProof}
 use Rattle.proofs_are_verified.proofs.Claims.{claims_word}
 use Rattle.proofs_are_verified.proofs.Read.{is_read}
 
-module _ (v : Vocabulary) (given : List GivenEntry) (limit : ℕ) (file : List ℕ) (conjecture : Bool) (d : Derivation) (text : List ℕ) (p : IsPrintedProof v given limit file conjecture d text) (written : AreWritable file p.within.printed.of_lines) where
+module _ (v : Vocabulary) (given : List GivenEntry) (limit : ℕ) (file : List ℕ) (conjecture : Bool) (d : Derivation) (text : List ℕ) (p : IsPrintedProof v given limit file conjecture d text) where
   steps : StepsApply (vocabulary_of v d) given d.lines
   steps = all_apply (vocabulary_of v d) given d.lines (inferred_apply v given limit d p.found p.posed.few p.small (vocabulary_of v d) (members_fit v given limit d p.found p.posed.ready) p.premises)
       (others_apply v given limit d p.posed.ready p.found p.posed.few p.small)
@@ -39,10 +39,10 @@ module _ (v : Vocabulary) (given : List GivenEntry) (limit : ℕ) (file : List �
     module _ (checked : Checked) (w : Vocabulary) (is : IsDerivation text (names_of given) v checked w) where
       sure : IsSure (IsGoodCase asked t checked w)
       sure =
-          let own = is_read v given limit file conjecture d text p written in
+          let own = is_read v given limit file conjecture d text p in
           let same = one_derivation text (names_of given) v own.checked checked (vocabulary_of v d) w own.is is in
           let case : IsSure (IsGoodCase asked t own.checked (vocabulary_of v d)) =
-          printed_case v given limit d p.posed.few p.small p.posed.names p.found file p.items p.within steps asked t own.checked asks.formulas own.as_items claims in
+          printed_case v given limit d p.posed.few p.small (names_are given p.posed.names) p.found file p.items p.within steps asked t own.checked asks.formulas own.as_items claims in
           subst (λ (c : Checked). IsSure (IsGoodCase asked t c w)) same.0 (subst (λ (x : Vocabulary). IsSure (IsGoodCase asked t own.checked x)) same.1 case)
 
       pub all_verified : (verified : Bool) (report log : List ℕ) → Checks asked t checked w verified report log → verified ≡ true

@@ -8,7 +8,8 @@ use Rattle.kernel.specs.Statements.{Statements}
 use Rattle.clause_rules.specs.Steps.{IsReady}
 use Rattle.sort_check.specs.declared.line.GivenEntry.{GivenEntry}
 use Rattle.prove_out.specs.Unambiguous.{IsUnambiguous}
-use Rattle.printed_forms.specs.Words.{HasWords}
+use Rattle.printed_forms.specs.Words.{AreNamed, HasWords}
+use Rattle.printed_forms.specs.Written.{AreGivenListed}
 use Rattle.tptp_commands.specs.Presented.{proof_text}
 use Rattle.verifier.specs.Claim.{default_word}
 use Rattle.derivation_check.specs.Cases.{Asked}
@@ -17,14 +18,14 @@ use Rattle.limited_items.specs.Limits.{AreWithin}
 use Rattle.limited_items.specs.Premises.{HaveSmallPremises}
 use Rattle.limited_items.specs.Sources.{forms_given}
 use Rattle.problem_proofs.specs.Found.{IsFound, vocabulary_of}
-use Rattle.derivation_order.specs.Graphs.{AreNames}
 
--- The formulas that a problem gives, over its vocabulary: few, with names, closed and well-sorted. The names of the
--- vocabulary say what they mean, and have spellings.
+-- The formulas that a problem gives, over its vocabulary: few, closed and well-sorted, with names that can be written and
+-- no conjunction or disjunction of one member. The names of the vocabulary say what they mean, and have spellings.
 pub record IsPosed (v : Vocabulary) (given : List GivenEntry) : Type 0 where
   pub few : length given < 2 ^ 64
-  pub names : AreNames given
   pub ready : Each (λ (g : GivenEntry). IsReady v g.form) given
+  pub names : AreNamed given
+  pub listed : AreGivenListed given
   pub unambiguous : IsUnambiguous v
   pub words : HasWords v
 

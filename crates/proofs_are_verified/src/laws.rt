@@ -23,18 +23,16 @@ ghost use Rattle.derivation_text.specs.declared.derivation.Derivation.{Derivatio
 ghost use Rattle.derivation_text.specs.declared.fault.DerivationFault.{DerivationFault as Fault};
 ghost use Rattle.refutation_lines.specs.declared.derivation.Derivation.{Derivation as Found};
 ghost use Rattle.problem_proofs.specs.Found.{vocabulary_of};
-ghost use Rattle.derivation_order.specs.Graphs.{AreNames, names_of};
-ghost use Rattle.spelled_items.specs.Writable.{AreWritable};
+ghost use Rattle.derivation_order.specs.Graphs.{names_of};
 ghost use Rattle.proofs_are_verified.specs.Printed.{Asks, IsPosed, IsPrintedProof};
 
-/// What a problem gives, with all that it includes, is posed, where it is few formulas, closed and well-sorted, and
-/// names of theirs that are numbers are integers.
+/// What a problem gives, with all that it includes, is posed, where it is few formulas, closed and well-sorted.
 pub fn a_problem_is_posed()
     ensures { (told : Option Files) (root : Option (List ℕ)) (file : List ℕ) (whole : Whole) (lines : List Denoted)
         (v : Vocabulary)
         → Resolves told root file (Ok whole) → denoted whole.items first_vocabulary kind.Problem ≡ Ok (lines, v)
         → AreGivenSorted v (given_entries lines) → length (given_entries lines) < 2 ^ 32
-        → AreNames (given_entries lines) → IsPosed v (given_entries lines) }
+        → IsPosed v (given_entries lines) }
 {}
 
 /// The text of a proof claims the word of a proof, by whether the problem has a conjecture.
@@ -43,30 +41,26 @@ pub fn a_proof_text_claims_its_word()
         → claimed (proof_text file (default_word conjecture) items) ≡ Some (default_word conjecture) }
 {}
 
-/// The text of a derivation that is found, where the items of its lines can be written, is read as a derivation over
-/// the vocabulary of the one that is found. So no fault is found in it, where want of memory is none.
+/// The text of a proof that is found and printed is read as a derivation, over the vocabulary of the one that is found.
+/// So no fault is found in it, where want of memory is none.
 pub fn a_printed_proof_is_read()
     ensures is { (v : Vocabulary) (given : List Entry) (limit : ℕ) (file : List ℕ) (conjecture : Bool) (d : Found)
-        (text : List ℕ) → (p : IsPrintedProof v given limit file conjecture d text)
-        → AreWritable file p.within.printed.of_lines
+        (text : List ℕ) → IsPrintedProof v given limit file conjecture d text
         → (checked : Checked) × IsDerivation text (names_of given) v checked (vocabulary_of v d) }
     ensures no_fault { (v : Vocabulary) (given : List Entry) (limit : ℕ) (file : List ℕ) (conjecture : Bool)
-        (d : Found) (text : List ℕ) → (p : IsPrintedProof v given limit file conjecture d text)
-        → AreWritable file p.within.printed.of_lines → (fault : Fault)
-        → IsDerivationFault text (names_of given) v fault → IsWant fault }
+        (d : Found) (text : List ℕ) → IsPrintedProof v given limit file conjecture d text
+        → (fault : Fault) → IsDerivationFault text (names_of given) v fault → IsWant fault }
 {}
 
-/// Where they can be written, a check of the text verifies all, and does not stop for want of room.
+/// A check of the text of a proof that is found and printed verifies all, and does not stop for want of room.
 pub fn a_printed_proof_is_verified()
     ensures verified { (v : Vocabulary) (given : List Entry) (limit : ℕ) (file : List ℕ) (conjecture : Bool)
-        (d : Found) (text : List ℕ) → (p : IsPrintedProof v given limit file conjecture d text)
-        → AreWritable file p.within.printed.of_lines
+        (d : Found) (text : List ℕ) → IsPrintedProof v given limit file conjecture d text
         → (checked : Checked) (w : Vocabulary) → IsDerivation text (names_of given) v checked w
         → (asked : Asked) (t : Statements) → Asks given conjecture text asked t
         → (verified : Bool) (report log : List ℕ) → Checks asked t checked w verified report log → verified ≡ true }
     ensures room { (v : Vocabulary) (given : List Entry) (limit : ℕ) (file : List ℕ) (conjecture : Bool) (d : Found)
-        (text : List ℕ) → (p : IsPrintedProof v given limit file conjecture d text)
-        → AreWritable file p.within.printed.of_lines
+        (text : List ℕ) → IsPrintedProof v given limit file conjecture d text
         → (checked : Checked) (w : Vocabulary) → IsDerivation text (names_of given) v checked w
         → (asked : Asked) (t : Statements) → Asks given conjecture text asked t
         → (place : ℕ) (log : List ℕ) → Stops asked t checked w place log → ⊥ }

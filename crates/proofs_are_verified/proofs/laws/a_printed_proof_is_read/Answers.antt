@@ -3,6 +3,6 @@ use Rattle.proofs_are_verified.proofs.laws.a_printed_proof_is_read.Goals as goal
 
 pub returns : goal.returns
 returns c = record {
-  is = λ v given limit file conjecture d text p written. derivation_read v given limit file conjecture d text p written;
-  no_fault = λ v given limit file conjecture d text p written fault first. no_fault v given limit file conjecture d text p written fault first;
+  is = λ v given limit file conjecture d text p. derivation_read v given limit file conjecture d text p;
+  no_fault = λ v given limit file conjecture d text p fault first. no_fault v given limit file conjecture d text p fault first;
 }
