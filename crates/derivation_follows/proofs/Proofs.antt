@@ -13,7 +13,6 @@ use Rattle.derivation_check.specs.GoodCases.{IsGoodCase}
 use Rattle.derivation_items.specs.Typings.{typings_of}
 use Rattle.derivation_items.specs.Words.{Text}
 use Rattle.limited_items.specs.Limits.{AreWithin}
-use Rattle.limited_items.specs.Room as limited
 use Rattle.limited_items.specs.Sources.{forms_given}
 use Rattle.refutation_lines.specs.declared.derivation.Derivation.{Derivation}
 use Rattle.problem_proofs.specs.Found.{IsFound, vocabulary_of}

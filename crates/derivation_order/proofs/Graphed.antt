@@ -15,7 +15,6 @@ use Rattle.tptp_base.specs.declared.item.Annotated.{Annotated}
 use Rattle.tptp_base.specs.declared.item.Body.TheVariants as body
 use Rattle.tptp_base.specs.declared.item.GTerm.{GTerm}
 use Rattle.tptp_base.specs.declared.item.Item.{Item}
-use Rattle.tptp_base.specs.declared.item.Item.TheVariants as item
 use Rattle.tptp_base.specs.declared.item.Lang.TheVariants.{Tff}
 use Rattle.tptp_base.specs.declared.item.Role.TheVariants as role
 use Rattle.tptp_base.specs.declared.item.Typing.{Typing}

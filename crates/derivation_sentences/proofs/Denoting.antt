@@ -16,7 +16,6 @@ use Rattle.sort_check.specs.declared.fault.SortFault.{SortFault}
 use Rattle.sort_check.specs.declared.fault.SortRule.{SortRule}
 use Rattle.sort_check.specs.declared.line.Line.{Line}
 use Rattle.sort_check.specs.declared.line.TextKind.TheVariants.{Derivation}
-use Rattle.sort_check.specs.Denotation.{formula}
 use Rattle.sort_check.specs.Outcomes.{Outcome, and_then, mapped}
 use Rattle.sort_check.specs.Symbols.{Text}
 use Rattle.sort_check.specs.Texts.{Declared, Reading, at_line, denoted, line_item, line_of, lines_from, only_vocabulary, reading, type_item, type_lines, with_line}
