@@ -44,7 +44,7 @@ use Rattle.derivation_order.proofs.Chosen.{taken_at}
 use Rattle.derivation_order.proofs.Cited.{is_linked}
 use Rattle.derivation_order.proofs.Found.{found_linked, is_sound, lines_are}
 use Rattle.derivation_order.proofs.Marked.{IsSound}
-use Rattle.derivation_order.proofs.Ranks.{place_most, rank_most}
+use Rattle.derivation_order.proofs.Ranks.{place_within, rank_within}
 use Rattle.derivation_sentences.proofs.Owned.{one_of_all}
 use Rattle.spelled_items.specs.Writable.{is_name, is_source, is_word}
 use Rattle.spelled_items.proofs.TypeLines.{quotable_word}
@@ -82,7 +82,7 @@ module _ (r : Refutation) (needed : List Bool) (s : IsSound r needed) where
       by false = tt
 
   rank_fits : (i : ℕ) → i ≤ length r.inputs → get_or (ranks_in r needed) i 0 < 2 ^ 64
-  rank_fits i le = let long = printed_long in omega (arith, rank_most 0 (printed_in r needed) i (omega (arith, long, le)), le, s.few_clauses)
+  rank_fits i le = let long = printed_long in omega (arith, (rank_within 0 (printed_in r needed) i (omega (arith, long, le))).1, le, s.few_clauses)
 
   input_named : (k : ℕ) (c : Clause) → slice_get r.inputs k ≡ Some c → AllByRecursion IsLineNamed (input_lines plan (0 + k) c)
   input_named k c at =
@@ -95,8 +95,8 @@ module _ (r : Refutation) (needed : List Bool) (s : IsSound r needed) where
   place_fits j m at inferred =
       let long : length needed ≡ length r.members = s.are.count in
       let fits = slice_get_within r.members j m at in
-      let start = rank_most 0 (printed_in r needed) (length r.inputs) (omega (arith, printed_long)) in
-      let most = place_most (ranks_in r needed) (get_or (ranks_in r needed) (length r.inputs) 0) needed r.members j m (omega (arith, long, fits)) at inferred in
+      let start = (rank_within 0 (printed_in r needed) (length r.inputs) (omega (arith, printed_long))).1 in
+      let most = (place_within (ranks_in r needed) (get_or (ranks_in r needed) (length r.inputs) 0) needed r.members j m (omega (arith, long, fits)) at inferred).1 in
       omega (arith, start, most, fits, s.few_clauses)
 
   member_named : (k : ℕ) (m : Member) → slice_get r.members k ≡ Some m → AllByRecursion IsLineNamed (inferred_lines plan (0 + k) m)
