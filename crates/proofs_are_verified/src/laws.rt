@@ -11,6 +11,8 @@ ghost use Rattle.sort_check.specs.Texts.{denoted};
 ghost use Rattle.sort_check.specs.declared.line.Line.{Line as Denoted};
 ghost use Rattle.sort_check.specs.declared.line.TextKind.TheVariants as kind;
 ghost use Rattle.read_problems.specs.Denoted.{first_vocabulary};
+ghost use Rattle.read_problems.specs.Given.{given_theory};
+ghost use Rattle.read_problems.specs.Sources.{given_names};
 ghost use Rattle.tptp_base.specs.Store.{Files};
 ghost use Rattle.tptp_base.specs.declared.item.Item.{Item};
 ghost use Rattle.tptp_commands.specs.Presented.{proof_text};
@@ -25,6 +27,7 @@ ghost use Rattle.refutation_lines.specs.declared.derivation.Derivation.{Derivati
 ghost use Rattle.problem_proofs.specs.Found.{vocabulary_of};
 ghost use Rattle.derivation_order.specs.Graphs.{names_of};
 ghost use Rattle.proofs_are_verified.specs.Printed.{Asks, IsPosed, IsPrintedProof};
+ghost use Rattle.proofs_are_verified.specs.Proofs.{IsAskedOf, IsProofOf};
 
 /// What a problem gives, with all that it includes, is posed, where it is few formulas, closed and well-sorted.
 pub fn a_problem_is_posed()
@@ -64,4 +67,26 @@ pub fn a_printed_proof_is_verified()
         → (checked : Checked) (w : Vocabulary) → IsDerivation text (names_of given) v checked w
         → (asked : Asked) (t : Statements) → Asks given conjecture text asked t
         → (place : ℕ) (log : List ℕ) → Stops asked t checked w place log → ⊥ }
+{}
+
+/// The text of a proof of a problem is a derivation from what the problem gives, in which no fault is found, where want
+/// of memory is none. Each check of it as `verify` makes it verifies all, and none stops for want of room.
+pub fn a_proof_of_a_problem_is_verified()
+    ensures is { (told : Option Files) (root : Option (List ℕ)) (file : List ℕ) (limit : ℕ) (lines : List Denoted)
+        (v : Vocabulary) (text : List ℕ) → IsProofOf told root file limit lines v text
+        → (checked : Checked) × (w : Vocabulary) × IsDerivation text (given_names lines) v checked w }
+    ensures no_fault { (told : Option Files) (root : Option (List ℕ)) (file : List ℕ) (limit : ℕ)
+        (lines : List Denoted) (v : Vocabulary) (text : List ℕ) → IsProofOf told root file limit lines v text
+        → (fault : Fault) → IsDerivationFault text (given_names lines) v fault → IsWant fault }
+    ensures verified { (told : Option Files) (root : Option (List ℕ)) (file : List ℕ) (limit : ℕ)
+        (lines : List Denoted) (v : Vocabulary) (text : List ℕ) → IsProofOf told root file limit lines v text
+        → (checked : Checked) (w : Vocabulary) → IsDerivation text (given_names lines) v checked w
+        → (asked : Asked) → IsAskedOf lines text asked
+        → (verified : Bool) (report log : List ℕ)
+        → Checks asked (given_theory lines v) checked w verified report log → verified ≡ true }
+    ensures room { (told : Option Files) (root : Option (List ℕ)) (file : List ℕ) (limit : ℕ) (lines : List Denoted)
+        (v : Vocabulary) (text : List ℕ) → IsProofOf told root file limit lines v text
+        → (checked : Checked) (w : Vocabulary) → IsDerivation text (given_names lines) v checked w
+        → (asked : Asked) → IsAskedOf lines text asked
+        → (place : ℕ) (log : List ℕ) → Stops asked (given_theory lines v) checked w place log → ⊥ }
 {}
