@@ -9,6 +9,7 @@ pub mod Headline
 pub mod Makes
 pub mod ModelExact
 pub mod OneVerify
+pub mod Printing
 pub mod Proves
 pub mod ProvedTexts
 pub mod Verifies

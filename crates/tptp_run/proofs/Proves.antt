@@ -1,5 +1,4 @@
 -- How the command `prove` ends, by what it meets in turn.
-use Rattle.std.specs.Prelude.{OnOk}
 use Rattle.std.specs.List.{All}
 use Rattle.std.proofs.Common.{◌≡◌, ◌⊎◌, inl, inr, ℕ, ◌≤◌, Bool, true, List, [], Option, None, Some, IfSome, Result, Ok, Err, sym, ap, subst, arith}
 use Rattle.std.proofs.lemmas.List.Elements.{All-weaker}
@@ -60,10 +59,6 @@ verified_by problem text limit t names v marks conjecture report old new same (d
   log = log;
   checks = subst (λ (b : Bool). Checks (asked_by problem text marks conjecture limit) t d w b report.text log) verified checks;
 }
-
-pub on_ok_so : {T E : Type 0} (r : Result T E) (P Q : Type 0) → (P → Q) → OnOk r P → OnOk r Q
-on_ok_so (Ok x) P Q so p = so p
-on_ok_so (Err e) P Q so p = tt
 
 -- ---- statuses
 

@@ -1,5 +1,5 @@
 // The command `prove`.
-ghost use Rattle.std.specs.Prelude.{◌≡◌, ◌⊎◌, ◌≤◌, ◌<◌, ◌^◌, IfSome, List as list, OnOk, length, true};
+ghost use Rattle.std.specs.Prelude.{◌≡◌, ◌⊎◌, ◌≤◌, ◌<◌, ◌^◌, IfSome, List as list, OnOk, length};
 ghost use Rattle.std.specs.List.{All};
 ghost use Rattle.std.specs.Option.{option_copied};
 ghost use Rattle.tptp_base.specs.Count.{Rose};
@@ -12,13 +12,19 @@ ghost use Rattle.verifier.specs.Claim.{default_word};
 ghost use Rattle.read_problems.specs.Answer.{ending_of};
 ghost use Rattle.read_problems.specs.Ending.{IsAnswer};
 ghost use Rattle.read_problems.specs.OtherFaults.{SaysProblemFault};
+ghost use Rattle.read_problems.specs.Sources.{have_conjecture};
 ghost use Rattle.read_problems.specs.Stop.{HasCause, IfAnswer, IfStopped};
 ghost use Rattle.tptp_commands.specs.Presented as printed;
 ghost use Rattle.tptp_commands.specs.Refuted.{IsInBudget};
+ghost use Rattle.tptp_commands.specs.Words.{IsFileName};
+ghost use Rattle.proofs_are_verified.specs.Printed.{IsPosed};
+ghost use Rattle.proofs_are_verified.specs.Proofs.{IsProofText};
+ghost use Rattle.tptp_run.specs.code.Printing.{IsProofFrom, text_of};
+ghost use Rattle.tptp_run.specs.declared.report.NoReport.TheVariants as NoCause;
 ghost use Rattle.tptp_run.specs.Proving.{EndsProve, IsVerified, SaysProof, SaysProved, SaysSearched};
 ghost use Rattle.tptp_run.specs.Proving.{why_word as word_of};
 
-use crate::report::report_on;
+use crate::report::{NoReport, check_text};
 use derivation_check::Report;
 use problem_proofs::{ProveFault, Proved, Why};
 use read_problems::{Answer, Halt, Posed, Source, Stop, TOTAL_SIZE, read_posed, source_of};
@@ -27,8 +33,8 @@ use tptp_base::{Item, Memory, NullSink, Store, Text};
 use tptp_commands::{not_proved, over_size, proof_text, say_over};
 
 /// Reads a problem with all that it includes, searches among at most so many clauses for a proof of it, and prints the
-/// proof as a derivation. The text is checked before it is printed, as `verify` checks it, from what was read. Where not
-/// all of it is verified, the run gives up as it does without memory.
+/// proof as a derivation. The text is checked before it is printed, as `verify` checks it, from what was read, and all of
+/// it is verified.
 pub fn prove<S: Store>(
     alloc: Global,
     store: &mut S,
@@ -36,6 +42,7 @@ pub fn prove<S: Store>(
     problem: &str,
     limit: u32,
 ) -> Result<Answer, Halt>
+    requires { IsFileName problem.now }
     ensures ends { IfAnswer result (λ answer.
         IfSome (S.files store.old) (λ files.
         EndsProve files (option_copied root.entry) limit problem.now (ending_of answer))) }
@@ -53,6 +60,8 @@ pub fn prove<S: Store>(
 
 // Searches for a proof of what the problem poses. What is posed is what lines of the problem give.
 fn prove_posed(alloc: Global, problem: &str, posed: Posed, limit: u32) -> Result<Answer, Halt>
+    requires named { IsFileName problem.now }
+    requires posed { IsPosed posed.signature posed.given }
     requires budget { posed.read ≤ TOTAL_SIZE }
     requires few { length posed.given < 2 ^ 32 }
     requires sorted { AreGivenSorted posed.signature posed.given }
@@ -91,6 +100,8 @@ fn say_proof(
     items: &[Item],
     limit: u32,
 ) -> Result<Answer, Halt>
+    requires proof { IsProofText posed.signature posed.given limit problem.now (have_conjecture posed.given)
+        (text_of problem.now (have_conjecture posed.given) items.now) }
     requires budget { posed.read ≤ TOTAL_SIZE }
     requires few { length posed.given < 2 ^ 32 }
     requires sorted { AreGivenSorted posed.signature posed.given }
@@ -112,6 +123,7 @@ fn say_items(
     items: &[Item],
     limit: u32,
 ) -> Result<Answer, Halt>
+    requires proof { IsProofFrom problem.now limit source.old (text_of problem.now source.old.has_conjecture items.now) }
     requires budget { source.old.read ≤ TOTAL_SIZE }
     requires few { length source.old.names < 2 ^ 32 }
     requires same { source.old.theory.vocabulary ≡ source.old.signature }
@@ -148,6 +160,7 @@ fn say_text(
     text: Text,
     limit: u32,
 ) -> Result<Answer, Halt>
+    requires proof { IsProofFrom problem.now limit source.old text }
     requires budget { source.old.read ≤ TOTAL_SIZE }
     requires few { length source.old.names < 2 ^ 32 }
     requires same { source.old.theory.vocabulary ≡ source.old.signature }
@@ -172,6 +185,7 @@ fn say_checked(
     text: Text,
     limit: u32,
 ) -> Result<Answer, Halt>
+    requires proof { IsProofFrom problem.now limit source.old text }
     requires fits { IsInBudget source.old.read (length text) }
     requires bytes { length text ≤ file_size }
     requires few { length source.old.names < 2 ^ 32 }
@@ -187,14 +201,15 @@ fn say_checked(
     Ok(Answer { status: 0, text })
 }
 
-// Checks the text of a proof. It gives up as without memory where not all is verified.
+// The report of the check of a proof's text, which verifies all of it.
 fn check_proof(
     alloc: Global,
     source: &mut Source,
     problem: &str,
     text: &[u8],
     limit: u32,
-) -> Result<(), Memory>
+) -> Result<Report, Memory>
+    requires proof { IsProofFrom problem.now limit source.old text.now }
     requires bytes { length text.now ≤ file_size }
     requires few { length source.old.names < 2 ^ 32 }
     requires same { source.old.theory.vocabulary ≡ source.old.signature }
@@ -204,15 +219,20 @@ fn check_proof(
         source.old.has_conjecture text.now) }
 {
     let mut log = NullSink::new();
-    match report_on(alloc, &mut log, source, problem, text, limit) {
-        Ok(report) => if_verified(&report),
-        Err(_) => Err(Memory),
+    match check_text(alloc, &mut log, source, problem, text, limit) {
+        Ok(report) => Ok(report),
+        Err(fault) => Err(want_of(fault)),
     }
 }
 
-// Gives up where not all is verified.
-fn if_verified(report: &Report) -> Result<(), Memory>
-    ensures { OnOk result (report.now.verified ≡ true) }
+// The one cause for which the text of a proof has no report.
+fn want_of(fault: NoReport) -> Memory
+    requires { fault ≡ NoCause.Memory }
 {
-    if report.verified { Ok(()) } else { Err(Memory) }
+    match fault {
+        NoReport::Memory => Memory,
+        NoReport::Text => unreachable!(),
+        NoReport::Room => unreachable!(),
+        NoReport::Sink => unreachable!(),
+    }
 }

@@ -6,11 +6,12 @@ use Rattle.read_problems.specs.OtherFaults.{SaysProblemFault}
 use Rattle.read_problems.specs.declared.posed.Posed.{Posed}
 use Rattle.read_problems.specs.declared.stop.Answer.{Answer}
 use Rattle.tptp_commands.proofs.Absences.{refused_so}
+use Rattle.tptp_run.proofs.Printing.{is_posed}
 use Rattle.tptp_run.proofs.Proves.{are_answers, are_no_three, no_store, posed_ends, prove_refused}
 use Rattle.tptp_run.proofs.prove.prove.Goals as goal
 
 pub prove_posed-requires : goal.prove_posed-requires
-prove_posed-requires g c = record { budget = c.in-Ok.ensures.in_budget; few = c.in-Ok.ensures.few; sorted = c.in-Ok.ensures.sorted; declared = c.in-Ok.ensures.declared }
+prove_posed-requires g c = record { named = c.requires; posed = is_posed (g.S.Store.files c.args.store.now) (option_copied c.args.root) c.args.problem.now c.in-Ok.posed c.in-Ok.ensures.is c.in-Ok.ensures.sorted c.in-Ok.ensures.few; budget = c.in-Ok.ensures.in_budget; few = c.in-Ok.ensures.few; sorted = c.in-Ok.ensures.sorted; declared = c.in-Ok.ensures.declared }
 
 pub returns-in-Ok-clause-ends : goal.returns-in-Ok-clause-ends
 returns-in-Ok-clause-ends g c =

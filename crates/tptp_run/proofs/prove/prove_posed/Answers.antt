@@ -1,13 +1,34 @@
-use Rattle.std.proofs.Common.{List, ◌∙◌, ap, subst}
+use Rattle.std.proofs.Common.{List, ◌<◌, ◌^◌, ◌∙◌, ap, sym, subst, arith}
 use Rattle.tptp_base.specs.declared.item.Item.{Item}
 use Rattle.read_problems.specs.Answer.{ending_of}
 use Rattle.read_problems.specs.Stop.{IfAnswer}
+use Rattle.read_problems.specs.Sources.{have_conjecture}
 use Rattle.tptp_commands.specs.Presented.{not_proved}
+use Rattle.proofs_are_verified.specs.Proofs.{IsProofText}
+use Rattle.tptp_run.specs.code.Printing.{text_of}
+use Rattle.tptp_run.proofs.Printing.{proof_printed}
 use Rattle.tptp_run.proofs.Proves.{Proves, open_said, open_search, over_said, over_search, posed_ready, proof_said, proofs_search}
 use Rattle.tptp_run.proofs.prove.prove_posed.Goals as goal
 
 pub prove-requires : goal.prove-requires
 prove-requires c = posed_ready c.args.posed.signature c.args.posed.given _ c.as_slice-given.ensures c.requires.sorted
+
+pub say_proof-requires : goal.say_proof-requires
+say_proof-requires c =
+    let posed = c.args.posed in
+    let limit = c.args.limit in
+    let file = c.args.problem.now in
+    let conjecture = have_conjecture posed.given in
+    let proved = rw c.in-Ok-Proof.field-0-is at (rw c.as_bytes.ensures.value at (rw c.as_slice-given.ensures at c.in-Ok-Proof.ensures.proved)) in
+    let small : limit < 2 ^ 32 = omega arith in
+    let printed = proof_printed posed.signature posed.given limit file c.in-Ok-Proof.items c.requires.posed small c.requires.named proved in
+    record {
+      proof = subst (λ (items : List Item). IsProofText posed.signature posed.given limit file conjecture (text_of file conjecture items)) (sym c.as_slice.ensures) printed;
+      budget = c.requires.budget;
+      few = c.requires.few;
+      sorted = c.requires.sorted;
+      declared = c.requires.declared;
+    }
 
 pub returns-in-Ok-Proof-clause-said : goal.returns-in-Ok-Proof-clause-said
 returns-in-Ok-Proof-clause-said c =

@@ -1,6 +1,7 @@
 use Rattle.std.proofs.Common.{ℕ, ◌≤◌, sym, subst}
 use Rattle.read_problems.specs.declared.refusals.TheConstants.{TOTAL_SIZE}
 use Rattle.read_problems.proofs.Sourced.{all_declared, few_names, good_forms, posed_gives, theory_signature}
+use Rattle.tptp_run.proofs.Printing.{proof_from}
 use Rattle.tptp_run.proofs.Proves.{source_proofs}
 use Rattle.tptp_run.proofs.prove.say_proof.Goals as goal
 
@@ -13,6 +14,7 @@ say_items-requires c =
     let source = c.in_ok-source.source in
     let is = c.in_ok-source.ensures in
     record {
+      proof = proof_from posed c.args.limit c.args.problem.now c.args.items.now source c.requires.proof is.theory is.signature is.names is.marks is.conjecture;
       budget = subst (λ (n : ℕ). n ≤ TOTAL_SIZE) (sym is.read) c.requires.budget;
       few = few_names posed source c.requires.few is.names;
       same = theory_signature posed source is.theory is.signature;

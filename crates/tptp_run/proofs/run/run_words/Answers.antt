@@ -63,6 +63,9 @@ returns-in-Make-clause-log g c =
 pub make-requires : goal.make-requires
 make-requires g c = subst HasNames (ap task_of c.in-Make.is) c.in-Some.ensures.some.names
 
+pub prove-requires : goal.prove-requires
+prove-requires g c = subst HasNames (ap task_of c.in-Prove.is) c.in-Some.ensures.some.names
+
 pub returns-in-Prove-clause-ends : goal.returns-in-Prove-clause-ends
 returns-in-Prove-clause-ends g c =
     task_asked (g.S.Store.files c.args.store.now) (texts c.args.words.now) (request_of c.in-Some.command) (Prove c.in-Prove.problem.now) (g.L.Sink.taken c.args.log.now) c.prove.result c.in-Some.ensures.some (ap task_of c.in-Prove.is) c.prove.ensures.ends
