@@ -70,7 +70,7 @@ pub proof_from : (posed : Posed) (limit : ℕ) (file : List ℕ) (items : List I
 proof_from posed limit file items source proof theory signature names marks conjecture = record {
   given = posed.given;
   proof = subst (λ (v : Vocabulary). IsProofText v posed.given limit file source.has_conjecture (text_of file source.has_conjecture items)) (sym signature)
-  (subst (λ (b : Bool). IsProofText posed.signature posed.given limit file b (text_of file b items)) (sym conjecture) proof);
+      (subst (λ (b : Bool). IsProofText posed.signature posed.given limit file b (text_of file b items)) (sym conjecture) proof);
   theory = theory ∙ ap (λ (v : Vocabulary). entry_theory v posed.given) (sym signature);
   names = names;
   marks = marks;
