@@ -20,7 +20,8 @@ use Rattle.read_problems.specs.Sources.{given_names, has_conjecture}
 use Rattle.read_problems.proofs.MarksFit.{marks_fit}
 use Rattle.derivation_order.specs.Graphs.{names_of}
 use Rattle.proofs_are_verified.specs.Printed.{Asks, IsPrintedProof}
-use Rattle.proofs_are_verified.specs.Proofs.{IsAskedOf, IsProofOf, IsProofText}
+use Rattle.proofs_are_verified.specs.Proofs.{IsAskedOf, IsProofOf}
+use Rattle.proofs_are_verified.specs.code.Texts.{IsProofText}
 use Rattle.proofs_are_verified.proofs.Posed.{problem_posed}
 use Rattle.proofs_are_verified.proofs.Read.{derivation_read, no_fault}
 use Rattle.proofs_are_verified.proofs.Verified.{all_verified, not_stopped}

@@ -10,7 +10,6 @@ use Rattle.include_resolve.specs.declared.problem.Problem.{Problem}
 use Rattle.sort_check.specs.Given.{given_entries}
 use Rattle.sort_check.specs.Sorting.{AreGivenSorted}
 use Rattle.sort_check.specs.Texts.{denoted}
-use Rattle.sort_check.specs.declared.line.GivenEntry.{GivenEntry}
 use Rattle.sort_check.specs.declared.line.Line.{Line}
 use Rattle.sort_check.specs.declared.line.TextKind.TheVariants as kind
 use Rattle.read_problems.specs.Denoted.{first_vocabulary}
@@ -20,17 +19,6 @@ use Rattle.derivation_check.specs.Cases.{Asked}
 use Rattle.problem_proofs.specs.Proved.{IsProved}
 use Rattle.problem_proofs.specs.declared.proved.Proved.TheVariants.{Proof}
 use Rattle.tptp_commands.specs.Presented.{proof_text}
-use Rattle.proofs_are_verified.specs.Printed.{IsPosed}
-
--- From formulas that are posed a proof is found under the limit, as `prove` answers it. The text presents its items, as a
--- derivation from the problem in the file.
-pub record IsProofText (v : Vocabulary) (given : List GivenEntry) (limit : ℕ) (file : List ℕ) (conjecture : Bool) (text : List ℕ) : Type 0 where
-  pub posed : IsPosed v given
-  pub small : limit < 2 ^ 32
-  pub named : 0 < length file
-  pub items : List Item
-  pub proved : IsProved v given file limit (Proof items)
-  pub is : text ≡ proof_text file (default_word conjecture) items
 
 -- The problem in the file, with all that it includes, denotes these lines over this vocabulary. What they give is few
 -- formulas, closed and well-sorted, from which a proof is found under the limit. The text presents it, and is no longer

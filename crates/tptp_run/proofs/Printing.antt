@@ -30,7 +30,7 @@ use Rattle.read_problems.specs.declared.sources.Source.{Source}
 use Rattle.read_problems.specs.Spelled.{SaysGrammarFault, SaysLexFault}
 use Rattle.tptp_commands.specs.Derived.{IsDerivationRefusal, SaysDerivationFault, SaysGraphFault, SaysLineFault}
 use Rattle.proofs_are_verified.specs.Printed.{Asks, IsPosed}
-use Rattle.proofs_are_verified.specs.Proofs.{IsProofText}
+use Rattle.proofs_are_verified.specs.code.Texts.{IsProofText}
 use Rattle.proofs_are_verified.proofs.Posed.{problem_posed}
 use Rattle.proofs_are_verified.proofs.Problems.{text_no_fault, text_not_stopped, text_verified}
 use Rattle.tptp_run.specs.Verifying.{asked_by}

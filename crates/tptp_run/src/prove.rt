@@ -18,7 +18,7 @@ ghost use Rattle.tptp_commands.specs.Presented as printed;
 ghost use Rattle.tptp_commands.specs.Refuted.{IsInBudget};
 ghost use Rattle.tptp_commands.specs.Words.{IsFileName};
 ghost use Rattle.proofs_are_verified.specs.Printed.{IsPosed};
-ghost use Rattle.proofs_are_verified.specs.Proofs.{IsProofText};
+ghost use Rattle.proofs_are_verified.specs.code.Texts.{IsProofText};
 ghost use Rattle.tptp_run.specs.code.Printing.{IsProofFrom, text_of};
 ghost use Rattle.tptp_run.specs.declared.report.NoReport.TheVariants as NoCause;
 ghost use Rattle.tptp_run.specs.Proving.{EndsProve, IsVerified, SaysProof, SaysProved, SaysSearched};

@@ -14,7 +14,7 @@ use Rattle.derivation_text.specs.declared.fault.DerivationFault.{DerivationFault
 use Rattle.read_problems.specs.Sources.{entry_marks, entry_names, entry_theory}
 use Rattle.read_problems.specs.declared.sources.Source.{Source}
 use Rattle.tptp_commands.specs.Presented.{proof_text}
-use Rattle.proofs_are_verified.specs.Proofs.{IsProofText}
+use Rattle.proofs_are_verified.specs.code.Texts.{IsProofText}
 use Rattle.tptp_run.specs.Verifying.{asked_by}
 use Rattle.tptp_run.specs.declared.report.NoReport.{NoReport}
 use Rattle.tptp_run.specs.declared.report.NoReport.TheVariants.{Text, Room, Sink, Memory}

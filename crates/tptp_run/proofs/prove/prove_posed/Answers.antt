@@ -4,7 +4,7 @@ use Rattle.read_problems.specs.Answer.{ending_of}
 use Rattle.read_problems.specs.Stop.{IfAnswer}
 use Rattle.read_problems.specs.Sources.{have_conjecture}
 use Rattle.tptp_commands.specs.Presented.{not_proved}
-use Rattle.proofs_are_verified.specs.Proofs.{IsProofText}
+use Rattle.proofs_are_verified.specs.code.Texts.{IsProofText}
 use Rattle.tptp_run.specs.code.Printing.{text_of}
 use Rattle.tptp_run.proofs.Printing.{proof_printed}
 use Rattle.tptp_run.proofs.Proves.{Proves, open_said, open_search, over_said, over_search, posed_ready, proof_said, proofs_search}
