@@ -1,12 +1,18 @@
 -- The rules in the order in which they are tried.
-use Rattle.std.specs.Prelude.{ℕ, ◌≡◌, ◌+◌, ◌<◌, List, Option, Some, None, refl}
+use Rattle.std.specs.Prelude.{ℕ, ◌≡◌, ◌+◌, ◌<◌, ◌↔◌, Bool, true, false, IsTrue, List, Option, Some, None, refl}
 use Rattle.std.proofs.Common.{ap, sym, subst, ◌∙◌, arith, zero, suc, inl, inr}
 use Rattle.fof_terms.proofs.LiftingLaws.{below_or_above}
 use Rattle.fof_terms.specs.Vocabulary.{Vocabulary}
 use Rattle.fof_terms.specs.declared.form.Form.{Form}
+use Rattle.clause_form.specs.declared.clause.Clause.{Clause}
 use Rattle.clause_form.specs.declared.path.Parent.{Parent}
+use Rattle.clause_form.specs.ClauseView.{clause_of}
+use Rattle.clause_form.specs.Covers.{IsTrivial}
 use Rattle.clause_rules.specs.declared.just.Just.{Just}
+use Rattle.clause_rules.specs.declared.just.Just.TheVariants.{Tautology}
 use Rattle.clause_rules.specs.Answers.{ShapeRule, norm, cover, tautology, resolution, paramodulation, eqfactor, rewrite, Holds, IsAnswer, place_of, IsFirst}
+use Rattle.clause_rules.proofs.Firsts.{holds, untrue}
+use Rattle.rule_steps.specs.code.FirstFrom.{NoneBefore}
 
 abbrev rule_at : ℕ → ShapeRule
 rule_at zero = norm
@@ -37,7 +43,7 @@ few rewrite = omega arith
 
 module _ (v : Vocabulary) (parents : List Parent) (line : Form) where
   abbrev pub Below : ℕ → Type 0
-  Below n = (rule : ShapeRule) → place_of rule < n → Holds v parents line rule → ⊥
+  Below n = NoneBefore v parents line n
 
   none_below : Below 0
   none_below rule h = absurd (omega arith)
@@ -66,29 +72,25 @@ module _ (v : Vocabulary) (parents : List Parent) (line : Form) where
   last None no_ below = λ rule holds. extend rewrite None refl no_ below rule (few rule) holds
   last (Some just) shown below = first rewrite (Some just) just refl shown below
 
-  module _ (n : Option Just) (n_is : n ≡ None) (n_told : IsAnswer v parents line norm n) where
-    pub after_norm : Below 1
-    after_norm = extend norm n n_is n_told none_below
+  -- no other rule than `norm` gives a line that is no clause
+  pub no_clause : clause_of line ≡ None → Below 1 → IsFirst v parents line None
+  no_clause is below norm h = below norm (omega arith) h
+  no_clause is below cover h = let f = h.6.line_clause in cc
+  no_clause is below tautology h = let f = h.1 in cc
+  no_clause is below resolution h = let f = h.9.line_clause in cc
+  no_clause is below paramodulation h = let f = h.11.line_clause in cc
+  no_clause is below eqfactor h = let f = h.9.line_clause in cc
+  no_clause is below rewrite h = let f = h.11.line_clause in cc
 
-    module _ (c : Option Just) (c_is : c ≡ None) (c_told : IsAnswer v parents line cover c) where
-      pub after_cover : Below 2
-      after_cover = extend cover c c_is c_told after_norm
+  -- what `tautology` answers to a line that is this clause
+  module _ (clause : Clause) (is : clause_of line ≡ Some clause) (trivial : Bool) (told : IsTrue trivial ↔ IsTrivial clause.lits) where
+    pub is_trivial_line : trivial ≡ true → IsAnswer v parents line tautology (Some Tautology)
+    is_trivial_line e = (refl, (clause, is, holds trivial _ e told))
 
-      module _ (t : Option Just) (t_is : t ≡ None) (t_told : IsAnswer v parents line tautology t) where
-        pub after_tautology : Below 3
-        after_tautology = extend tautology t t_is t_told after_cover
-
-        module _ (r : Option Just) (r_is : r ≡ None) (r_told : IsAnswer v parents line resolution r) where
-          pub after_resolution : Below 4
-          after_resolution = extend resolution r r_is r_told after_tautology
-
-          module _ (p : Option Just) (p_is : p ≡ None) (p_told : IsAnswer v parents line paramodulation p) where
-            pub after_paramodulation : Below 5
-            after_paramodulation = extend paramodulation p p_is p_told after_resolution
-
-            module _ (e : Option Just) (e_is : e ≡ None) (e_told : IsAnswer v parents line eqfactor e) where
-              pub after_eqfactor : Below 6
-              after_eqfactor = extend eqfactor e e_is e_told after_paramodulation
+    pub is_no_trivial_line : trivial ≡ false → IsAnswer v parents line tautology None
+    is_no_trivial_line e = λ h.
+        let same : h.0 ≡ clause = let f = h.1 in cc in
+        untrue trivial _ e told (subst (λ (c : Clause). IsTrivial c.lits) same h.2)
 
   pub nothing_before : Below 0
   nothing_before = none_below

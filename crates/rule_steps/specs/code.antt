@@ -2,6 +2,7 @@
 pub mod Beside
 pub mod CoverFound
 pub mod EqFactorSearch
+pub mod FirstFrom
 pub mod NormRule
 pub mod ParamodulationSearch
 pub mod ResolutionSearch

@@ -45,8 +45,8 @@ pub fn cover_step(
     }
 }
 
-// A covering of one of the parents.
-fn cover_among(
+/// A covering of one of the parents by the clause.
+pub fn cover_among(
     alloc: Global,
     sig: &Signature,
     parents: &[Parent],

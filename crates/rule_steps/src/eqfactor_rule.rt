@@ -272,8 +272,8 @@ fn factor_slot(
     }
 }
 
-// A factoring of one of the clauses.
-fn factor_among(
+/// A factoring of one of the clauses.
+pub fn factor_among(
     alloc: Global,
     sig: &Signature,
     clauses: &[Option<Clause>],

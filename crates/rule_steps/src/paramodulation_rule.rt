@@ -4,6 +4,7 @@ ghost use Rattle.clause_rules.specs.Answers.{IsAnswer, paramodulation};
 ghost use Rattle.clause_rules.specs.ParamodulationRule.{Paramodulates};
 ghost use Rattle.rule_steps.specs.code.ParamodulationSearch.{FoundAtLit, FoundAtSite, FoundAtSites, FoundInClause};
 ghost use Rattle.rule_steps.specs.code.ParamodulationSearch.{FoundInClauses, HasClause, NeverAt, TriedAtSite};
+ghost use Rattle.rule_steps.specs.code.ParamodulationSearch.{readings_from};
 ghost use Rattle.rule_steps.specs.code.SlotFits.{AllFit};
 ghost use Rattle.clause_rules.specs.Settled.{IsFit, Settles};
 ghost use Rattle.clause_rules.specs.Steps.{AreReady, IsReady, equation, scope_of_both};
@@ -34,15 +35,29 @@ pub fn paramodulation_step(
     match as_clause(alloc, line)? {
         Some(line) => {
             let clauses = clauses_of_parents(alloc, parents)?;
-            let clauses = clauses.as_slice();
-            let readings = readings_of(alloc, clauses)?;
-            if readings.is_empty() {
-                return Ok(None);
-            }
-            in_clauses(alloc, sig, clauses, readings.as_slice(), &line)
+            paramodulate_among(alloc, sig, clauses.as_slice(), &line)
         }
         None => Ok(None),
     }
+}
+
+/// The same among the clauses that the parents are.
+pub fn paramodulate_among(
+    alloc: Global,
+    sig: &Signature,
+    clauses: &[Option<Clause>],
+    line: &Clause,
+) -> Result<Option<Just>, Memory>
+    requires clauses { AllFit sig.now clauses.now }
+    requires line { IsFit sig.now line.now }
+    ensures { IfOk result (λ found.
+        FoundInClauses sig.now clauses.now (readings_from 0 clauses.now) line.now found) }
+{
+    let readings = readings_of(alloc, clauses)?;
+    if readings.is_empty() {
+        return Ok(None);
+    }
+    in_clauses(alloc, sig, clauses, readings.as_slice(), line)
 }
 
 // A justification at a place of one of the clauses.

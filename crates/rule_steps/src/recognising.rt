@@ -1,18 +1,22 @@
-ghost use Rattle.std.specs.Prelude.{IfOk};
+ghost use Rattle.std.specs.Prelude.{◌≡◌, IfOk, List as ListOf};
+ghost use Rattle.clause_form.specs.declared.path.Parent.{Parent as Cited};
 ghost use Rattle.clause_rules.specs.Answers.{IsFirst};
-ghost use Rattle.clause_rules.specs.Steps.{AreReady, IsReady};
+ghost use Rattle.clause_rules.specs.Settled.{IsFit};
+ghost use Rattle.clause_rules.specs.Steps.{AreReady, IsReady, clauses_of};
+ghost use Rattle.rule_steps.specs.code.FirstFrom.{IsFirstAfter, NoneBefore};
+ghost use Rattle.rule_steps.specs.code.SlotFits.{AllFit};
 
-use crate::cover_rule::cover_step;
-use crate::eqfactor_rule::eqfactor_step;
+use crate::cover_rule::cover_among;
+use crate::eqfactor_rule::factor_among;
 use crate::norm_rule::norm_step;
-use crate::paramodulation_rule::paramodulation_step;
-use crate::resolution_rule::resolution_step;
-use crate::rewrite_rule::rewrite_step;
-use crate::tautology_rule::tautology_step;
-use clause_form::Parent;
+use crate::paramodulation_rule::paramodulate_among;
+use crate::resolution_rule::resolve_among;
+use crate::rewrite_rule::rewrite_among;
+use clause_form::{Clause, Parent, as_clause, is_trivial};
 use clause_rules::Just;
 use fof_terms::{Form, Signature};
 use std::alloc::Global;
+use substitution_search::clauses_of_parents;
 use tptp_base::Memory;
 
 /// A justification by the first of the rules norm, cover, tautology, resolution, paramodulation, eqfactor and rewrite
@@ -27,29 +31,77 @@ pub fn recognise(
     requires line { IsReady sig.now line.now }
     ensures { IfOk result (λ answer. IsFirst sig.now parents.now line.now answer) }
 {
-    let norm = norm_step(alloc, sig, parents, line)?;
-    if let Some(just) = norm {
-        return Ok(Some(just));
+    match norm_step(alloc, sig, parents, line)? {
+        Some(just) => Ok(Some(just)),
+        None => by_form(alloc, sig, parents, line),
     }
-    let cover = cover_step(alloc, sig, parents, line)?;
+}
+
+// The same of a line that `norm` does not give: all other rules give clauses alone. The clause that the line is serves
+// them all.
+fn by_form(
+    alloc: Global,
+    sig: &Signature,
+    parents: &[Parent],
+    line: &Form,
+) -> Result<Option<Just>, Memory>
+    requires parents { AreReady sig.now parents.now }
+    requires line { IsReady sig.now line.now }
+    ensures { IfOk result (λ answer. NoneBefore sig.now parents.now line.now 1
+        → IsFirst sig.now parents.now line.now answer) }
+{
+    match as_clause(alloc, line)? {
+        Some(clause) => by_clause(alloc, sig, parents, &clause),
+        None => Ok(None),
+    }
+}
+
+// The same of a line that is this clause. The clauses that the parents are serve all rules after `tautology`.
+fn by_clause(
+    alloc: Global,
+    sig: &Signature,
+    parents: &[Parent],
+    line: &Clause,
+) -> Result<Option<Just>, Memory>
+    requires parents { AreReady sig.now parents.now }
+    requires line { IsFit sig.now line.now }
+    ensures { IfOk result (IsFirstAfter sig.now parents.now line.now 1) }
+{
+    let cover = cover_among(alloc, sig, parents, line)?;
     if let Some(just) = cover {
         return Ok(Some(just));
     }
-    let tautology = tautology_step(alloc, sig, parents, line)?;
-    if let Some(just) = tautology {
-        return Ok(Some(just));
+    if is_trivial(line) {
+        return Ok(Some(Just::Tautology));
     }
-    let resolution = resolution_step(alloc, sig, parents, line)?;
+    let clauses = clauses_of_parents(alloc, parents)?;
+    among_clauses(alloc, sig, clauses.as_slice(), line)
+}
+
+// The same by the rules that go by the clauses of parents.
+fn among_clauses(
+    alloc: Global,
+    sig: &Signature,
+    clauses: &[Option<Clause>],
+    line: &Clause,
+) -> Result<Option<Just>, Memory>
+    requires clauses { AllFit sig.now clauses.now }
+    requires line { IsFit sig.now line.now }
+    ensures { IfOk result (λ answer. (parents : ListOf Cited)
+        → clauses.now ≡ clauses_of parents
+        → IsFirstAfter sig.now parents line.now 3 answer) }
+{
+    let resolution = resolve_among(alloc, sig, clauses, line)?;
     if let Some(just) = resolution {
         return Ok(Some(just));
     }
-    let paramodulation = paramodulation_step(alloc, sig, parents, line)?;
+    let paramodulation = paramodulate_among(alloc, sig, clauses, line)?;
     if let Some(just) = paramodulation {
         return Ok(Some(just));
     }
-    let eqfactor = eqfactor_step(alloc, sig, parents, line)?;
+    let eqfactor = factor_among(alloc, sig, clauses, line)?;
     if let Some(just) = eqfactor {
         return Ok(Some(just));
     }
-    rewrite_step(alloc, sig, parents, line)
+    rewrite_among(alloc, sig, clauses, line)
 }

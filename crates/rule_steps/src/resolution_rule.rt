@@ -47,8 +47,8 @@ pub fn resolution_step(
     }
 }
 
-// The same among the clauses that the parents are.
-fn resolve_among(
+/// The same among the clauses that the parents are.
+pub fn resolve_among(
     alloc: Global,
     sig: &Signature,
     clauses: &[Option<Clause>],

@@ -4,6 +4,7 @@ ghost use Rattle.clause_form.specs.Covers.{AreSorted, CoversBy};
 ghost use Rattle.clause_rules.specs.declared.just.Just.TheVariants.{Rewrite};
 ghost use Rattle.clause_rules.specs.Answers.{IsAnswer, rewrite};
 ghost use Rattle.clause_rules.specs.RewriteRule.{StandsIn};
+ghost use Rattle.rule_steps.specs.code.ParamodulationSearch.{readings_from, sites_from};
 ghost use Rattle.rule_steps.specs.code.RewriteSearch.{NeverRewritten, RewritesAtSite, RewritesAtSites};
 ghost use Rattle.rule_steps.specs.code.RewriteSearch.{SettlesRewriting, TriedRewriting};
 ghost use Rattle.rule_steps.specs.code.SlotFits.{AllFit};
@@ -44,23 +45,37 @@ pub fn rewrite_step(
     match as_clause(alloc, line)? {
         Some(line) => {
             let clauses = clauses_of_parents(alloc, parents)?;
-            let clauses = clauses.as_slice();
-            let readings = readings_of(alloc, clauses)?;
-            if readings.is_empty() {
-                return Ok(None);
-            }
-            let sites = sites_of(alloc, clauses)?;
-            at_sites(
-                alloc,
-                sig,
-                clauses,
-                sites.as_slice(),
-                readings.as_slice(),
-                &line,
-            )
+            rewrite_among(alloc, sig, clauses.as_slice(), &line)
         }
         None => Ok(None),
     }
+}
+
+/// The same among the clauses that the parents are.
+pub fn rewrite_among(
+    alloc: Global,
+    sig: &Signature,
+    clauses: &[Option<Clause>],
+    line: &Clause,
+) -> Result<Option<Just>, Memory>
+    requires clauses { AllFit sig.now clauses.now }
+    requires line { IsFit sig.now line.now }
+    ensures { IfOk result (λ found.
+        RewritesAtSites sig.now clauses.now (sites_from 0 clauses.now) (readings_from 0 clauses.now) line.now found) }
+{
+    let readings = readings_of(alloc, clauses)?;
+    if readings.is_empty() {
+        return Ok(None);
+    }
+    let sites = sites_of(alloc, clauses)?;
+    at_sites(
+        alloc,
+        sig,
+        clauses,
+        sites.as_slice(),
+        readings.as_slice(),
+        line,
+    )
 }
 
 // A justification at one of the places.
