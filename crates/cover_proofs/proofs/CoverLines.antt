@@ -26,7 +26,6 @@ use Rattle.norm_proofs.proofs.RoutesFacts.{roomy_start}
 use Rattle.clause_form.specs.Paths.{reached}
 use Rattle.clause_form.specs.Sizes.{norm_size_of}
 use Rattle.unify_terms.specs.Substitution.{image_at}
-use Rattle.clause_rules.specs.CoverRule.{IsCoverStep}
 use Rattle.clause_rules.specs.Justified.{Shows}
 use Rattle.clause_rules.specs.Steps.{AreCovered, IsJoint, IsReady, images_of_parents, instances}
 use Rattle.clause_rules.specs.declared.just.Just.TheVariants.{Cover}
@@ -170,9 +169,6 @@ module _ (w : Vocabulary) (o : Opened) (is : IsClosed w o) where
 
 pub same_reached : (path : Path) (a b : Form) (x c : Clause) → reached path (norm_of true a) ≡ Some x → a ≡ b → reached path (norm_of true b) ≡ Some c → x ≡ c
 same_reached path a b x c e same f = let both : Some x ≡ Some c = sym e ∙ ap (λ (y : Form). reached path (norm_of true y)) same ∙ f in cc
-
-pub cover_holds : (w : Vocabulary) (parents : List Parent) (line : Form) (a : ℕ) (path : Path) (images : List Term) → Shows w parents line (Cover a path images) → IsCoverStep w parents line
-cover_holds w parents line a path images (c, e, joint, at) = (a, path, c, e, scope_of c, images_of_parents e images, at)
 
 -- what the justification shows, of the parent alone
 pub covers_in : (w : Vocabulary) (parents : List Parent) (line : Form) (a : ℕ) (path : Path) (images : List Term) (r : Parent) → Shows w parents line (Cover a path images) → r ≡ get_or parents a r → CoversIn w r.form line path images

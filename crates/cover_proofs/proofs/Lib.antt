@@ -1,3 +1,4 @@
+pub mod ClauseRules
 pub mod CoverLines
 pub mod MemberLines
 pub mod NormLines

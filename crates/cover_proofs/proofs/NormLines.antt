@@ -1,5 +1,5 @@
 -- Lines whose flat form is that of a parent.
-use Rattle.std.specs.Prelude.{ℕ, ◌≡◌, ◌<◌, ◌≤◌, true, List, [], length, Some, slice_get, get_or, Option}
+use Rattle.std.specs.Prelude.{ℕ, ◌≡◌, ◌<◌, ◌≤◌, true, List, [], length, Some, slice_get, get_or}
 use Rattle.std.proofs.Common.{ap, sym, subst, ◌∙◌, arith}
 use Rattle.fof_terms.specs.declared.form.Form.{Form, Imp}
 use Rattle.fof_terms.specs.Vocabulary.{Vocabulary}
@@ -8,9 +8,6 @@ use Rattle.clause_form.specs.declared.path.Parent.{Parent}
 use Rattle.clause_form.specs.Norm.{norm_of}
 use Rattle.clause_rules.specs.NormRule.{HasLinesFlat}
 use Rattle.clause_proofs.proofs.BodySorts.{placed}
-use Rattle.clause_rules.specs.Answers.{IsAnswer, norm}
-use Rattle.clause_rules.specs.declared.just.Just.{Just}
-use Rattle.clause_rules.specs.declared.just.Just.TheVariants.{Norm}
 use Rattle.clause_rules.specs.Steps.{IsReady}
 use Rattle.kernel.specs.Statements.{Statements}
 use Rattle.kernel.specs.Proves.{Proves}
@@ -72,6 +69,3 @@ alike_at parents line a r has is =
 
 pub norm_there : (parents : List Parent) (line : Form) (a : ℕ) (r : Parent) → HasLinesFlat parents line a → r ≡ get_or parents a r → slice_get parents a ≡ Some r
 norm_there parents line a r has is = has.of_parent.there ∙ ap Some (sym (parent_at parents a has.of_parent.parent r has.of_parent.there is))
-
-pub norm_shows : (w : Vocabulary) (parents : List Parent) (line : Form) (answer : Option Just) (a : ℕ) → answer ≡ Some (Norm a) → IsAnswer w parents line norm answer → HasLinesFlat parents line a
-norm_shows w parents line answer a is x = (subst (IsAnswer w parents line norm) is x).1

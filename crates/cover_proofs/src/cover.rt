@@ -13,11 +13,9 @@ ghost use Rattle.clause_rules.specs.Justified.{Shows};
 ghost use Rattle.clause_rules.specs.Steps.{AreCovered, AreReady, IsJoint, IsReady, images_of_parents, instances};
 ghost use Rattle.clause_rules.specs.declared.just.Just.TheVariants.{Cover as ByCover};
 ghost use Rattle.kernel.specs.Proves.{Proves};
-ghost use Rattle.clause_rules.specs.Answers.{cover as cover_rule};
 ghost use Rattle.clause_proofs.specs.Bodies.{HasClause};
 ghost use Rattle.clause_proofs.specs.code.Bodies.{IsReadyClause};
 ghost use Rattle.cover_proofs.specs.code.Facts.{CoversIn, IsClosed, IsFact, IsFactUpTo, ShowsAnywhere, ShowsByParent};
-ghost use Rattle.rule_proofs.specs.ByRule.{IsByRule};
 ghost use Rattle.clause_proofs.specs.Shown.{ShowsLine};
 ghost use Rattle.clause_proofs.specs.Refuting.{theory_of};
 
@@ -27,11 +25,9 @@ use clause_proofs::{
     Opened, closed, few_variables_of, instance_of_part, known_clause, line as formula,
     refute_covered, some_images,
 };
-use clause_rules::Just;
 use derive_kit::Part;
 use fof_terms::{Form, Scope, Signature};
 use norm_proofs::{apply, norm_forth, path_proof};
-use rule_steps::cover_step;
 use std::alloc::Global;
 use tptp_base::Memory;
 use unify_terms::Subst;
@@ -43,36 +39,9 @@ struct Reached {
     fact: Part,
 }
 
-/// A proof of the line by the rule `cover`; None exactly where the rule doesn't give it.
-pub fn by_cover(
-    alloc: Global,
-    signature: &Signature,
-    parents: &[Parent],
-    line: &Form,
-) -> Result<Option<Part>, Memory>
-    requires ready { AreReady signature.now parents.now }
-    requires line { IsReady signature.now line.now }
-    ensures { IfOk result (IsByRule signature.now parents.now line.now cover_rule) }
-{
-    match cover_step(alloc, signature, parents, line)? {
-        Some(
-            Just::Cover {
-                parent,
-                path,
-                subst,
-            },
-        ) => {
-            let proof = covered(alloc, signature, parents, line, parent, &path, &subst)?;
-            Ok(Some(proof))
-        }
-        Some(_) => unreachable!(),
-        None => Ok(None),
-    }
-}
-
-// A proof of the line by the parent of that number in the list: the line covers what the path reaches in its normal
-// form.
-fn covered(
+/// A proof of the line by the parent of that number in the list: the line covers what the path reaches in its normal
+/// form.
+pub fn covered(
     alloc: Global,
     signature: &Signature,
     parents: &[Parent],

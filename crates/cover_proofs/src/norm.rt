@@ -6,43 +6,37 @@ ghost use Rattle.clause_form.specs.Sizes.{norm_size_of};
 ghost use Rattle.kernel.specs.Proves.{Proves};
 ghost use Rattle.clause_rules.specs.NormRule.{HasLinesFlat};
 ghost use Rattle.clause_rules.specs.Steps.{AreReady, IsReady};
-ghost use Rattle.clause_rules.specs.Answers.{norm as norm_rule};
-ghost use Rattle.rule_proofs.specs.ByRule.{AreAlike, IsByRule};
+ghost use Rattle.rule_proofs.specs.ByRule.{AreAlike};
 ghost use Rattle.clause_proofs.specs.Refuting.{theory_of};
+ghost use Rattle.clause_proofs.specs.Shown.{ShowsLine};
 ghost use Rattle.cover_proofs.specs.code.Facts.{LeadsOn};
 
 use crate::cover::small_norm;
 use clause_form::Parent;
 use clause_proofs::line as formula;
-use clause_rules::Just;
 use derive_kit::Part;
 use flat_proofs::{flat_back, flat_forth};
 use fof_terms::{Form, Signature, equal};
 use norm_proofs::{apply, norm_back, norm_forth};
-use rule_steps::norm_step;
 use std::alloc::Global;
 use tptp_base::{Boxed, Memory};
 
-/// A proof of the line by the rule `norm`; None exactly where the rule doesn't give it.
-pub fn by_norm(
+/// A proof of the line by the parent of that number in the list, which has the line's flat form, or by one that is the
+/// line itself.
+pub fn normed_in(
     alloc: Global,
     signature: &Signature,
     parents: &[Parent],
     line: &Form,
-) -> Result<Option<Part>, Memory>
+    parent: usize,
+) -> Result<Part, Memory>
     requires ready { AreReady signature.now parents.now }
     requires line { IsReady signature.now line.now }
-    ensures { IfOk result (IsByRule signature.now parents.now line.now norm_rule) }
+    requires alike { HasLinesFlat parents.now line.now parent }
+    ensures { IfOk result (ShowsLine signature.now parents.now line.now) }
 {
-    match norm_step(alloc, signature, parents, line)? {
-        Some(Just::Norm { parent }) => {
-            let parent = likest(parents, parent, line);
-            let proof = normed(alloc, signature, &parents[parent], line)?;
-            Ok(Some(proof))
-        }
-        Some(_) => unreachable!(),
-        None => Ok(None),
-    }
+    let parent = likest(parents, parent, line);
+    normed(alloc, signature, &parents[parent], line)
 }
 
 // The number of a parent that is the line itself, or else of the one given.

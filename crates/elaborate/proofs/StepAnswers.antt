@@ -1,5 +1,5 @@
 -- What answers say, from what is shown.
-use Rattle.std.specs.Prelude.{ℕ, ◌≡◌, ◌<◌, ◌≤◌, Bool, true, false, List, [], ◌∷◌, ◌++◌, length, take, drop, slice_get, get_or, Option, Some, None, MatchOption, refl}
+use Rattle.std.specs.Prelude.{ℕ, ◌≡◌, ◌<◌, ◌≤◌, Bool, List, [], ◌∷◌, ◌++◌, length, take, drop, slice_get, get_or, Option, Some, None, MatchOption, refl}
 use Rattle.std.specs.List.{All as Each, AllByRecursion}
 use Rattle.std.proofs.Common.{ap, sym, subst, ◌∙◌, arith, inl, inr, zero, suc}
 use Rattle.std.proofs.lemmas.List.Elements.{recursion_from_All, All-from_recursion}
@@ -12,7 +12,12 @@ use Rattle.kernel.specs.Statements.{Statements}
 use Rattle.kernel.specs.Proves.{Proves}
 use Rattle.kernel.specs.declared.proof.Proof.{Proof}
 use Rattle.kernel.specs.declared.entry.Entry.TheVariants.{Lemma}
-use Rattle.clause_rules.specs.Answers.{ShapeRule as Word, cover, Holds as Gives}
+use Rattle.clause_rules.specs.Answers.{ShapeRule as Word, norm, cover, tautology, resolution, paramodulation, eqfactor, rewrite, place_of, rule_of}
+use Rattle.clause_rules.specs.Answers.{Holds as Gives, IsFirst as IsFirstShown}
+use Rattle.clause_rules.specs.Justified.{Shows}
+use Rattle.clause_rules.specs.declared.just.Just.{Just}
+use Rattle.clause_rules.specs.declared.just.Just.TheVariants as variant
+use Rattle.clause_rules.proofs.Shown.{holds_when_shown}
 use Rattle.elaborate.specs.declared.answer.Rule.{Rule}
 use Rattle.skolem_fresh.specs.Justified.{ShowsSkolem}
 use Rattle.skolem_fresh.proofs.JustifiedFacts.{skolem_shown}
@@ -34,14 +39,12 @@ use Rattle.elaborate.specs.declared.answer.StepAnswer.TheVariants.{Accepted, Unv
 use Rattle.clause_rules.specs.Steps.{AreReady, IsReady}
 use Rattle.elaborate.specs.declared.leaves.FromOne.{FromOne}
 use Rattle.elaborate.specs.declared.steps.Derived.{Derived}
-use Rattle.elaborate.specs.declared.steps.Found.{Found}
 use Rattle.elaborate.specs.ByRule.{ByNone, IsFirst, IsNone, symbol_rules, GivesFirst, GivesNowhere, LeafRule, ByNoLeafRule, shape_rules}
 use Rattle.derive_kit.specs.Derived.{AreOfTheory, IsDerivedFrom, numbers_of}
 use Rattle.derive_kit.proofs.DerivedFacts.{derived_by_lemma}
 use Rattle.elaborate.specs.Answers.{IsSearchAnswer, IsStepAnswer, IsLeafAnswer}
 use Rattle.clause_proofs.specs.Shown.{ShowsLine}
-use Rattle.rule_proofs.specs.ByRule.{IsByRule}
-use Rattle.elaborate.specs.code.Proofs.{IsByEntries, IsDerived, IsFound, CoversAlone, CoversNowhere, IsCoverAlone, IsFromFirst, IsFirstCover, IsLeftLeaf}
+use Rattle.elaborate.specs.code.Proofs.{IsByCover, IsByEntries, IsDerived, CoversAlone, CoversNowhere, IsCoverAlone, IsFromFirst, IsFirstCover, IsLeftLeaf, rule_named}
 use Rattle.clause_proofs.specs.Refuting.{theory_of}
 use Rattle.cover_proofs.proofs.NormLines.{norm_there}
 use Rattle.clause_proofs.proofs.ReadyParents.{of_theory, parent_at, parent_ready}
@@ -122,27 +125,53 @@ module _ (t : Statements) (parents : List Parent) (line : Form) where
   pub derived_is : (r : Option Derived) (rule : Rule) (entries : List Entry) → r ≡ Some (record { rule = rule; entries = entries }) → IsFirst symbol_rules t parents line rule → IsDerivedFrom t (numbers_of parents) entries line → IsDerived t parents line r
   derived_is r rule entries is first derives = subst (IsDerived t parents line) (sym is) (first, derives)
 
-  module _ (limit : ℕ) (found : Option Found) (f : IsFound t parents line found) where
-    pub step_accepted : (x : Found) → AreOfTheory t parents → found ≡ Some x → IsStepAnswer t parents line limit (Accepted x.rule (numbers_of parents) (Lemma x.proof ∷ []))
-    step_accepted x all is =
-        let here : IsFound t parents line (Some x) = subst (IsFound t parents line) is f in
-        inl (first_before t parents line shape_rules symbol_rules x.rule here.0, refl, derived t parents line x.proof all here.1)
+  module _ (limit : ℕ) (shapes : IsNone shape_rules t parents line) (o : Option Derived) (d : IsDerived t parents line o) where
+    pub step_derived : (x : Derived) → o ≡ Some x → IsStepAnswer t parents line limit (Accepted x.rule (numbers_of parents) x.entries)
+    step_derived x is =
+        let here : IsDerived t parents line (Some x) = subst (IsDerived t parents line) is d in
+        inl (first_behind t parents line shape_rules symbol_rules x.rule shapes here.0, refl, here.1)
 
-    none_shapes : found ≡ None → IsNone shape_rules t parents line
-    none_shapes none = subst (IsFound t parents line) none f
+    no_rule : o ≡ None → ByNone t parents line
+    no_rule is = none_of_both t parents line shape_rules symbol_rules shapes (subst (IsDerived t parents line) is d)
 
-    module _ (none : found ≡ None) (o : Option Derived) (d : IsDerived t parents line o) where
-      pub step_derived : (x : Derived) → o ≡ Some x → IsStepAnswer t parents line limit (Accepted x.rule (numbers_of parents) x.entries)
-      step_derived x is =
-          let here : IsDerived t parents line (Some x) = subst (IsDerived t parents line) is d in
-          inl (first_behind t parents line shape_rules symbol_rules x.rule (none_shapes none) here.0, refl, here.1)
+    pub step_searched : o ≡ None → (answer : StepAnswer) → IsSearchAnswer t parents line limit answer → IsStepAnswer t parents line limit answer
+    step_searched is (Accepted rule cites entries) h = inr (no_rule is, h)
+    step_searched is (Unverified reason) h = (no_rule is, h)
 
-      no_rule : o ≡ None → ByNone t parents line
-      no_rule is = none_of_both t parents line shape_rules symbol_rules (none_shapes none) (subst (IsDerived t parents line) is d)
+-- by what `recognise` answers
+module _ (t : Statements) (parents : List Parent) (line : Form) where
+  abbrev Not : Word → Type 0
+  Not rule = Gives t.vocabulary parents line rule → ⊥
 
-      pub step_searched : o ≡ None → (answer : StepAnswer) → IsSearchAnswer t parents line limit answer → IsStepAnswer t parents line limit answer
-      step_searched is (Accepted rule cites entries) h = inr (no_rule is, h)
-      step_searched is (Unverified reason) h = (no_rule is, h)
+  first_shape : (just : Just) → IsFirstShown t.vocabulary parents line (Some just) → IsFirst shape_rules t parents line (rule_named just)
+  first_shape just first = named just (holds_when_shown t.vocabulary parents line just first.0) first.1 where
+    named : (just : Just) → Gives t.vocabulary parents line (rule_of just) → ((rule : Word) → place_of rule < place_of (rule_of just) → Not rule) → IsFirst shape_rules t parents line (rule_named just)
+    named (variant.Norm a) h before = inl (refl, h)
+    named (variant.Cover a path images) h before = inr (before norm (omega arith), inl (refl, h))
+    named variant.Tautology h before = inr (before norm (omega arith), inr (before cover (omega arith), inl (refl, h)))
+    named (variant.Resolution a b i j images) h before = inr (before norm (omega arith), inr (before cover (omega arith), inr (before tautology (omega arith), inl (refl, h))))
+    named (variant.Paramodulation a b i place j flipped images) h before =
+        inr (before norm (omega arith), inr (before cover (omega arith), inr (before tautology (omega arith), inr (before resolution (omega arith), inl (refl, h)))))
+    named (variant.EqFactor a i first_flipped j second_flipped images) h before =
+        inr (before norm (omega arith), inr (before cover (omega arith), inr (before tautology (omega arith), inr (before resolution (omega arith), inr (before paramodulation (omega arith), inl (refl, h))))))
+    named (variant.Rewrite a b target flipped by_images images) h before =
+        inr (before norm (omega arith), inr (before cover (omega arith), inr (before tautology (omega arith), inr (before resolution (omega arith), inr (before paramodulation (omega arith), inr (before eqfactor (omega arith), inl (refl, h)))))))
+
+  pub no_shape : (answer : Option Just) → answer ≡ None → IsFirstShown t.vocabulary parents line answer → IsNone shape_rules t parents line
+  no_shape answer is told =
+      let none : (rule : Word) → Not rule = subst (IsFirstShown t.vocabulary parents line) is told in
+      (none norm, (none cover, (none tautology, (none resolution, (none paramodulation, (none eqfactor, (none rewrite, tt)))))))
+
+  pub shape_accepted : (just : Just) (rule : Rule) (proof : Proof) (entries : List Entry) (answer : StepAnswer) → AreOfTheory t parents → rule ≡ rule_named just → entries ≡ Lemma proof ∷ [] → answer ≡ Accepted rule (numbers_of parents) entries
+      → IsFirstShown t.vocabulary parents line (Some just) → ShowsLine t.vocabulary parents line proof → (limit : ℕ) → IsStepAnswer t parents line limit answer
+  shape_accepted just rule proof entries answer all is made e first shows limit =
+      let whole : answer ≡ Accepted (rule_named just) (numbers_of parents) (Lemma proof ∷ []) =
+      e ∙ ap (λ (r : Rule). Accepted r (numbers_of parents) entries) is ∙ ap (Accepted (rule_named just) (numbers_of parents)) made in
+      subst (IsStepAnswer t parents line limit) (sym whole) (inl (first_before t parents line shape_rules symbol_rules (rule_named just) (first_shape just first), refl, derived t parents line proof all shows))
+
+-- what `cover` gives
+pub cover_given : (w : Vocabulary) (parents : List Parent) (line : Form) (just : Just) → (rule_of just ≡ cover) × Shows w parents line just → Gives w parents line cover
+cover_given w parents line just told = subst (Gives w parents line) told.0 (holds_when_shown w parents line just told.1)
 
 -- of one candidate alone
 alone_is : (c p : Parent) → Some c ≡ Some p → c ≡ p
@@ -191,16 +220,6 @@ leaf_accepted t candidates cited line limit i c p all is first shows at known =
       refl,
       derived t (c ∷ []) line p (All-from_recursion (λ (q : Parent). slice_get t.formulas q.number ≡ Some q.form) (c ∷ []) (known, tt)) (λ formulas one. shows formulas (recursion_from_All (λ (q : Parent). slice_get formulas q.number ≡ Some q.form) (c ∷ []) one).0),
     )
-
-module _ (t : Statements) (w : Vocabulary) (e : w ≡ t.vocabulary) (parents : List Parent) (line : Form) where
-  pub none_of : (rule : Word) (o : Option Proof) → o ≡ None → IsByRule w parents line rule o → Gives t.vocabulary parents line rule → ⊥
-  none_of rule o is h = subst (λ (x : Vocabulary). Gives x parents line rule → ⊥) e (subst (IsByRule w parents line rule) is h)
-
-  pub some_of : (rule : Word) (o : Option Proof) (p : Proof) → o ≡ Some p → IsByRule w parents line rule o → Gives t.vocabulary parents line rule × ShowsLine t.vocabulary parents line p
-  some_of rule o p is h = subst (λ (x : Vocabulary). Gives x parents line rule × ShowsLine x parents line p) e (subst (IsByRule w parents line rule) is h)
-
-  pub found_is : (r : Option Found) (rule : Rule) (p : Proof) → r ≡ Some (record { rule = rule; proof = p }) → IsFirst shape_rules t parents line rule → ShowsLine t.vocabulary parents line p → IsFound t parents line r
-  found_is r rule p is by shows = subst (IsFound t parents line) (sym is) (by, shows)
 
 pub leaf_found : (t : Statements) (w : Vocabulary) (candidates : List Parent) (cited : Bool) (line : Form) (limit : ℕ) (o : Option ℕ) (i : ℕ) (c : Parent) (p : Proof) → AreOfTheory t candidates → w ≡ t.vocabulary → c ≡ get_or candidates i c → o ≡ Some i
     → MatchOption o (IsNormStep candidates line → ⊥) (IsFirstNorm candidates line)
@@ -263,14 +282,14 @@ module _ (w : Vocabulary) (candidates : List Parent) (line : Form) (i : ℕ) whe
       let k = one_taken candidates i lt in
       subst (AreReady w) (sym k.2) (All-from_recursion (λ (q : Parent). IsReady w q.form) (k.0 ∷ []) (parent_ready w candidates i k.0 ready k.1, tt))
 
-  alone_of : (k : Parent) → slice_get candidates i ≡ Some k → (o : Option Proof) → IsByRule w (k ∷ []) line cover o → IsCoverAlone w candidates line i o
+  alone_of : (k : Parent) → slice_get candidates i ≡ Some k → (o : Option Proof) → IsByCover w (k ∷ []) line o → IsCoverAlone w candidates line i o
   alone_of k at None h = λ g. let same : g.0 ≡ k = alone_is g.0 k (sym g.1 ∙ at) in h (subst (λ (q : Parent). Gives w (q ∷ []) line cover) same g.2)
   alone_of k at (Some p) h = (k, at, h.0, h.1)
 
-  pub cover_alone_is : i < length candidates → (one : List Parent) (o : Option Proof) → one ≡ take 1 (drop i candidates) → IsByRule w one line cover o → IsCoverAlone w candidates line i o
+  pub cover_alone_is : i < length candidates → (one : List Parent) (o : Option Proof) → one ≡ take 1 (drop i candidates) → IsByCover w one line o → IsCoverAlone w candidates line i o
   cover_alone_is lt one o is h =
       let k = one_taken candidates i lt in
-      alone_of k.0 k.1 o (subst (λ (ps : List Parent). IsByRule w ps line cover o) (is ∙ k.2) h)
+      alone_of k.0 k.1 o (subst (λ (ps : List Parent). IsByCover w ps line o) (is ∙ k.2) h)
 
   pub not_alone : (o : Option Proof) → o ≡ None → IsCoverAlone w candidates line i o → CoversAlone w candidates line i → ⊥
   not_alone o is h = subst (IsCoverAlone w candidates line i) is h

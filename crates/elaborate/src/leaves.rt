@@ -7,17 +7,17 @@ ghost use Rattle.clause_rules.specs.Steps.{AreReady, IsReady};
 ghost use Rattle.derive_kit.specs.Derived.{AreOfTheory};
 ghost use Rattle.elaborate.specs.Answers.{IsLeafAnswer};
 ghost use Rattle.kernel.specs.Statements.{AreClosed};
-ghost use Rattle.elaborate.specs.code.Proofs.{IsCoverAlone, IsFirstCover, IsLeftLeaf};
+ghost use Rattle.elaborate.specs.code.Proofs.{IsByCover, IsCoverAlone, IsFirstCover, IsLeftLeaf};
 ghost use Rattle.step_clauses.specs.Room.{HasRoom};
 
 use crate::answer::{Reason, Rule, StepAnswer};
 use crate::searching::{by_search, lemma};
 use clause_form::Parent;
-use cover_proofs::{by_cover, normed};
+use cover_proofs::{normed, prove};
 use derive_kit::Part;
 use fof_terms::{Form, Signature};
 use proof_check::Theory;
-use rule_steps::first_norm;
+use rule_steps::{cover_step, first_norm};
 use std::alloc::Global;
 use tptp_base::{List, Memory};
 
@@ -121,6 +121,26 @@ fn cover_alone(
     ensures { IfOk result (IsCoverAlone signature.now candidates.now line.now at) }
 {
     by_cover(alloc, signature, &candidates[at..at + 1], line)
+}
+
+// A proof of the line by `cover` from these candidates; None exactly where it does not give the line.
+fn by_cover(
+    alloc: Global,
+    signature: &Signature,
+    candidates: &[Parent],
+    line: &Form,
+) -> Result<Option<Part>, Memory>
+    requires ready { AreReady signature.now candidates.now }
+    requires line { IsReady signature.now line.now }
+    ensures { IfOk result (IsByCover signature.now candidates.now line.now) }
+{
+    match cover_step(alloc, signature, candidates, line)? {
+        Some(just) => {
+            let proof = prove(alloc, signature, candidates, line, just)?;
+            Ok(Some(proof))
+        }
+        None => Ok(None),
+    }
 }
 
 // The answer to a leaf that no rule gives: from all candidates, where it names given formulas.

@@ -1,24 +1,24 @@
-ghost use Rattle.std.specs.Prelude.{◌≡◌, ◌∷◌, [], Some, length, IfOk};
-ghost use Rattle.kernel.specs.declared.entry.Entry.TheVariants.{Lemma};
+ghost use Rattle.std.specs.Prelude.{◌≡◌, ℕ, Some, length, IfOk};
 ghost use Rattle.elaborate.specs.declared.answer.StepAnswer.TheVariants.{Accepted};
 ghost use Rattle.clause_form.specs.Paths.{forms_of};
+ghost use Rattle.clause_rules.specs.Answers.{IsFirst as IsFirstShown};
 ghost use Rattle.clause_rules.specs.Steps.{AreReady, IsReady};
 ghost use Rattle.derive_kit.specs.Derived.{AreOfTheory, numbers_of};
 ghost use Rattle.elaborate.specs.Answers.{IsStepAnswer};
 ghost use Rattle.kernel.specs.Statements.{AreClosed};
-ghost use Rattle.elaborate.specs.code.Proofs.{IsDerived, IsFound};
+ghost use Rattle.elaborate.specs.code.Proofs.{IsDerived, rule_named};
 ghost use Rattle.step_clauses.specs.Room.{HasRoom};
 
 use crate::answer::{Rule, StepAnswer};
 use crate::naming::{chosen, defined, skolemized, split};
 use crate::searching::{by_search, citing_all, lemma};
 use clause_form::Parent;
-use cover_proofs::{by_cover, by_norm};
-use derive_kit::Part;
+use clause_rules::Just;
+use cover_proofs::prove;
 use fof_terms::Form;
 use kernel::Entry;
 use proof_check::Theory;
-use rule_proofs::{by_eqfactor, by_paramodulation, by_resolution, by_rewrite, by_tautology};
+use rule_steps::recognise;
 use std::alloc::Global;
 use tptp_base::{List, Memory};
 
@@ -45,8 +45,8 @@ pub fn step(
     requires room { HasRoom (length theory.now.vocabulary.symbols) (forms_of parents.now) line.now }
     ensures { IfOk result (IsStepAnswer theory.now parents.now line.now limit) }
 {
-    if let Some(found) = first_proof(alloc, theory, parents, line)? {
-        return accepted(alloc, parents, found);
+    if let Some(just) = recognise(alloc, theory.signature(), parents, line)? {
+        return by_shape(alloc, theory, parents, line, just);
     }
     if let Some(derived) = first_entries(alloc, theory, parents, line)? {
         return by_entries(alloc, parents, derived);
@@ -54,54 +54,40 @@ pub fn step(
     by_search(alloc, theory, parents, line, limit)
 }
 
-/// A rule that gives a line, and a proof of the line by it.
-#[derive(Drop)]
-pub struct Found {
-    pub rule: Rule,
-    pub proof: Part,
-}
-
-// The first of the rules by shape that gives the line, with a proof; None exactly where there is none.
-fn first_proof(
+// The answer that the line is accepted by the rule of the justification, with the lemma of its proof as the only entry,
+// citing all parents.
+fn by_shape(
     alloc: Global,
     theory: &Theory,
     parents: &[Parent],
     line: &Form,
-) -> Result<Option<Found>, Memory>
+    just: Just,
+) -> Result<StepAnswer, Memory>
+    requires parents { AreOfTheory theory.now parents.now }
     requires ready { AreReady theory.now.vocabulary parents.now }
     requires line { IsReady theory.now.vocabulary line.now }
-    ensures { IfOk result (IsFound theory.now parents.now line.now) }
+    requires first { IsFirstShown theory.now.vocabulary parents.now line.now (Some just) }
+    ensures { IfOk result (λ answer. (limit : ℕ) → IsStepAnswer theory.now parents.now line.now limit answer) }
 {
-    let signature = theory.signature();
-    if let Some(proof) = by_norm(alloc, signature, parents, line)? {
-        return Ok(by_rule(Rule::Norm, proof));
-    }
-    if let Some(proof) = by_cover(alloc, signature, parents, line)? {
-        return Ok(by_rule(Rule::Cover, proof));
-    }
-    if let Some(proof) = by_tautology(alloc, signature, parents, line)? {
-        return Ok(by_rule(Rule::Tautology, proof));
-    }
-    if let Some(proof) = by_resolution(alloc, signature, parents, line)? {
-        return Ok(by_rule(Rule::Resolution, proof));
-    }
-    if let Some(proof) = by_paramodulation(alloc, signature, parents, line)? {
-        return Ok(by_rule(Rule::Paramodulation, proof));
-    }
-    if let Some(proof) = by_eqfactor(alloc, signature, parents, line)? {
-        return Ok(by_rule(Rule::EqFactor, proof));
-    }
-    if let Some(proof) = by_rewrite(alloc, signature, parents, line)? {
-        return Ok(by_rule(Rule::Rewrite, proof));
-    }
-    Ok(None)
+    let rule = rule_of(&just);
+    let proof = prove(alloc, theory.signature(), parents, line, just)?;
+    let entries = lemma(alloc, proof)?;
+    citing_all(alloc, parents, rule, entries)
 }
 
-// The rule with its proof.
-fn by_rule(rule: Rule, proof: Part) -> Option<Found>
-    ensures { result ≡ Some (record { rule = rule; proof = proof }) }
+// The rule of the justification.
+fn rule_of(just: &Just) -> Rule
+    ensures { result ≡ rule_named just.now }
 {
-    Some(Found { rule, proof })
+    match just {
+        Just::Norm { .. } => Rule::Norm,
+        Just::Cover { .. } => Rule::Cover,
+        Just::Tautology => Rule::Tautology,
+        Just::Resolution { .. } => Rule::Resolution,
+        Just::Paramodulation { .. } => Rule::Paramodulation,
+        Just::EqFactor { .. } => Rule::EqFactor,
+        Just::Rewrite { .. } => Rule::Rewrite,
+    }
 }
 
 /// A rule that gives a line, and entries that derive the line by it.
@@ -143,15 +129,6 @@ fn derived_by(rule: Rule, entries: List<Entry>) -> Option<Derived>
     ensures { result ≡ Some (record { rule = rule; entries = entries }) }
 {
     Some(Derived { rule, entries })
-}
-
-// The answer that the line is accepted, with the lemma of the proof as its only entry, citing all parents.
-fn accepted(alloc: Global, parents: &[Parent], found: Found) -> Result<StepAnswer, Memory>
-    ensures { IfOk result (λ answer. answer ≡ Accepted found.rule (numbers_of parents.now) (Lemma found.proof ∷ [])) }
-{
-    let Found { rule, proof } = found;
-    let entries = lemma(alloc, proof)?;
-    by_entries(alloc, parents, Derived { rule, entries })
 }
 
 // The answer that the line is accepted, with these entries, citing all parents.

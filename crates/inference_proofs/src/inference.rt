@@ -8,7 +8,8 @@ use crate::covering::by_covering;
 use clause_form::Parent;
 use derive_kit::Part;
 use fof_terms::{Form, Signature};
-use rule_proofs::{by_eqfactor, by_paramodulation, by_resolution};
+use rule_proofs::clause_proof;
+use rule_steps::{eqfactor_step, paramodulation_step, resolution_step};
 use std::alloc::Global;
 use tptp_base::Memory;
 
@@ -28,14 +29,14 @@ pub fn step_proof(
     requires step { IsRuleStep signature.now parents.now line.now }
     ensures { IfOk result (ShowsLine signature.now parents.now line.now) }
 {
-    if let Some(proof) = by_resolution(alloc, signature, parents, line)? {
-        return Ok(proof);
+    if let Some(just) = resolution_step(alloc, signature, parents, line)? {
+        return clause_proof(alloc, signature, parents, line, just);
     }
-    if let Some(proof) = by_paramodulation(alloc, signature, parents, line)? {
-        return Ok(proof);
+    if let Some(just) = paramodulation_step(alloc, signature, parents, line)? {
+        return clause_proof(alloc, signature, parents, line, just);
     }
-    if let Some(proof) = by_eqfactor(alloc, signature, parents, line)? {
-        return Ok(proof);
+    if let Some(just) = eqfactor_step(alloc, signature, parents, line)? {
+        return clause_proof(alloc, signature, parents, line, just);
     }
     match by_covering(alloc, signature, parents, line)? {
         Some(proof) => Ok(proof),

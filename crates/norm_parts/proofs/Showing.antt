@@ -1,9 +1,7 @@
 -- Proofs of the parts, as code makes them.
-use Rattle.std.specs.Prelude.{ℕ, ◌≡◌, ◌+◌, ◌<◌, ◌≤◌, true, List, [], ◌∷◌, ◌++◌, length, take, drop, get_or, Option, Some, None, slice_get, refl}
+use Rattle.std.specs.Prelude.{ℕ, ◌≡◌, ◌+◌, ◌<◌, ◌≤◌, true, List, [], ◌∷◌, ◌++◌, length, take, get_or, Some, slice_get, refl}
 use Rattle.std.proofs.Common.{ap, sym, subst, ◌∙◌, ◌⊎◌, inl, inr, arith, zero, suc}
 use Rattle.std.proofs.lemmas.List.{take_all, take_more}
-use Rattle.std.proofs.lemmas.List.Elements.{All-from_recursion}
-use Rattle.std.proofs.lemmas.Option.{slice_get_within}
 use Rattle.fof_terms.specs.Vocabulary.{Vocabulary}
 use Rattle.fof_terms.specs.Sorts.{Sorted}
 use Rattle.fof_terms.specs.declared.form.Form.{Form}
@@ -17,17 +15,13 @@ use Rattle.kernel.specs.declared.proof.Proof.{Proof}
 use Rattle.derive_kit.specs.Derived.{AreOfTheory}
 use Rattle.clause_proofs.specs.Refuting.{theory_of}
 use Rattle.clause_proofs.specs.Shown.{ShowsLine}
-use Rattle.clause_proofs.proofs.ReadyParents.{full, of_theory}
+use Rattle.clause_proofs.proofs.ReadyParents.{full}
 use Rattle.clause_rules.specs.declared.just.Just.{Just}
 use Rattle.clause_rules.specs.declared.just.Just.TheVariants.{Norm, Cover, Tautology, Resolution, Paramodulation, EqFactor, Rewrite}
 use Rattle.clause_rules.specs.Answers.{ShapeRule, norm, cover, tautology, resolution, paramodulation, eqfactor, rewrite}
-use Rattle.clause_rules.specs.CoverRule.{IsCoverStep}
-use Rattle.clause_rules.specs.Justified.{Shows}
-use Rattle.clause_rules.specs.Steps.{IsReady, images_of_parents}
+use Rattle.clause_rules.specs.Steps.{IsReady}
 use Rattle.clause_rules.specs.TautologyRule.{IsTautologyStep}
-use Rattle.clause_rules.proofs.Firsts.{there_at, one_at}
-use Rattle.clause_form.specs.Covers.{scope_of}
-use Rattle.rule_proofs.specs.ByRule.{IsByRule}
+use Rattle.clause_rules.proofs.Firsts.{there_at}
 use Rattle.norm_parts.specs.ByParts.{IsShownPart, AreShownParts}
 use Rattle.norm_parts.specs.Parts.{parts_of}
 use Rattle.norm_parts.specs.Shown.{ShowEach}
@@ -105,61 +99,3 @@ module _ (w : Vocabulary) (parents : List Parent) where
   is_tautology part (Paramodulation a b i place j flipped images) h other = absurd (neither_rule paramodulation (λ e. let never : paramodulation ≡ tautology = e in cc) (λ e. let never : paramodulation ≡ cover = e in cc) h.1)
   is_tautology part (EqFactor a i f j g images) h other = absurd (neither_rule eqfactor (λ e. let never : eqfactor ≡ tautology = e in cc) (λ e. let never : eqfactor ≡ cover = e in cc) h.1)
   is_tautology part (Rewrite a b target flipped by_images images) h other = absurd (neither_rule rewrite (λ e. let never : rewrite ≡ tautology = e in cc) (λ e. let never : rewrite ≡ cover = e in cc) h.1)
-
-  pub parent_within : (part : Form) (a : ℕ) (path : Path) (images : List Term) → Shows w parents part (Cover a path images) → a < length parents
-  parent_within part a path images h = slice_get_within parents a h.3.reaches.parent h.3.reaches.there
-
-  one_there : (xs : List Parent) (a : ℕ) (r : Parent) → slice_get xs a ≡ Some r → take 1 (drop a xs) ≡ r ∷ []
-  one_there [] a r e = cc
-  one_there (x ∷ xs) zero r e = let same : x ≡ r = cc in ap (λ (y : Parent). y ∷ []) same
-  one_there (x ∷ xs) (suc a) r e = one_there xs a r e
-
-  pub parent_there : (part : Form) (a : ℕ) (path : Path) (images : List Term) → Shows w parents part (Cover a path images) → (r : Parent) × (slice_get parents a ≡ Some r)
-  parent_there part a path images h = (h.3.reaches.parent, h.3.reaches.there)
-
-  -- a list of this parent alone
-  module _ (a : ℕ) (lent : List Parent) (r : Parent) (there : slice_get parents a ≡ Some r) (alone : lent ≡ r ∷ []) where
-    alone_in : (t : Statements) → AreOfTheory t parents → AreOfTheory t lent
-    alone_in t all = subst (AreOfTheory t) (sym alone) (All-from_recursion (λ (p : Parent). slice_get t.formulas p.number ≡ Some p.form) (r ∷ []) (of_theory t parents a r all there, tt))
-
-    pub alone_shows : (part : Form) (p : Proof) → ShowsLine w lent part p → ShowsLine w parents part p
-    alone_shows part p h = λ formulas all. h formulas (alone_in (theory_of w formulas) all)
-
-    pub alone_covers : (part : Form) (path : Path) (images : List Term) → Shows w parents part (Cover a path images) → IsCoverStep w lent part
-    alone_covers part path images (c, e, joint, at) =
-        let same : r ≡ at.reaches.parent = one_at parents a r at.reaches.parent there at.reaches.there in (
-          0,
-          path,
-          c,
-          e,
-          scope_of c,
-          images_of_parents e images,
-          record {
-            reaches = record { parent = r; there = ap (λ (xs : List Parent). slice_get xs 0) alone; small = rw same at.reaches.small; clause = rw same at.reaches.clause };
-            line_clause = at.line_clause;
-            covers = at.covers;
-          },
-        )
-
-  -- the part by the parent of that number alone
-  pub covered_alone : (part : Form) (a : ℕ) (path : Path) (images : List Term) (lent : List Parent) (found : Option Proof) (p : Proof) → lent ≡ take 1 (drop a parents) → Shows w parents part (Cover a path images) → found ≡ Some p → IsByRule w lent part cover found
-      → ShowsLine w parents part p
-  covered_alone part a path images lent None p is h e by = cc
-  covered_alone part a path images lent (Some q) p is h e by =
-      let there = parent_there part a path images h in
-      let same : q ≡ p = cc in
-      subst (ShowsLine w parents part) same (alone_shows a lent there.0 there.1 (is ∙ one_there parents a there.0 there.1) part q by.1)
-
-  pub never_alone : (part : Form) (a : ℕ) (path : Path) (images : List Term) (lent : List Parent) (found : Option Proof) → lent ≡ take 1 (drop a parents) → Shows w parents part (Cover a path images) → found ≡ None → IsByRule w lent part cover found → ⊥
-  never_alone part a path images lent (Some q) is h e by = cc
-  never_alone part a path images lent None is h e none =
-      let there = parent_there part a path images h in
-      none (alone_covers a lent there.0 there.1 (is ∙ one_there parents a there.0 there.1) part path images h)
-
-  pub trivial_shown : (part : Form) (found : Option Proof) (p : Proof) → found ≡ Some p → IsByRule w parents part tautology found → ShowsLine w parents part p
-  trivial_shown part None p e by = cc
-  trivial_shown part (Some q) p e by = let same : q ≡ p = cc in subst (ShowsLine w parents part) same by.1
-
-  pub never_trivial : (part : Form) (found : Option Proof) → IsTautologyStep part → found ≡ None → IsByRule w parents part tautology found → ⊥
-  never_trivial part (Some q) is e by = cc
-  never_trivial part None is e none = none is

@@ -1,10 +1,7 @@
 //! Proofs of lines that follow part by part.
-ghost use Rattle.std.specs.Prelude.{◌≡◌, ◌<◌, length, IfOk, Some};
+ghost use Rattle.std.specs.Prelude.{◌≡◌, length, IfOk, Some};
 ghost use Rattle.clause_proofs.specs.Shown.{ShowsLine};
-ghost use Rattle.clause_rules.specs.Justified.{Shows};
 ghost use Rattle.clause_rules.specs.Steps.{AreReady, IsReady};
-ghost use Rattle.clause_rules.specs.TautologyRule.{IsTautologyStep};
-ghost use Rattle.clause_rules.specs.declared.just.Just.TheVariants.{Cover as ByCover};
 ghost use Rattle.norm_parts.specs.ByParts.{AreShownParts, IsByParts, IsShownPart};
 ghost use Rattle.norm_parts.specs.Shown.{IsLineByParts};
 ghost use Rattle.norm_parts.specs.code.Known.{EachReady, ShowLines};
@@ -13,16 +10,15 @@ use crate::deciding::by_parts;
 use crate::joining::{line_of_norm, line_of_parts, small_norm};
 use crate::splitting::parts;
 use crate::together::at_once;
-use clause_form::{Parent, Path};
+use clause_form::Parent;
 use clause_rules::Just;
-use cover_proofs::by_cover;
+use cover_proofs::covered;
 use derive_kit::Part;
 use fof_terms::{Form, Signature};
 use kernel::Proof;
-use rule_proofs::by_tautology;
+use rule_proofs::trivial;
 use std::alloc::Global;
 use tptp_base::{Boxed, List, Memory};
-use unify_terms::Subst;
 
 /// A proof of the line from its parents, part by part; None exactly where it does not follow so.
 pub fn line_by_parts(
@@ -108,45 +104,6 @@ fn part_proved(
             path,
             subst,
         } => covered(alloc, signature, parents, part, *parent, path, subst),
-        _ => trivial(alloc, signature, parents, part),
-    }
-}
-
-// A proof of the part by the parent of that number in the list, which gives it by the rule `cover`.
-fn covered(
-    alloc: Global,
-    signature: &Signature,
-    parents: &[Parent],
-    part: &Form,
-    parent: usize,
-    path: &Path,
-    subst: &Subst,
-) -> Result<Part, Memory>
-    requires at { parent < length parents.now }
-    requires parents { AreReady signature.now parents.now }
-    requires part { IsReady signature.now part.now }
-    requires shown { Shows signature.now parents.now part.now (ByCover parent path.now subst.now) }
-    ensures { IfOk result (ShowsLine signature.now parents.now part.now) }
-{
-    match by_cover(alloc, signature, &parents[parent..parent + 1], part)? {
-        Some(proof) => Ok(proof),
-        None => unreachable!(),
-    }
-}
-
-// A proof of the part, which is true by its form.
-fn trivial(
-    alloc: Global,
-    signature: &Signature,
-    parents: &[Parent],
-    part: &Form,
-) -> Result<Part, Memory>
-    requires ready { IsReady signature.now part.now }
-    requires trivial { IsTautologyStep part.now }
-    ensures { IfOk result (ShowsLine signature.now parents.now part.now) }
-{
-    match by_tautology(alloc, signature, parents, part)? {
-        Some(proof) => Ok(proof),
-        None => unreachable!(),
+        _ => trivial(alloc, signature, part),
     }
 }

@@ -5,10 +5,11 @@ ghost use Rattle.fof_terms.specs.Sorts.{SortedTo};
 ghost use Rattle.fof_terms.specs.declared.form.Form.{Form as Formula};
 ghost use Rattle.clause_form.specs.declared.path.Parent.{Parent as Stated};
 ghost use Rattle.kernel.specs.Proves.{Proves};
-ghost use Rattle.clause_rules.specs.Answers.{cover, norm, resolution};
+ghost use Rattle.clause_rules.specs.Justified.{Shows};
 ghost use Rattle.clause_rules.specs.Steps.{AreReady, IsReady};
 ghost use Rattle.clause_proofs.specs.Refuting.{theory_of};
-ghost use Rattle.rule_proofs.specs.ByRule.{AreAlike, IsByRule};
+ghost use Rattle.clause_proofs.specs.Shown.{ShowsLine};
+ghost use Rattle.rule_proofs.specs.ByRule.{AreAlike};
 ghost use Rattle.derive_kit.specs.Derived.{AreOfTheory, IsDerivedFrom, numbers_of};
 ghost use Rattle.skolem_fresh.specs.Justified.{ShowsSkolem};
 ghost use Rattle.clause_form.specs.Paths.{forms_of};
@@ -16,12 +17,12 @@ ghost use Rattle.skolem_proofs.specs.Choosing.{ChooseAndEnd};
 
 use crate::{Control, Probe};
 use clause_form::Parent;
-use cover_proofs::{by_cover, by_norm, normed};
+use clause_rules::Just;
+use cover_proofs::{normed, prove};
 use derive_kit::Part;
 use fof_terms::{Form, Signature};
 use kernel::Entry;
 use proof_check::Theory;
-use rule_proofs::by_resolution;
 use skolem_fresh::SkolemJust;
 use skolem_proofs::skolem_entries;
 use std::alloc::Global;
@@ -29,38 +30,18 @@ use tptp_base::{List, Memory};
 
 /// Proves lines.
 pub trait Proving {
-    /// A proof of the line by the rule `norm`; None exactly where the rule doesn't give it.
-    fn by_norm(
+    /// A proof of the line from its parents, by the justification that shows a rule to give it.
+    fn prove(
         alloc: Global,
         signature: &Signature,
         parents: &[Parent],
         line: &Form,
-    ) -> Result<Option<Part>, Memory>
+        just: Just,
+    ) -> Result<Part, Memory>
         requires ready { AreReady signature.now parents.now }
         requires line { IsReady signature.now line.now }
-        ensures { IfOk result (IsByRule signature.now parents.now line.now norm) };
-
-    /// The same by the rule `cover`.
-    fn by_cover(
-        alloc: Global,
-        signature: &Signature,
-        parents: &[Parent],
-        line: &Form,
-    ) -> Result<Option<Part>, Memory>
-        requires ready { AreReady signature.now parents.now }
-        requires line { IsReady signature.now line.now }
-        ensures { IfOk result (IsByRule signature.now parents.now line.now cover) };
-
-    /// The same by the rule `resolution`.
-    fn by_resolution(
-        alloc: Global,
-        signature: &Signature,
-        parents: &[Parent],
-        line: &Form,
-    ) -> Result<Option<Part>, Memory>
-        requires ready { AreReady signature.now parents.now }
-        requires line { IsReady signature.now line.now }
-        ensures { IfOk result (IsByRule signature.now parents.now line.now resolution) };
+        requires shown { Shows signature.now parents.now line.now just }
+        ensures { IfOk result (ShowsLine signature.now parents.now line.now) };
 
     /// A proof of the line, by a parent that has the line's flat form.
     fn normed(
@@ -93,31 +74,14 @@ pub trait Proving {
 }
 
 impl Proving for Probe {
-    fn by_norm(
+    fn prove(
         alloc: Global,
         signature: &Signature,
         parents: &[Parent],
         line: &Form,
-    ) -> Result<Option<Part>, Memory> {
-        by_norm(alloc, signature, parents, line)
-    }
-
-    fn by_cover(
-        alloc: Global,
-        signature: &Signature,
-        parents: &[Parent],
-        line: &Form,
-    ) -> Result<Option<Part>, Memory> {
-        by_cover(alloc, signature, parents, line)
-    }
-
-    fn by_resolution(
-        alloc: Global,
-        signature: &Signature,
-        parents: &[Parent],
-        line: &Form,
-    ) -> Result<Option<Part>, Memory> {
-        by_resolution(alloc, signature, parents, line)
+        just: Just,
+    ) -> Result<Part, Memory> {
+        prove(alloc, signature, parents, line, just)
     }
 
     fn normed(
@@ -141,40 +105,15 @@ impl Proving for Probe {
 }
 
 impl Proving for Control {
-    fn by_norm(
+    fn prove(
         alloc: Global,
         signature: &Signature,
         parents: &[Parent],
         line: &Form,
-    ) -> Result<Option<Part>, Memory> {
-        match by_norm(alloc, signature, parents, line)? {
-            Some(proof) => Ok(Some(proof)),
-            None => Ok(None),
-        }
-    }
-
-    fn by_cover(
-        alloc: Global,
-        signature: &Signature,
-        parents: &[Parent],
-        line: &Form,
-    ) -> Result<Option<Part>, Memory> {
-        match by_cover(alloc, signature, parents, line)? {
-            Some(proof) => Ok(Some(proof)),
-            None => Ok(None),
-        }
-    }
-
-    fn by_resolution(
-        alloc: Global,
-        signature: &Signature,
-        parents: &[Parent],
-        line: &Form,
-    ) -> Result<Option<Part>, Memory> {
-        match by_resolution(alloc, signature, parents, line)? {
-            Some(proof) => Ok(Some(proof)),
-            None => Ok(None),
-        }
+        just: Just,
+    ) -> Result<Part, Memory> {
+        let proof = prove(alloc, signature, parents, line, just)?;
+        Ok(proof)
     }
 
     fn normed(

@@ -1,6 +1,5 @@
 -- Lines that cover a clause in which an equation, which is matched first, has rewritten a term.
-use Rattle.std.specs.Prelude.{ℕ, ◌≡◌, ◌+◌, ◌<◌, ◌≤◌, Bool, List, [], ◌∷◌, ◌++◌, length, map, take, drop, reverse, slice_get, Option, Some, None, true, false, refl}
-use Rattle.std.specs.Option.{option_map}
+use Rattle.std.specs.Prelude.{ℕ, ◌≡◌, ◌+◌, ◌<◌, ◌≤◌, Bool, List, [], ◌∷◌, ◌++◌, length, map, take, drop, reverse, slice_get, Some, true, false, refl}
 use Rattle.std.proofs.Common.{ap, sym, subst, ◌∙◌, arith, append-nil, length-append}
 use Rattle.std.proofs.lemmas.List.{length-map, length-reverse}
 use Rattle.std.proofs.lemmas.Option.{slice_get_within, slice_get-map}
@@ -8,20 +7,17 @@ use Rattle.fof_terms.specs.declared.term.Term.{Term, Var}
 use Rattle.fof_terms.specs.declared.form.Form.{Form}
 use Rattle.fof_terms.specs.Vocabulary.{Vocabulary}
 use Rattle.fof_terms.proofs.Moved.{closed_anywhere}
-use Rattle.fof_terms.specs.Sorts.{IsScope, sort_of_term, one_sort}
+use Rattle.fof_terms.specs.Sorts.{IsScope, sort_of_term}
 use Rattle.fof_terms.proofs.LiftingLaws.{one_found}
-use Rattle.clause_form.specs.declared.clause.AtomOf.TheVariants.{Eq as Equation}
 use Rattle.clause_form.specs.declared.clause.Lit.{Lit}
 use Rattle.clause_form.specs.declared.clause.Clause.{Clause}
-use Rattle.clause_form.specs.Covers.{in_lit, lit_image, scope_of, is_sorted_atom, AreSorted, IsCovered}
+use Rattle.clause_form.specs.Covers.{lit_image, scope_of, is_sorted_atom, AreSorted, IsCovered}
 use Rattle.clause_form.specs.Images.{image, IsImages}
 use Rattle.clause_form.proofs.ImagesFacts.{image_image, image_sorted, image_agrees, AgreeOn}
 use Rattle.clause_form.proofs.ClauseLaws.{images_then, lits_sorted}
-use Rattle.unify_terms.specs.Substitution.{image_at, IsSubstitution}
-use Rattle.clause_form.specs.declared.path.Parent.{Parent}
-use Rattle.clause_rules.specs.Justified.{IsMatch, Shows}
-use Rattle.clause_rules.specs.declared.just.Just.TheVariants.{Rewrite}
-use Rattle.clause_rules.specs.RewriteRule.{AreLitsRewritten, IsRewriteStep, Rewrites, StandsIn}
+use Rattle.unify_terms.specs.Substitution.{image_at}
+use Rattle.clause_rules.specs.Justified.{IsMatch}
+use Rattle.clause_rules.specs.RewriteRule.{AreLitsRewritten, Rewrites}
 use Rattle.clause_rules.specs.Steps.{AreCovered, IsJoint, equation, images_of_parents, scope_of_both}
 use Rattle.clause_rules.proofs.Equations.{equation_image}
 use Rattle.rule_steps.proofs.ParamodulatedAt.{sorted_at}
@@ -30,7 +26,7 @@ use Rattle.clause_proofs.specs.declared.premises.Premise.{Premise}
 use Rattle.clause_proofs.specs.code.Bodies.{IsReadyClause}
 use Rattle.clause_proofs.specs.Premises.{IsSource, IsPremiseOf}
 use Rattle.clause_proofs.specs.Refuting.{ShowsBody}
-use Rattle.rule_proofs.specs.code.Rewriting.{AreInstances, IsMarked, IsRewriting, chained_images, filled}
+use Rattle.rule_proofs.specs.code.Rewriting.{AreInstances, IsRewriting, chained_images}
 use Rattle.clause_proofs.proofs.CoveredPremises.{image_there}
 use Rattle.rule_proofs.proofs.Fillings.{map_at}
 use Rattle.rule_proofs.proofs.Joints.{left_instances, left_source}
@@ -263,6 +259,3 @@ rewrites_here w matching images c d e x y z target flipped f g h r =
     subst (λ (k : Clause). Rewrites w x y k target flipped (scope_of y) (images_of_parents x matching) (scope_of_both x y) (images_of_parents k images)) (sym h)
     (subst (λ (k : Clause). Rewrites w k y e target flipped (scope_of y) (images_of_parents k matching) (scope_of_both k y) (images_of_parents e images)) (sym f)
     (subst (λ (k : Clause). Rewrites w c k e target flipped (scope_of k) (images_of_parents c matching) (scope_of_both c k) (images_of_parents e images)) (sym g) r))
-
-pub rewrite_holds : (w : Vocabulary) (parents : List Parent) (line : Form) (a b : ℕ) (target : Term) (flipped : Bool) (matching images : List Term) → Shows w parents line (Rewrite a b target flipped matching images) → IsRewriteStep w parents line
-rewrite_holds w parents line a b target flipped matching images (c, d, e, matched, joint, at) = (a, b, target, flipped, c, d, e, scope_of d, images_of_parents c matching, scope_of_both c d, images_of_parents e images, at)

@@ -17,15 +17,12 @@ use Rattle.clause_form.specs.declared.clause.Lit.{Lit}
 use Rattle.clause_form.specs.declared.clause.Clause.{Clause}
 use Rattle.clause_form.specs.ClauseView.{form_of_lit}
 use Rattle.clause_form.specs.Covers.{negated, scope_of}
-use Rattle.clause_rules.specs.EqFactorRule.{IsFactored, Factors, IsEqFactorStep}
+use Rattle.clause_rules.specs.EqFactorRule.{IsFactored, Factors}
 use Rattle.clause_rules.specs.Steps.{IsJoint, images_of_parents, equation, unequal}
 use Rattle.kernel.specs.Statements.{Statements}
 use Rattle.kernel.specs.Proves.{Proves}
 use Rattle.kernel.proofs.Building.{by_hyp, by_subst}
 use Rattle.kernel.specs.declared.proof.Proof.{Proof, Hyp, Subst}
-use Rattle.clause_form.specs.declared.path.Parent.{Parent}
-use Rattle.clause_rules.specs.Justified.{Shows}
-use Rattle.clause_rules.specs.declared.just.Just.TheVariants.{EqFactor}
 use Rattle.clause_proofs.specs.declared.opening.Opened.{Opened}
 use Rattle.clause_proofs.specs.declared.premises.Premise.{Premise}
 use Rattle.clause_proofs.specs.code.Bodies.{IsReadyClause}
@@ -212,6 +209,3 @@ pub factors_here : (w : Vocabulary) (images : List Term) (c e x z : Clause) (i :
     → Factors w x z i p j q (scope_of x) (images_of_parents z images)
 factors_here w images c e x z i p j q f h r =
     subst (λ (k : Clause). Factors w x k i p j q (scope_of x) (images_of_parents k images)) (sym h) (subst (λ (k : Clause). Factors w k e i p j q (scope_of k) (images_of_parents e images)) (sym f) r)
-
-pub eqfactor_holds : (w : Vocabulary) (parents : List Parent) (line : Form) (a i : ℕ) (p : Bool) (j : ℕ) (q : Bool) (images : List Term) → Shows w parents line (EqFactor a i p j q images) → IsEqFactorStep w parents line
-eqfactor_holds w parents line a i p j q images (c, e, joint, at) = (a, i, p, j, q, c, e, scope_of c, images_of_parents e images, at)

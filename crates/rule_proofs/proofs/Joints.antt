@@ -1,5 +1,5 @@
 -- The instances of two clauses under a joint substitution.
-use Rattle.std.specs.Prelude.{ℕ, ◌≡◌, ◌+◌, Bool, List, [], ◌∷◌, ◌++◌, length, map, take, drop, reverse, slice_get, Option, Some, refl}
+use Rattle.std.specs.Prelude.{ℕ, ◌≡◌, ◌+◌, Bool, List, [], ◌∷◌, ◌++◌, length, map, take, drop, reverse, slice_get, Some, refl}
 use Rattle.std.proofs.Common.{zero, suc, get_or, ap, sym, subst, ◌∙◌, arith, append-nil, append_assoc, length-append}
 use Rattle.std.proofs.lemmas.List.{length-reverse}
 use Rattle.fof_terms.specs.declared.term.Term.{Term}
@@ -11,14 +11,10 @@ use Rattle.clause_form.specs.declared.clause.Clause.{Clause}
 use Rattle.clause_form.specs.Covers.{lit_image, scope_of, AreSorted}
 use Rattle.unify_terms.specs.Substitution.{image_at}
 use Rattle.clause_rules.specs.Steps.{AreReady, IsClauseAt, IsJoint, images_of_parents, instances, apart_from, scope_of_both}
-use Rattle.clause_rules.specs.Justified.{Shows}
-use Rattle.clause_rules.specs.Answers.{ShapeRule as Word, IsAnswer}
-use Rattle.clause_rules.specs.declared.just.Just.{Just}
-use Rattle.clause_rules.specs.declared.just.Just.TheVariants.{Resolution, Paramodulation}
 use Rattle.clause_form.specs.declared.path.Parent.{Parent}
 use Rattle.clause_form.specs.ClauseView.{clause_of}
-use Rattle.clause_rules.specs.ResolutionRule.{IsResolvent, ResolvesTo, IsResolutionStep}
-use Rattle.clause_rules.specs.ParamodulationRule.{IsParamodulant, Paramodulates, IsParamodulationStep}
+use Rattle.clause_rules.specs.ResolutionRule.{IsResolvent, ResolvesTo}
+use Rattle.clause_rules.specs.ParamodulationRule.{IsParamodulant, Paramodulates}
 use Rattle.clause_proofs.specs.declared.opening.Opened.{Opened}
 use Rattle.clause_proofs.specs.declared.premises.Premise.{Premise}
 use Rattle.clause_proofs.specs.Bodies.{IsOpening}
@@ -165,17 +161,8 @@ resolves_here w images c d e x y z i j f g h r =
     subst (λ (k : Clause). ResolvesTo w x y k i j (scope_of_both x y) (images_of_parents k images)) (sym h)
     (subst (λ (k : Clause). ResolvesTo w k y e i j (scope_of_both k y) (images_of_parents e images)) (sym f) (subst (λ (k : Clause). ResolvesTo w c k e i j (scope_of_both c k) (images_of_parents e images)) (sym g) r))
 
-pub resolution_holds : (w : Vocabulary) (parents : List Parent) (line : Form) (a b i j : ℕ) (images : List Term) → Shows w parents line (Resolution a b i j images) → IsResolutionStep w parents line
-resolution_holds w parents line a b i j images (c, d, e, joint, at) = (a, b, i, j, c, d, e, scope_of_both c d, images_of_parents e images, at)
-
-pub answer_shows : (w : Vocabulary) (parents : List Parent) (line : Form) (rule : Word) (answer : Option Just) (just : Just) → answer ≡ Some just → IsAnswer w parents line rule answer → Shows w parents line just
-answer_shows w parents line rule answer just is a = (subst (IsAnswer w parents line rule) is a).1
-
 pub paramodulates_here : (w : Vocabulary) (images : List Term) (c d e x y z : Clause) (i : ℕ) (place : List ℕ) (j : ℕ) (flipped : Bool) → x ≡ c → y ≡ d → z ≡ e → Paramodulates w c d e i place j flipped (scope_of_both c d) (images_of_parents e images)
     → Paramodulates w x y z i place j flipped (scope_of_both x y) (images_of_parents z images)
 paramodulates_here w images c d e x y z i place j flipped f g h r =
     subst (λ (k : Clause). Paramodulates w x y k i place j flipped (scope_of_both x y) (images_of_parents k images)) (sym h)
     (subst (λ (k : Clause). Paramodulates w k y e i place j flipped (scope_of_both k y) (images_of_parents e images)) (sym f) (subst (λ (k : Clause). Paramodulates w c k e i place j flipped (scope_of_both c k) (images_of_parents e images)) (sym g) r))
-
-pub paramodulation_holds : (w : Vocabulary) (parents : List Parent) (line : Form) (a b i : ℕ) (place : List ℕ) (j : ℕ) (flipped : Bool) (images : List Term) → Shows w parents line (Paramodulation a b i place j flipped images) → IsParamodulationStep w parents line
-paramodulation_holds w parents line a b i place j flipped images (c, d, e, joint, at) = (a, b, i, place, j, flipped, c, d, e, scope_of_both c d, images_of_parents e images, at)

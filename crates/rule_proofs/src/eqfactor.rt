@@ -11,10 +11,8 @@ ghost use Rattle.clause_rules.specs.Justified.{Shows};
 ghost use Rattle.clause_rules.specs.Steps.{AreReady, IsJoint, IsReady, equation, images_of_parents, unequal};
 ghost use Rattle.clause_rules.specs.declared.just.Just.TheVariants.{EqFactor as ByEqFactor};
 ghost use Rattle.kernel.specs.Proves.{Proves};
-ghost use Rattle.clause_rules.specs.Answers.{eqfactor as eqfactor_rule};
 ghost use Rattle.clause_proofs.specs.code.Bodies.{IsReadyClause};
 ghost use Rattle.rule_proofs.specs.code.Factoring.{IsChained, IsFactoring, IsWritten, pick};
-ghost use Rattle.rule_proofs.specs.ByRule.{IsByRule};
 ghost use Rattle.clause_proofs.specs.Shown.{ShowsLine};
 ghost use Rattle.clause_proofs.specs.Refuting.{IsGoal, RefutesBody, RefutesIn, ShowsBody, body, theory_of};
 ghost use Rattle.clause_proofs.specs.code.Refuting.{ShowsFrom};
@@ -25,61 +23,23 @@ use clause_proofs::{
     Opened, Premise, by_pivot, closed, contrary, denial, few_variables_of, instance_by,
     known_clause, known_sort, some_images, turned,
 };
-use clause_rules::Just;
 use derive_kit::{Part, cut_under, hyp, subst};
 use fof_terms::{Form, Scope, Signature, Term, lift_term};
-use rule_steps::eqfactor_step;
 use std::alloc::Global;
 use tptp_base::Memory;
 use unify_terms::Subst;
 
 /// Which equations of a clause are factored, and which of them are read from right to left.
 #[derive(Clone, Copy)]
-struct Factor {
-    first: usize,
-    first_flipped: bool,
-    second: usize,
-    second_flipped: bool,
+pub struct Factor {
+    pub first: usize,
+    pub first_flipped: bool,
+    pub second: usize,
+    pub second_flipped: bool,
 }
 
-/// A proof of the line by the rule `eqfactor`; None exactly where the rule doesn't give it.
-pub fn by_eqfactor(
-    alloc: Global,
-    signature: &Signature,
-    parents: &[Parent],
-    line: &Form,
-) -> Result<Option<Part>, Memory>
-    requires ready { AreReady signature.now parents.now }
-    requires line { IsReady signature.now line.now }
-    ensures { IfOk result (IsByRule signature.now parents.now line.now eqfactor_rule) }
-{
-    match eqfactor_step(alloc, signature, parents, line)? {
-        Some(
-            Just::EqFactor {
-                parent,
-                first,
-                first_flipped,
-                second,
-                second_flipped,
-                subst,
-            },
-        ) => {
-            let factor = Factor {
-                first,
-                first_flipped,
-                second,
-                second_flipped,
-            };
-            let proof = factored(alloc, signature, parents, line, parent, factor, &subst)?;
-            Ok(Some(proof))
-        }
-        Some(_) => unreachable!(),
-        None => Ok(None),
-    }
-}
-
-// A proof of the line by the parent of that number in the list, whose instance under the substitution it factors.
-fn factored(
+/// A proof of the line by the parent of that number in the list, whose instance under the substitution it factors.
+pub fn factored(
     alloc: Global,
     signature: &Signature,
     parents: &[Parent],

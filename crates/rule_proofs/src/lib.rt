@@ -1,16 +1,14 @@
-//! Proofs of lines: for each of the rules that are recognised by the shape of clauses, a proof of the line from its
-//! parents.
+//! Proofs of lines: by what shows that a rule gives a line from its parents, a proof of the line from them. The rules are
+//! those that go by the shape of clauses.
 #![tactic(auto)]
 
 mod eqfactor;
 mod paramodulation;
+mod proving;
 mod resolution;
 mod rewrite;
 mod rewriting;
 mod tautology;
 
-pub use eqfactor::by_eqfactor;
-pub use paramodulation::by_paramodulation;
-pub use resolution::by_resolution;
-pub use rewrite::by_rewrite;
-pub use tautology::by_tautology;
+pub use proving::clause_proof;
+pub use tautology::trivial;

@@ -5,7 +5,6 @@ ghost use Rattle.fof_terms.specs.declared.term.Term.{Var};
 ghost use Rattle.fof_terms.specs.Scope.{scope_sorts};
 ghost use Rattle.clause_form.specs.declared.clause.Lit.{Lit as Literal};
 ghost use Rattle.clause_form.specs.Covers.{AreSorted};
-ghost use Rattle.clause_rules.specs.Answers.{paramodulation as paramodulation_rule};
 ghost use Rattle.clause_rules.specs.Justified.{Shows};
 ghost use Rattle.clause_rules.specs.ParamodulationRule.{HasPlace, IsParamodulant, Paramodulates};
 ghost use Rattle.clause_rules.specs.Places.{lit_put_at};
@@ -13,7 +12,6 @@ ghost use Rattle.clause_rules.specs.Steps.{AreReady, IsJoint, IsReady, images_of
 ghost use Rattle.clause_rules.specs.declared.just.Just.TheVariants.{Paramodulation as ByParamodulation};
 ghost use Rattle.kernel.specs.Proves.{Proves};
 ghost use Rattle.clause_proofs.specs.code.Bodies.{IsReadyClause};
-ghost use Rattle.rule_proofs.specs.ByRule.{IsByRule};
 ghost use Rattle.clause_proofs.specs.Shown.{ShowsLine};
 ghost use Rattle.clause_proofs.specs.Refuting.{IsGoal, RefutesBody, ShowsBody, body, theory_of};
 ghost use Rattle.rule_proofs.specs.code.Rewriting.{AreInstances};
@@ -23,10 +21,9 @@ use clause_form::{Lit, Parent, copy_lits};
 use clause_proofs::{
     Opened, Premise, closed, instance_by, known_clause, some_images, variables_of,
 };
-use clause_rules::{Just, Position, put_in};
+use clause_rules::{Position, put_in};
 use derive_kit::Part;
 use fof_terms::{Form, Scope, Signature, Term};
-use rule_steps::paramodulation_step;
 use std::alloc::Global;
 use tptp_base::{List, Memory};
 use unify_terms::Subst;
@@ -34,54 +31,15 @@ use unify_terms::Subst;
 /// Which equation rewrites which place: the place stands in the literal `into_lit`, and the equation is the literal
 /// `from_lit`, read from right to left where flipped.
 #[derive(Drop)]
-struct Change {
-    into_lit: usize,
-    at: Position,
-    from_lit: usize,
-    flipped: bool,
+pub struct Change {
+    pub into_lit: usize,
+    pub at: Position,
+    pub from_lit: usize,
+    pub flipped: bool,
 }
 
-/// A proof of the line by the rule `paramodulation`; None exactly where the rule doesn't give it.
-pub fn by_paramodulation(
-    alloc: Global,
-    signature: &Signature,
-    parents: &[Parent],
-    line: &Form,
-) -> Result<Option<Part>, Memory>
-    requires ready { AreReady signature.now parents.now }
-    requires line { IsReady signature.now line.now }
-    ensures { IfOk result (IsByRule signature.now parents.now line.now paramodulation_rule) }
-{
-    match paramodulation_step(alloc, signature, parents, line)? {
-        Some(
-            Just::Paramodulation {
-                into,
-                from,
-                into_lit,
-                at,
-                from_lit,
-                flipped,
-                subst,
-            },
-        ) => {
-            let change = Change {
-                into_lit,
-                at,
-                from_lit,
-                flipped,
-            };
-            let proof = paramodulated(
-                alloc, signature, parents, line, into, from, &change, &subst,
-            )?;
-            Ok(Some(proof))
-        }
-        Some(_) => unreachable!(),
-        None => Ok(None),
-    }
-}
-
-// A proof of the line by these parents, of whose instances under the substitution it is a paramodulant.
-fn paramodulated(
+/// A proof of the line by these parents, of whose instances under the substitution it is a paramodulant.
+pub fn paramodulated(
     alloc: Global,
     signature: &Signature,
     parents: &[Parent],

@@ -7,8 +7,6 @@ ghost use Rattle.clause_rules.specs.Justified.{Shows};
 ghost use Rattle.clause_rules.specs.ResolutionRule.{IsResolvent, ResolvesTo};
 ghost use Rattle.clause_rules.specs.Steps.{AreReady, IsJoint, IsReady, images_of_parents, scope_of_both};
 ghost use Rattle.clause_rules.specs.declared.just.Just.TheVariants.{Resolution as ByResolution};
-ghost use Rattle.clause_rules.specs.Answers.{resolution as resolution_rule};
-ghost use Rattle.rule_proofs.specs.ByRule.{IsByRule};
 ghost use Rattle.clause_proofs.specs.Shown.{ShowsLine};
 ghost use Rattle.clause_proofs.specs.code.Bodies.{IsReadyClause};
 ghost use Rattle.clause_proofs.specs.Refuting.{IsGoal, RefutesBody, ShowsBody, body, theory_of};
@@ -19,47 +17,14 @@ use clause_proofs::{
     Opened, Premise, by_pivot, closed, instance_by, known_clause, refuted, some_images,
     variables_of,
 };
-use clause_rules::Just;
 use derive_kit::Part;
 use fof_terms::{Form, Scope, Signature};
-use rule_steps::resolution_step;
 use std::alloc::Global;
 use tptp_base::Memory;
 use unify_terms::Subst;
 
-/// A proof of the line by the rule `resolution`; None exactly where the rule doesn't give it.
-pub fn by_resolution(
-    alloc: Global,
-    signature: &Signature,
-    parents: &[Parent],
-    line: &Form,
-) -> Result<Option<Part>, Memory>
-    requires ready { AreReady signature.now parents.now }
-    requires line { IsReady signature.now line.now }
-    ensures { IfOk result (IsByRule signature.now parents.now line.now resolution_rule) }
-{
-    match resolution_step(alloc, signature, parents, line)? {
-        Some(
-            Just::Resolution {
-                left,
-                right,
-                left_lit,
-                right_lit: _,
-                subst,
-            },
-        ) => {
-            let proof = resolved(
-                alloc, signature, parents, line, left, right, left_lit, &subst,
-            )?;
-            Ok(Some(proof))
-        }
-        Some(_) => unreachable!(),
-        None => Ok(None),
-    }
-}
-
-// A proof of the line by these parents, of whose instances under the substitution it is a resolvent.
-fn resolved(
+/// A proof of the line by these parents, of whose instances under the substitution it is a resolvent.
+pub fn resolved(
     alloc: Global,
     signature: &Signature,
     parents: &[Parent],

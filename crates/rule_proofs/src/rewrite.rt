@@ -5,14 +5,12 @@ ghost use Rattle.fof_terms.specs.declared.term.Term.{Var};
 ghost use Rattle.fof_terms.specs.Scope.{scope_sorts};
 ghost use Rattle.clause_form.specs.declared.clause.Lit.{Lit as Literal};
 ghost use Rattle.clause_form.specs.Covers.{AreSorted, scope_of};
-ghost use Rattle.clause_rules.specs.Answers.{rewrite as rewrite_rule};
 ghost use Rattle.clause_rules.specs.Justified.{IsMatch, Shows};
 ghost use Rattle.clause_rules.specs.RewriteRule.{AreLitsRewritten, Rewrites};
 ghost use Rattle.clause_rules.specs.Steps.{AreReady, IsJoint, IsReady, images_of_parents, scope_of_both};
 ghost use Rattle.clause_rules.specs.declared.just.Just.TheVariants.{Rewrite as ByRewrite};
 ghost use Rattle.kernel.specs.Proves.{Proves};
 ghost use Rattle.clause_proofs.specs.code.Bodies.{IsReadyClause};
-ghost use Rattle.rule_proofs.specs.ByRule.{IsByRule};
 ghost use Rattle.clause_proofs.specs.Shown.{ShowsLine};
 ghost use Rattle.clause_proofs.specs.Refuting.{IsGoal, RefutesBody, ShowsBody, body, theory_of};
 ghost use Rattle.rule_proofs.specs.code.Rewriting.{IsRewriting, chained_images};
@@ -22,10 +20,9 @@ use clause_form::{Lit, Parent};
 use clause_proofs::{
     Opened, Premise, closed, images_of, instance_by, known_clause, some_images, variables_of,
 };
-use clause_rules::{Just, replace_in_lits};
+use clause_rules::replace_in_lits;
 use derive_kit::Part;
 use fof_terms::{Form, Scope, Signature, Term};
-use rule_steps::rewrite_step;
 use std::alloc::Global;
 use tptp_base::Memory;
 use unify_terms::Subst;
@@ -33,49 +30,14 @@ use unify_terms::Subst;
 /// Which term an equation rewrites, read from right to left where flipped, and the images of the equation's variables,
 /// behind those of the clause's own, which stand for themselves.
 #[derive(Drop)]
-struct Change {
-    target: Term,
-    flipped: bool,
-    matching: Subst,
+pub struct Change {
+    pub target: Term,
+    pub flipped: bool,
+    pub matching: Subst,
 }
 
-/// A proof of the line by the rule `rewrite`; None exactly where the rule doesn't give it.
-pub fn by_rewrite(
-    alloc: Global,
-    signature: &Signature,
-    parents: &[Parent],
-    line: &Form,
-) -> Result<Option<Part>, Memory>
-    requires ready { AreReady signature.now parents.now }
-    requires line { IsReady signature.now line.now }
-    ensures { IfOk result (IsByRule signature.now parents.now line.now rewrite_rule) }
-{
-    match rewrite_step(alloc, signature, parents, line)? {
-        Some(
-            Just::Rewrite {
-                into,
-                by,
-                target,
-                flipped,
-                by_subst,
-                subst,
-            },
-        ) => {
-            let change = Change {
-                target,
-                flipped,
-                matching: by_subst,
-            };
-            let proof = rewritten(alloc, signature, parents, line, into, by, &change, &subst)?;
-            Ok(Some(proof))
-        }
-        Some(_) => unreachable!(),
-        None => Ok(None),
-    }
-}
-
-// A proof of the line by these parents, the second of which is the equation.
-fn rewritten(
+/// A proof of the line by these parents, the second of which is the equation.
+pub fn rewritten(
     alloc: Global,
     signature: &Signature,
     parents: &[Parent],

@@ -9,37 +9,18 @@ ghost use Rattle.clause_form.specs.ClauseView.{form_of_lit as lit_form};
 ghost use Rattle.clause_form.specs.Covers.{AreComplementary, HasOne, IsCovered, IsTrivial, negated as opposite_of};
 ghost use Rattle.clause_rules.specs.Steps.{IsReady};
 ghost use Rattle.clause_rules.specs.TautologyRule.{IsTautologyStep};
-ghost use Rattle.clause_rules.specs.Answers.{tautology as tautology_rule};
-ghost use Rattle.rule_proofs.specs.ByRule.{IsByRule};
-ghost use Rattle.rule_proofs.specs.code.Shown.{ShowsAlone};
+ghost use Rattle.rule_proofs.specs.ByRule.{ShowsAlone};
 ghost use Rattle.clause_proofs.specs.Refuting.{IsGoal, RefutesBody, body};
 
-use clause_form::{Lit, Parent, are_complementary, denies, form_of_lit};
+use clause_form::{Lit, are_complementary, denies, form_of_lit};
 use clause_proofs::{Opened, closed, contrary, denial, few_variables_of, known_clause, negated};
 use derive_kit::{Part, cut_under};
 use fof_terms::{Form, Scope, Signature};
-use rule_steps::tautology_step;
 use std::alloc::Global;
 use tptp_base::Memory;
 
-/// A proof of the line by the rule `tautology`; None exactly where the rule doesn't give it.
-pub fn by_tautology(
-    alloc: Global,
-    signature: &Signature,
-    parents: &[Parent],
-    line: &Form,
-) -> Result<Option<Part>, Memory>
-    requires { IsReady signature.now line.now }
-    ensures { IfOk result (IsByRule signature.now parents.now line.now tautology_rule) }
-{
-    match tautology_step(alloc, signature, parents, line)? {
-        Some(_) => Ok(Some(trivial(alloc, signature, line)?)),
-        None => Ok(None),
-    }
-}
-
-// A proof of the line, which is true by its form.
-fn trivial(alloc: Global, signature: &Signature, line: &Form) -> Result<Part, Memory>
+/// A proof of the line, which is true by its form, whatever formulas there are.
+pub fn trivial(alloc: Global, signature: &Signature, line: &Form) -> Result<Part, Memory>
     requires ready { IsReady signature.now line.now }
     requires trivial { IsTautologyStep line.now }
     ensures { IfOk result (ShowsAlone signature.now line.now) }

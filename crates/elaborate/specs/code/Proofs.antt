@@ -4,6 +4,8 @@ use Rattle.fof_terms.specs.declared.form.Form.{Form}
 use Rattle.fof_terms.specs.Vocabulary.{Vocabulary}
 use Rattle.clause_form.specs.declared.path.Parent.{Parent}
 use Rattle.clause_rules.specs.Answers.{cover, Holds as Gives}
+use Rattle.clause_rules.specs.declared.just.Just.{Just}
+use Rattle.clause_rules.specs.declared.just.Just.TheVariants as variant
 use Rattle.kernel.specs.Statements.{Statements}
 use Rattle.kernel.specs.declared.entry.Entry.{Entry}
 use Rattle.kernel.specs.declared.proof.Proof.{Proof}
@@ -12,26 +14,37 @@ use Rattle.clausified_steps.specs.Clausified.{IsClausifiedBy}
 use Rattle.norm_parts.specs.ByParts.{ByParts}
 use Rattle.sat_entries.specs.Decided.{IsEntailed}
 use Rattle.elaborate.specs.Answers.{IsNotEntailed, IsSearchAnswer}
-use Rattle.elaborate.specs.ByRule.{IsFirst, IsNone, shape_rules, symbol_rules}
+use Rattle.elaborate.specs.ByRule.{IsFirst, IsNone, symbol_rules}
 use Rattle.elaborate.specs.declared.answer.Reason.{Reason}
 use Rattle.elaborate.specs.declared.answer.Reason.TheVariants.{Leaf}
-use Rattle.elaborate.specs.declared.answer.Rule.TheVariants.{Sat}
+use Rattle.elaborate.specs.declared.answer.Rule.{Rule}
+use Rattle.elaborate.specs.declared.answer.Rule.TheVariants.{Norm, Cover, Tautology, Resolution, Paramodulation}
+use Rattle.elaborate.specs.declared.answer.Rule.TheVariants.{EqFactor, Rewrite, Sat}
 use Rattle.elaborate.specs.declared.answer.StepAnswer.{StepAnswer}
 use Rattle.elaborate.specs.declared.answer.StepAnswer.TheVariants.{Accepted, Unverified}
 use Rattle.elaborate.specs.declared.leaves.FromOne.{FromOne}
 use Rattle.elaborate.specs.declared.steps.Derived.{Derived}
-use Rattle.elaborate.specs.declared.steps.Found.{Found}
 use Rattle.derive_kit.specs.Derived.{IsDerivedFrom, numbers_of}
 
--- the first of the rules by shape that gives the line, with a proof of it, or that there is none
-abbrev pub IsFound : Statements → List Parent → Form → Option Found → Type 0
-IsFound t parents line None = IsNone shape_rules t parents line
-IsFound t parents line (Some found) = IsFirst shape_rules t parents line found.rule × ShowsLine t.vocabulary parents line found.proof
+-- the rule of a justification
+abbrev pub rule_named : Just → Rule
+rule_named (variant.Norm a) = Norm
+rule_named (variant.Cover a path images) = Cover
+rule_named variant.Tautology = Tautology
+rule_named (variant.Resolution a b i j images) = Resolution
+rule_named (variant.Paramodulation a b i place j flipped images) = Paramodulation
+rule_named (variant.EqFactor a i first_flipped j second_flipped images) = EqFactor
+rule_named (variant.Rewrite a b target flipped by_images images) = Rewrite
 
 -- the first of the rules by names and new symbols that gives the line, with entries that derive it, or that there is none
 abbrev pub IsDerived : Statements → List Parent → Form → Option Derived → Type 0
 IsDerived t parents line None = IsNone symbol_rules t parents line
 IsDerived t parents line (Some derived) = IsFirst symbol_rules t parents line derived.rule × IsDerivedFrom t (numbers_of parents) derived.entries line
+
+-- `cover` gives the line, and the proof shows it, or it does not give the line
+abbrev pub IsByCover : Vocabulary → List Parent → Form → Option Proof → Type 0
+IsByCover w parents line None = Gives w parents line cover → ⊥
+IsByCover w parents line (Some p) = Gives w parents line cover × ShowsLine w parents line p
 
 -- `cover` gives the line from the candidate at this place alone
 abbrev pub CoversAlone : Vocabulary → List Parent → Form → ℕ → Type 0

@@ -1,8 +1,5 @@
-use Rattle.norm_parts.proofs.Showing.{is_tautology, parent_within}
+use Rattle.norm_parts.proofs.Showing.{is_tautology}
 use Rattle.norm_parts.proofs.proving.part_proved.Goals as goal
-
-pub covered-requires-clause-at : goal.covered-requires-clause-at
-covered-requires-clause-at c = parent_within c.args.signature.now c.args.parents.now c.args.part.now c.in-Cover.parent c.in-Cover.path c.in-Cover.subst (rw c.in-Cover.is at c.requires.shown).0
 
 pub covered-requires-clause-shown : goal.covered-requires-clause-shown
 covered-requires-clause-shown c = (rw c.in-Cover.is at c.requires.shown).0
