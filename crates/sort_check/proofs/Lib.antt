@@ -5,6 +5,7 @@ pub mod LinesByPlace
 pub mod Closings
 pub mod Declaring
 pub mod FormSorts
+pub mod Fronting
 pub mod GivenLoops
 pub mod GivenSorts
 pub mod Inducing

@@ -1,21 +1,27 @@
 -- What items denote when a further one is taken behind them.
-use Rattle.std.proofs.Common.{◌≡◌, ℕ, ◌+◌, length-append, Bool, true, false, not, cond, List, [], ◌∷◌, ◌++◌, length, Option, Some, None, Ok, Err, refl, sym, ◌∙◌, ap, arith}
+use Rattle.std.proofs.Common.{◌≡◌, ℕ, ◌+◌, ◌≤◌, length-append, Bool, true, false, not, cond, List, [], ◌∷◌, ◌++◌, length, take, Option, Some, None, Ok, Err, refl, sym, ◌∙◌, ap, subst, arith}
+use Rattle.std.proofs.Math.Seq.{take-append_seam}
 use Rattle.tptp_base.specs.declared.item.Item.{Item}
 use Rattle.tptp_base.specs.declared.item.Item.TheVariants as it
 use Rattle.tptp_base.specs.Roles.{is_typing}
-use Rattle.fof_terms.specs.Vocabulary.{Vocabulary}
+use Rattle.fof_terms.specs.Vocabulary.{Vocabulary, IsVocabulary}
+use Rattle.fof_terms.specs.declared.signature.Symbol.{Symbol}
 use Rattle.sort_check.specs.declared.fault.SortFault.{SortFault}
+use Rattle.sort_check.specs.declared.front.Extent.{Extent}
 use Rattle.sort_check.specs.declared.line.Line.{Line}
 use Rattle.sort_check.specs.declared.line.TextKind.TheVariants.{Problem}
 use Rattle.sort_check.specs.declared.namesakes.Namesakes.{Namesakes}
 use Rattle.sort_check.specs.declared.progress.Progress.{Progress}
+use Rattle.sort_check.specs.code.Fronts.{front}
 use Rattle.sort_check.specs.Namesakes.{Knows}
 use Rattle.sort_check.specs.Outcomes.{Outcome, and_then, mapped}
+use Rattle.sort_check.specs.Sorting.{GoesOn, Extends}
 use Rattle.sort_check.specs.Symbols.{Text}
 use Rattle.sort_check.specs.Texts.{Declared, Reading, at_line, type_item, type_lines, line_form, line_of, line_item, with_line, lines_from, only_vocabulary, denoted}
 use Rattle.sort_check.specs.Turns.{first, kept, is_include, HaveNoInclude, AreDenoted}
-use Rattle.sort_check.specs.Stages.{begin, behind_types, GiveNoLine, AreTypes, AreLines, AreMistyped, AreFaulty}
+use Rattle.sort_check.specs.Stages.{begin, behind_types, GiveNoLine, AreTyped, AreTypes, AreBehind, AreRead, IsRead, AreLines, AreMistyped, AreReadAgain}
 use Rattle.sort_check.specs.code.Turns.{is_type_item, is_line_item}
+use Rattle.sort_check.proofs.TermSorts.{grows_not, grows_on}
 
 -- ---- type lines
 
@@ -157,99 +163,189 @@ longer items x = omega (arith, length-append items (x ∷ []))
 
 pub begins : (p : Progress) (namesakes : Namesakes) → p.signature ≡ first → p.names ≡ [] → p.lines ≡ [] → p.conjectured ≡ false → p.number ≡ 0 → Knows namesakes p.signature.symbols → AreTypes [] p namesakes
 begins p namesakes signature names lines conjectured number knows = record {
-  types = rw signature (rw names refl);
+  typed = record { types = rw signature (rw names refl); knows = knows; whole = tt };
   no_line = λ names n s. refl;
   lines = lines;
   conjectured = conjectured;
   counted = number;
-  knows = knows;
-  whole = tt;
 }
 
-pub lines_begin : (items : List Item) (p : Progress) (namesakes : Namesakes) → AreTypes items p namesakes → AreLines items p
-lines_begin items p namesakes so = record {
-  typed = p.signature;
-  types = so.types;
+-- no formula is read yet
+none_read : (items : List Item) (p : Progress) (namesakes : Namesakes) → AreTypes items p namesakes → AreRead p.signature items p
+none_read items p namesakes so = record {
   found = [];
   reads = so.no_line p.names 0 (behind_types p.signature) ∙ ap (λ (b : Bool). Ok ([], record { vocabulary = p.signature; conjectured = b })) (sym so.conjectured);
   lines = so.lines ∙ sym (kept_none p.keeps);
   counted = so.counted;
-  whole = so.whole;
 }
 
-pub typing_goes : (items : List Item) (x : Item) (p q : Progress) (before after : Namesakes) → AreTypes items p before → is_line_item x ≡ false → is_include x ≡ false
-    → type_item x (record { vocabulary = p.signature; names = p.names }) ≡ Ok (tt, record { vocabulary = q.signature; names = q.names }) → q.lines ≡ p.lines → q.conjectured ≡ p.conjectured
-    → q.number ≡ p.number + 1 → Knows after q.signature.symbols → AreTypes (items ++ x ∷ []) q after
-typing_goes items x p q before after so not_so whole k lines conjectured counted knows = record {
-  types = types_go items x (record { vocabulary = p.signature; names = p.names }) (record { vocabulary = q.signature; names = q.names }) so.types k;
+pub lines_begin : (items : List Item) (p : Progress) (e : Extent) (namesakes : Namesakes) → AreTypes items p namesakes → IsVocabulary p.signature → e.sorts ≡ length p.signature.sorts → e.symbols ≡ length p.signature.symbols
+    → AreLines items (record p { typed = e }) None
+lines_begin items p e namesakes so vocabulary sorts symbols = record {
+  behind = record { typed = p.signature; types = so.typed.types; vocabulary = vocabulary; more = grows_not p.signature; sorts = sorts; symbols = symbols; whole = so.typed.whole };
+  read = let r = none_read items p namesakes so in record { found = r.found; reads = r.reads; lines = r.lines; counted = r.counted };
+}
+
+-- ---- type lines, in front and behind formulas
+
+module _ (items : List Item) (x : Item) (p : Progress) (before : Namesakes) (so : AreTyped items p before) (whole : is_include x ≡ false) where
+  pub declaration_goes : (q : Progress) (after : Namesakes) → type_item x (record { vocabulary = p.signature; names = p.names }) ≡ Ok (tt, record { vocabulary = q.signature; names = q.names })
+      → Knows after q.signature.symbols → AreTyped (items ++ x ∷ []) q after
+  declaration_goes q after k knows = record {
+    types = types_go items x (record { vocabulary = p.signature; names = p.names }) (record { vocabulary = q.signature; names = q.names }) so.types k;
+    knows = knows;
+    whole = whole_more items x whole so.whole;
+  }
+
+  pub declaration_fails : (f : SortFault) → type_item x (record { vocabulary = p.signature; names = p.names }) ≡ Err f → AreMistyped (items ++ x ∷ []) f
+  declaration_fails f k = record {
+    types = types_stop items x (record { vocabulary = p.signature; names = p.names }) f so.types k;
+    whole = whole_more items x whole so.whole;
+  }
+
+pub typing_goes : (items : List Item) (x : Item) (p n : Progress) (before after : Namesakes) → AreTypes items p before → is_line_item x ≡ false → AreTyped (items ++ x ∷ []) n after
+    → n ≡ record p { signature = n.signature; names = n.names } → AreTypes (items ++ x ∷ []) (record n { number = n.number + 1 }) after
+typing_goes items x p n before after so not_so typed same = record {
+  typed = record { types = typed.types; knows = typed.knows; whole = typed.whole };
   no_line = none_more items x not_so so.no_line;
-  lines = lines ∙ so.lines;
-  conjectured = conjectured ∙ so.conjectured;
-  counted = counted ∙ ap (λ (n : ℕ). n + 1) so.counted ∙ longer items x;
-  knows = knows;
-  whole = whole_more items x whole so.whole;
-}
-
-pub typing_fails : (items : List Item) (x : Item) (p : Progress) (before : Namesakes) (f : SortFault) → AreTypes items p before → is_include x ≡ false
-    → type_item x (record { vocabulary = p.signature; names = p.names }) ≡ Err f → AreMistyped (items ++ x ∷ []) f
-typing_fails items x p before f so whole k = record {
-  types = types_stop items x (record { vocabulary = p.signature; names = p.names }) f so.types k;
-  whole = whole_more items x whole so.whole;
+  lines = ap (λ (r : Progress). r.lines) same ∙ so.lines;
+  conjectured = ap (λ (r : Progress). r.conjectured) same ∙ so.conjectured;
+  counted = ap (λ (r : Progress). r.number + 1) same ∙ ap (λ (m : ℕ). m + 1) so.counted ∙ longer items x;
 }
 
 pub mistyped_stays : (items : List Item) (x : Item) (f : SortFault) → AreMistyped items f → is_include x ≡ false → AreMistyped (items ++ x ∷ []) f
 mistyped_stays items x f so whole = record { types = types_stay items x f so.types; whole = whole_more items x whole so.whole }
 
-pub formula_goes : (items : List Item) (x : Item) (p q : Progress) (found : Option Line) → AreLines items p → is_type_item x ≡ false → is_include x ≡ false
-    → line_item Problem p.names p.number x (record { vocabulary = p.signature; conjectured = p.conjectured }) ≡ Ok (found, record { vocabulary = q.signature; conjectured = q.conjectured })
-    → q.names ≡ p.names → q.keeps ≡ p.keeps → q.lines ≡ p.lines ++ kept p.keeps (with_line found []) → q.number ≡ p.number + 1 → AreLines (items ++ x ∷ []) q
-formula_goes items x p q found so not_so whole k names keeps lines counted = record {
-  typed = so.typed;
-  types = types_go items x (record { vocabulary = so.typed; names = p.names }) (record { vocabulary = so.typed; names = q.names }) so.types
-      (types_none x (record { vocabulary = so.typed; names = p.names }) not_so ∙ ap (λ (ns : List Text). Ok (tt, record { vocabulary = so.typed; names = ns })) (sym names));
-  found = so.found ++ with_line found [];
-  reads = ap (λ (ns : List Text). lines_from Problem ns 0 (items ++ x ∷ []) (behind_types so.typed)) names
-      ∙ lines_go p.names x items (behind_types so.typed) (record { vocabulary = p.signature; conjectured = p.conjectured }) (record { vocabulary = q.signature; conjectured = q.conjectured }) so.found found so.reads
-      (ap (λ (n : ℕ). line_item Problem p.names n x (record { vocabulary = p.signature; conjectured = p.conjectured })) (sym so.counted) ∙ k);
-  lines = lines ∙ ap (λ (ls : List Line). ls ++ kept p.keeps (with_line found [])) so.lines ∙ kept_more p.keeps so.found (with_line found []) ∙ ap (λ (b : Bool). kept b (so.found ++ with_line found [])) (sym keeps);
-  counted = counted ∙ ap (λ (n : ℕ). n + 1) so.counted ∙ longer items x;
-  whole = whole_more items x whole so.whole;
-}
+taken_front : {X : Type 0} (front whole : List X) → GoesOn front whole → take (length front) whole ≡ front
+taken_front front whole more = ap (take (length front)) more.1 ∙ take-append_seam front more.0
 
-pub formula_fails : (items : List Item) (x : Item) (p : Progress) (f : SortFault) → AreLines items p → is_type_item x ≡ false → is_include x ≡ false
-    → line_item Problem p.names p.number x (record { vocabulary = p.signature; conjectured = p.conjectured }) ≡ Err f → AreFaulty (items ++ x ∷ []) f
-formula_fails items x p f so not_so whole k = record {
-  declared = record { vocabulary = so.typed; names = p.names };
-  types = types_go items x (record { vocabulary = so.typed; names = p.names }) (record { vocabulary = so.typed; names = p.names }) so.types (types_none x (record { vocabulary = so.typed; names = p.names }) not_so);
-  reads = lines_stop p.names x items (behind_types so.typed) (record { vocabulary = p.signature; conjectured = p.conjectured }) so.found f so.reads
-      (ap (λ (n : ℕ). line_item Problem p.names n x (record { vocabulary = p.signature; conjectured = p.conjectured })) (sym so.counted) ∙ k);
-  whole = whole_more items x whole so.whole;
-}
+pair_is : {a b c d : ℕ} → a ≡ c → b ≡ d → ◌≡◌ {A = ℕ × ℕ} (a, b) (c, d)
+pair_is {a} {b} {c} {d} one two = ap (λ (x : ℕ). (x, b)) one ∙ ap (λ (y : ℕ). (c, y)) two
 
-pub faulty_stays : (items : List Item) (x : Item) (f : SortFault) → AreFaulty items f → is_type_item x ≡ false → is_include x ≡ false → AreFaulty (items ++ x ∷ []) f
-faulty_stays items x f so not_so whole = record {
-  declared = so.declared;
-  types = types_go items x so.declared so.declared so.types (types_none x so.declared not_so);
-  reads = lines_stay so.declared.names x items (behind_types so.declared.vocabulary) f so.reads;
-  whole = whole_more items x whole so.whole;
+-- What the type lines declared stands in front.
+module _ (items : List Item) (p : Progress) (so : AreBehind items p) where
+  pub sorts_in_front : p.typed.sorts ≤ length p.signature.sorts
+  sorts_in_front = omega (arith, so.sorts, ap (λ (xs : List Text). length xs) so.more.sorts.1, length-append so.typed.sorts so.more.sorts.0)
+
+  pub symbols_in_front : p.typed.symbols ≤ length p.signature.symbols
+  symbols_in_front = omega (arith, so.symbols, ap (λ (xs : List Symbol). length xs) so.more.symbols.1, length-append so.typed.symbols so.more.symbols.0)
+
+  front_is : front p.typed p.signature ≡ so.typed
+  front_is =
+      ap (λ (e : ℕ × ℕ). record { sorts = take e.0 p.signature.sorts; symbols = take e.1 p.signature.symbols }) (pair_is so.sorts so.symbols)
+      ∙ ap (λ (xs : List Text). record { sorts = xs; symbols = take (length so.typed.symbols) p.signature.symbols }) (taken_front so.typed.sorts p.signature.sorts so.more.sorts)
+      ∙ ap (λ (xs : List Symbol). record { sorts = so.typed.sorts; symbols = xs }) (taken_front so.typed.symbols p.signature.symbols so.more.symbols)
+
+  pub front_whole : IsVocabulary (front p.typed p.signature)
+  front_whole = subst IsVocabulary (sym front_is) so.vocabulary
+
+  pub late_begins : (q : Progress) (namesakes : Namesakes) → q.signature ≡ front p.typed p.signature → q.names ≡ p.names → Knows namesakes q.signature.symbols → AreTyped items q namesakes
+  late_begins q namesakes signature names knows = record {
+    types = so.types ∙ ap (λ (v : Vocabulary). Ok (tt, record { vocabulary = v; names = p.names })) (sym (signature ∙ front_is)) ∙ ap (λ (ns : List Text). Ok (tt, record { vocabulary = q.signature; names = ns })) (sym names);
+    knows = knows;
+    whole = so.whole;
+  }
+
+-- ---- formulas
+
+module _ (typed : Vocabulary) (items : List Item) (x : Item) (p q : Progress) (so : AreRead typed items p) (names : q.names ≡ p.names) where
+  pub read_goes : (found : Option Line) → line_item Problem p.names p.number x (record { vocabulary = p.signature; conjectured = p.conjectured }) ≡ Ok (found, record { vocabulary = q.signature; conjectured = q.conjectured })
+      → q.keeps ≡ p.keeps → q.lines ≡ p.lines ++ kept p.keeps (with_line found []) → q.number ≡ p.number + 1 → AreRead typed (items ++ x ∷ []) q
+  read_goes found k keeps lines counted = record {
+    found = so.found ++ with_line found [];
+    reads = ap (λ (ns : List Text). lines_from Problem ns 0 (items ++ x ∷ []) (behind_types typed)) names
+        ∙ lines_go p.names x items (behind_types typed) (record { vocabulary = p.signature; conjectured = p.conjectured }) (record { vocabulary = q.signature; conjectured = q.conjectured }) so.found found so.reads
+        (ap (λ (n : ℕ). line_item Problem p.names n x (record { vocabulary = p.signature; conjectured = p.conjectured })) (sym so.counted) ∙ k);
+    lines = lines ∙ ap (λ (ls : List Line). ls ++ kept p.keeps (with_line found [])) so.lines ∙ kept_more p.keeps so.found (with_line found []) ∙ ap (λ (b : Bool). kept b (so.found ++ with_line found [])) (sym keeps);
+    counted = counted ∙ ap (λ (n : ℕ). n + 1) so.counted ∙ longer items x;
+  }
+
+  pub read_fails : (f : SortFault) → line_item Problem p.names p.number x (record { vocabulary = p.signature; conjectured = p.conjectured }) ≡ Err f → IsRead typed (items ++ x ∷ []) q (Some f)
+  read_fails f k = ap (λ (ns : List Text). lines_from Problem ns 0 (items ++ x ∷ []) (behind_types typed)) names
+      ∙ lines_stop p.names x items (behind_types typed) (record { vocabulary = p.signature; conjectured = p.conjectured }) so.found f so.reads
+      (ap (λ (n : ℕ). line_item Problem p.names n x (record { vocabulary = p.signature; conjectured = p.conjectured })) (sym so.counted) ∙ k)
+
+-- behind a fault
+read_stays : (typed : Vocabulary) (items : List Item) (x : Item) (p : Progress) (f : SortFault) → IsRead typed items p (Some f) → IsRead typed (items ++ x ∷ []) p (Some f)
+read_stays typed items x p f so = lines_stay p.names x items (behind_types typed) f so
+
+-- One more item is read, whatever was declared.
+abbrev pub ReadsOn : Item → Progress → Progress → Option SortFault → Type 0
+ReadsOn x p q f = (typed : Vocabulary) (items : List Item) → AreRead typed items p → IsRead typed (items ++ x ∷ []) q f
+
+module _ (items : List Item) (x : Item) (p q : Progress) (not_so : is_type_item x ≡ false) (whole : is_include x ≡ false) where
+  behind_goes : AreBehind items p → q.names ≡ p.names → q.typed ≡ p.typed → Extends p.signature q.signature → AreBehind (items ++ x ∷ []) q
+  behind_goes so names typed more = record {
+    typed = so.typed;
+    types = types_go items x (record { vocabulary = so.typed; names = p.names }) (record { vocabulary = so.typed; names = q.names }) so.types
+        (types_none x (record { vocabulary = so.typed; names = p.names }) not_so ∙ ap (λ (ns : List Text). Ok (tt, record { vocabulary = so.typed; names = ns })) (sym names));
+    vocabulary = so.vocabulary;
+    more = grows_on so.typed p.signature q.signature so.more more;
+    sorts = ap (λ (e : Extent). e.sorts) typed ∙ so.sorts;
+    symbols = ap (λ (e : Extent). e.symbols) typed ∙ so.symbols;
+    whole = whole_more items x whole so.whole;
+  }
+
+  pub formula_taken : (f : Option SortFault) → AreLines items p None → q.names ≡ p.names → q.typed ≡ p.typed → Extends p.signature q.signature → ReadsOn x p q f → AreLines (items ++ x ∷ []) q f
+  unfolding behind_goes
+  formula_taken f so names typed more reads = record { behind = behind_goes so.behind names typed more; read = reads so.behind.typed items so.read }
+
+pub faulty_stays : (items : List Item) (x : Item) (p : Progress) (f : SortFault) → AreLines items p (Some f) → is_type_item x ≡ false → is_include x ≡ false → AreLines (items ++ x ∷ []) p (Some f)
+unfolding behind_goes
+faulty_stays items x p f so not_so whole = record {
+  behind = behind_goes items x p p not_so whole so.behind refl refl (grows_not p.signature);
+  read = read_stays so.behind.typed items x p f so.read;
 }
 
 pub line_is_no_type : (x : Item) → is_line_item x ≡ true → is_type_item x ≡ false
 line_is_no_type x is = no_type x is
+
+-- ---- items that are taken again
+
+pub again_begins : (whole : List Item) (p : Progress) → type_lines whole begin ≡ Ok (tt, record { vocabulary = p.signature; names = p.names }) → p.conjectured ≡ false → p.number ≡ 0 → p.lines ≡ [] → AreReadAgain whole [] p None
+again_begins whole p types conjectured number lines = record {
+  typed = p.signature;
+  types = types;
+  read = record {
+    found = [];
+    reads = ap (λ (b : Bool). Ok ([], record { vocabulary = p.signature; conjectured = b })) (sym conjectured);
+    lines = lines ∙ sym (kept_none p.keeps);
+    counted = number;
+  };
+}
+
+pub again_goes : (whole items : List Item) (x : Item) (p q : Progress) (f : Option SortFault) → AreReadAgain whole items p None → q.names ≡ p.names → ReadsOn x p q f → AreReadAgain whole (items ++ x ∷ []) q f
+again_goes whole items x p q f so names reads = record {
+  typed = so.typed;
+  types = so.types ∙ ap (λ (ns : List Text). Ok (tt, record { vocabulary = so.typed; names = ns })) (sym names);
+  read = reads so.typed items so.read;
+}
+
+pub again_stays : (whole items : List Item) (x : Item) (p : Progress) (f : SortFault) → AreReadAgain whole items p (Some f) → AreReadAgain whole (items ++ x ∷ []) p (Some f)
+again_stays whole items x p f so = record { typed = so.typed; types = so.types; read = read_stays so.typed items x p f so.read }
 
 -- ---- at the end
 
 abbrev rest : List Item → Unit {0} → Declared → Outcome SortFault Vocabulary (List Line)
 rest items done d = only_vocabulary (lines_from Problem d.names 0 items (behind_types d.vocabulary))
 
-pub lines_denote : (items : List Item) (p : Progress) → AreLines items p → AreDenoted (record { items = items; keeps = p.keeps }) (Ok (record { lines = p.lines; signature = p.signature }))
-lines_denote items p so = (so.found, ap (λ (o : Typing). and_then o (rest items)) so.types ∙ ap only_vocabulary so.reads, so.lines)
+pub again_denotes : (items : List Item) (p : Progress) → AreReadAgain items items p None → AreDenoted (record { items = items; keeps = p.keeps }) (Ok (record { lines = p.lines; signature = p.signature }))
+again_denotes items p so = (so.read.found, ap (λ (o : Typing). and_then o (rest items)) so.types ∙ ap only_vocabulary so.read.reads, so.read.lines)
+
+pub again_refused : (items : List Item) (p : Progress) (f : SortFault) → AreReadAgain items items p (Some f) → denoted items first Problem ≡ Err f
+again_refused items p f so = ap (λ (o : Typing). and_then o (rest items)) so.types ∙ ap only_vocabulary so.read
+
+read_at_once : (items : List Item) (p : Progress) (f : Option SortFault) → AreLines items p f → AreReadAgain items items p f
+read_at_once items p f so = record { typed = so.behind.typed; types = so.behind.types; read = so.read }
+
+pub lines_denote : (items : List Item) (p : Progress) → AreLines items p None → AreDenoted (record { items = items; keeps = p.keeps }) (Ok (record { lines = p.lines; signature = p.signature }))
+lines_denote items p so = again_denotes items p (read_at_once items p None so)
 
 pub types_denote : (items : List Item) (p : Progress) (namesakes : Namesakes) → AreTypes items p namesakes → AreDenoted (record { items = items; keeps = p.keeps }) (Ok (record { lines = p.lines; signature = p.signature }))
-types_denote items p namesakes so = lines_denote items p (lines_begin items p namesakes so)
+types_denote items p namesakes so = again_denotes items p (record { typed = p.signature; types = so.typed.types; read = none_read items p namesakes so })
 
 pub mistyped_denote : (items : List Item) (f : SortFault) → AreMistyped items f → denoted items first Problem ≡ Err f
 mistyped_denote items f so = ap (λ (o : Typing). and_then o (rest items)) so.types
 
-pub faulty_denote : (items : List Item) (f : SortFault) → AreFaulty items f → denoted items first Problem ≡ Err f
-faulty_denote items f so = ap (λ (o : Typing). and_then o (rest items)) so.types ∙ ap only_vocabulary so.reads
+pub faulty_denote : (items : List Item) (p : Progress) (f : SortFault) → AreLines items p (Some f) → denoted items first Problem ≡ Err f
+faulty_denote items p f so = again_refused items p f (read_at_once items p (Some f) so)

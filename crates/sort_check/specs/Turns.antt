@@ -26,6 +26,16 @@ abbrev pub taken_code : Coded Taken
 taken_code =
     code_by (List Item × Bool) (coded× (coded_list the_row.coded) coded_bool) (λ t. (t.items, t.keeps)) (λ p. record { items = p.0; keeps = p.1 }) (λ _. refl)
 
+-- The items whose type lines are taken, those of them that were taken again so far, and whether their lines are kept.
+pub record TakenAgain : Type 0 where
+  pub whole : List Item
+  pub items : List Item
+  pub keeps : Bool
+
+abbrev pub taken_again_code : Coded TakenAgain
+taken_again_code =
+    code_by (List Item × Taken) (coded× (coded_list the_row.coded) taken_code) (λ t. (t.whole, record { items = t.items; keeps = t.keeps })) (λ p. record { whole = p.0; items = p.1.items; keeps = p.1.keeps }) (λ _. refl)
+
 -- the lines, where they are kept
 abbrev pub kept : Bool → List Line → List Line
 kept true lines = lines

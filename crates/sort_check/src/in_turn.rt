@@ -2,7 +2,9 @@
 ghost use Rattle.std.specs.Prelude.{◌≡◌, ◌∷◌, [], ◌++◌, IfOk, IfSome, OnOk, OnErr};
 ghost use Rattle.sort_check.specs.Turns.{AreDenoted, HaveNoInclude};
 
+use crate::again::Again;
 use crate::fault::SortFault;
+use crate::front::Extent;
 use crate::names::Names;
 use crate::namesakes::Namesakes;
 use crate::progress::{Denoted, Progress, Stage};
@@ -15,8 +17,9 @@ use tptp_base::{Item, List, Memory};
 
 /// The items of a problem that were taken so far, and what they denote. No item is kept.
 ///
-/// An item that comes behind a fault is taken too: the first fault stays the first one. Where an include comes, or a
-/// type line behind another formula, nothing is known any more.
+/// An item that comes behind a fault is taken too: the first fault stays the first one. From a type line behind another
+/// formula on type lines alone are taken, and what the items denote is known when they are taken again. Where an include
+/// comes nothing is known any more.
 #[derive(Drop)]
 pub struct InTurn {
     alloc: Global,
@@ -46,12 +49,14 @@ impl InTurn {
     {
         let signature = Signature::new(alloc)?;
         let namesakes = Namesakes::of(alloc, &signature)?;
+        let typed = Extent::of(&signature);
         Ok(InTurn {
             alloc,
             seen: Seen::nothing(),
             stage: Stage::Types(namesakes),
             progress: Progress {
                 signature,
+                typed,
                 names: Names::new(alloc),
                 conjectured: false,
                 number: 0,
@@ -85,6 +90,30 @@ impl InTurn {
         matches!(self.stage, Stage::Unknown)
     }
 
+    /// Whether a type line stands behind another formula, so that the items have to be taken again.
+    pub fn is_late(&self) -> bool {
+        matches!(self.stage, Stage::Late(_))
+    }
+
+    /// The same items, to be taken again behind all their type lines. Nothing where no type line stands behind another
+    /// formula, or where one has a fault.
+    pub fn again(self) -> Option<Again>
+        ensures again { IfSome result (λ again. again
+            ≡ record { whole = self.items; items = []; keeps = self.keeps }) }
+        ensures whole { IfSome result (λ again. HaveNoInclude again.whole) }
+    {
+        let InTurn {
+            alloc,
+            seen,
+            stage,
+            progress,
+        } = self;
+        match stage {
+            Stage::Late(_) => Some(Again::behind(alloc, seen, progress)),
+            _ => None,
+        }
+    }
+
     /// What the items denote, or their first fault. Nothing where that is not known.
     #[tactic(auto, using(crate::proofs::Turning::lines_denote, crate::proofs::Turning::types_denote, crate::proofs::Turning::mistyped_denote, crate::proofs::Turning::faulty_denote))]
     pub fn finish(self) -> Option<Result<Denoted, SortFault>>
@@ -106,7 +135,7 @@ impl InTurn {
             Stage::Lines => Some(Ok(Denoted { lines, signature })),
             Stage::Mistyped(fault) => Some(Err(fault)),
             Stage::Faulty(fault) => Some(Err(fault)),
-            Stage::Unknown => None,
+            Stage::Late(_) | Stage::Unknown => None,
         }
     }
 }

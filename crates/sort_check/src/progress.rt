@@ -1,5 +1,6 @@
 // How far the items of a text were taken.
 use crate::fault::SortFault;
+use crate::front::Extent;
 use crate::line::Line;
 use crate::names::Names;
 use crate::namesakes::Namesakes;
@@ -17,6 +18,8 @@ pub struct Denoted {
 #[derive(Drop)]
 pub struct Progress {
     pub signature: Signature,
+    /// How many sorts and symbols stand before those of formulas.
+    pub typed: Extent,
     /// The names that the type lines declare.
     pub names: Names,
     /// Whether a conjecture has come.
@@ -39,6 +42,19 @@ pub enum Stage {
     Mistyped(SortFault),
     /// Another formula has the first fault, unless a type line follows.
     Faulty(SortFault),
-    /// An include has come, or a type line behind another formula.
+    /// A type line stands behind another formula, and type lines alone are taken.
+    Late(Namesakes),
+    /// An include has come, or memory ran out.
+    Unknown,
+}
+
+/// Where the items stand that are taken again.
+#[derive(Drop)]
+pub enum Turn {
+    /// Their formulas have no fault.
+    Lines,
+    /// A formula has the first fault.
+    Faulty(SortFault),
+    /// Memory ran out.
     Unknown,
 }

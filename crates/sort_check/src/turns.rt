@@ -1,19 +1,23 @@
 // How one item is taken behind others.
-ghost use Rattle.std.specs.Prelude.{◌≡◌, ◌∷◌, [], ◌++◌, ◌+◌, ◌<◌, ◌^◌, false, true, IfOk, OnOk};
-ghost use Rattle.sort_check.specs.declared.progress.Progress.{Progress as progress_of};
+ghost use Rattle.std.specs.Prelude.{◌≡◌, ◌∷◌, [], ◌++◌, ◌+◌, ◌<◌, ◌^◌, List as list, None, Some, false, true, IfOk};
+ghost use Rattle.std.specs.Prelude.{OnOk};
+ghost use Rattle.fof_terms.specs.Vocabulary.{Vocabulary as vocabulary};
+ghost use Rattle.tptp_base.specs.declared.item.Item.{Item as item_of};
+ghost use Rattle.sort_check.specs.Sorting.{Extends};
 ghost use Rattle.sort_check.specs.Turns as turns;
 ghost use Rattle.sort_check.specs.Texts.{with_line};
 ghost use Rattle.sort_check.specs.Stages as stages;
-ghost use Rattle.sort_check.specs.code.Turns.{is_type_item, is_line_item};
+ghost use Rattle.sort_check.specs.code.Turns.{AreTypedOr, is_type_item, is_line_item};
 
 use crate::denotation::{is_type, take_line, take_type};
 use crate::fault::SortFault;
+use crate::front::{Extent, copy_front};
 use crate::line::{Line, TextKind};
 use crate::namesakes::Namesakes;
 use crate::progress::{Progress, Stage};
 use crate::seen::Seen;
 use std::alloc::Global;
-use tptp_base::{Item, Memory};
+use tptp_base::{Item, List, Memory};
 
 /// Takes an item behind those that were seen.
 #[tactic(auto, using(crate::proofs::Turning::mistyped_stays))]
@@ -35,13 +39,13 @@ pub fn turn(
         Stage::Types(namesakes) => turn_types(alloc, seen, item, namesakes, progress),
         Stage::Lines => turn_lines(alloc, seen, item, progress),
         Stage::Mistyped(fault) => Ok(Stage::Mistyped(fault)),
-        Stage::Faulty(fault) => Ok(turn_faulty(seen, item, fault)),
+        Stage::Faulty(fault) => turn_faulty(alloc, seen, item, fault, progress),
+        Stage::Late(namesakes) => take_late(alloc, seen, item, namesakes, progress),
         Stage::Unknown => Ok(Stage::Unknown),
     }
 }
 
 // Takes an item behind type lines.
-#[tactic(auto, using(crate::proofs::Turning::lines_begin, crate::proofs::Turning::line_is_no_type))]
 fn turn_types(
     alloc: Global,
     seen: &Seen,
@@ -56,10 +60,25 @@ fn turn_types(
     ensures keeps { progress.new.keeps ≡ progress.old.keeps }
 {
     if is_line(item) {
+        end_types(seen, &namesakes, progress);
         take_formula(alloc, seen, item, progress)
     } else {
         take_typing(alloc, seen, item, namesakes, progress)
     }
+}
+
+// Notes what the type lines gave, before a formula brings more.
+fn end_types(seen: &Seen, namesakes: &Namesakes, progress: &mut Progress)
+    requires { stages.AreTypes seen.now.items progress.old namesakes.now }
+    ensures stands { stages.AreLines seen.now.items progress.new None }
+    ensures number { progress.new.number ≡ progress.old.number }
+    ensures keeps { progress.new.keeps ≡ progress.old.keeps }
+{
+    // The proof reads what was seen, and what is known of names.
+    let _seen = seen;
+    let _namesakes = namesakes;
+    progress.signature.is_vocabulary();
+    progress.typed = Extent::of(&progress.signature);
 }
 
 // Takes an item behind formulas.
@@ -69,30 +88,75 @@ fn turn_lines(
     item: &Item,
     progress: &mut Progress,
 ) -> Result<Stage, Memory>
-    requires stands { stages.AreLines seen.now.items progress.old }
+    requires stands { stages.AreLines seen.now.items progress.old None }
     requires few { progress.old.number + 1 < 2 ^ 32 }
     requires no_include { turns.is_include item.now ≡ false }
     ensures stands { IfOk result (λ next. stages.StandsAt (seen.now.items ++ item.now ∷ []) progress.new next) }
     ensures keeps { progress.new.keeps ≡ progress.old.keeps }
 {
     if is_type_line(item) {
-        Ok(Stage::Unknown)
+        begin_late(alloc, seen, item, progress)
     } else {
         take_formula(alloc, seen, item, progress)
     }
 }
 
 // Takes an item behind a formula that has a fault.
-#[tactic(auto, using(crate::proofs::Turning::faulty_stays))]
-fn turn_faulty(seen: &Seen, item: &Item, fault: SortFault) -> Stage
-    requires stands { stages.AreFaulty seen.now.items fault }
+fn turn_faulty(
+    alloc: Global,
+    seen: &Seen,
+    item: &Item,
+    fault: SortFault,
+    progress: &mut Progress,
+) -> Result<Stage, Memory>
+    requires stands { stages.AreLines seen.now.items progress.old (Some fault) }
     requires no_include { turns.is_include item.now ≡ false }
-    ensures { (p : progress_of) → stages.StandsAt (seen.now.items ++ item.now ∷ []) p result }
+    ensures stands { IfOk result (λ next. stages.StandsAt (seen.now.items ++ item.now ∷ []) progress.new next) }
+    ensures keeps { progress.new.keeps ≡ progress.old.keeps }
 {
     if is_type_line(item) {
-        Stage::Unknown
+        begin_late(alloc, seen, item, progress)
     } else {
-        Stage::Faulty(fault)
+        Ok(Stage::Faulty(fault))
+    }
+}
+
+// Takes the first type line behind a formula. What the formulas brought is let go, and so are their lines.
+#[tactic(auto, using(crate::proofs::Turning::sorts_in_front, crate::proofs::Turning::symbols_in_front, crate::proofs::Turning::front_whole))]
+fn begin_late(
+    alloc: Global,
+    seen: &Seen,
+    item: &Item,
+    progress: &mut Progress,
+) -> Result<Stage, Memory>
+    requires stands { stages.AreBehind seen.now.items progress.old }
+    requires no_include { turns.is_include item.now ≡ false }
+    ensures stands { IfOk result (λ next. stages.StandsAt (seen.now.items ++ item.now ∷ []) progress.new next) }
+    ensures keeps { progress.new.keeps ≡ progress.old.keeps }
+{
+    progress.signature = copy_front(alloc, &progress.signature, progress.typed)?;
+    progress.lines = List::new(alloc);
+    let namesakes = Namesakes::of(alloc, &progress.signature)?;
+    take_late(alloc, seen, item, namesakes, progress)
+}
+
+// Takes an item where type lines alone are taken.
+fn take_late(
+    alloc: Global,
+    seen: &Seen,
+    item: &Item,
+    namesakes: Namesakes,
+    progress: &mut Progress,
+) -> Result<Stage, Memory>
+    requires stands { stages.AreTyped seen.now.items progress.old namesakes }
+    requires no_include { turns.is_include item.now ≡ false }
+    ensures stands { IfOk result (λ next. stages.StandsAt (seen.now.items ++ item.now ∷ []) progress.new next) }
+    ensures keeps { progress.new.keeps ≡ progress.old.keeps }
+{
+    let mut namesakes = namesakes;
+    match take_declaration(alloc, seen, item, &mut namesakes, progress)? {
+        Some(fault) => Ok(Stage::Mistyped(fault)),
+        None => Ok(Stage::Late(namesakes)),
     }
 }
 
@@ -112,37 +176,84 @@ fn take_typing(
     ensures keeps { progress.new.keeps ≡ progress.old.keeps }
 {
     let mut namesakes = namesakes;
+    match take_declaration(alloc, seen, item, &mut namesakes, progress)? {
+        Some(fault) => Ok(Stage::Mistyped(fault)),
+        None => {
+            progress.number += 1;
+            Ok(Stage::Types(namesakes))
+        }
+    }
+}
+
+// Takes an item, if it is a type line, or tells its fault.
+fn take_declaration(
+    alloc: Global,
+    seen: &Seen,
+    item: &Item,
+    namesakes: &mut Namesakes,
+    progress: &mut Progress,
+) -> Result<Option<SortFault>, Memory>
+    requires stands { stages.AreTyped seen.now.items progress.old namesakes.old }
+    requires no_include { turns.is_include item.now ≡ false }
+    ensures typed { IfOk result (λ fault.
+        AreTypedOr (seen.now.items ++ item.now ∷ []) progress.new namesakes.new fault) }
+    ensures same { progress.new ≡ record progress.old {
+      signature = progress.new.signature;
+      names = progress.new.names;
+    } }
+{
+    // The proof reads what was seen.
+    let _seen = seen;
     match take_type(
         alloc,
         item,
         &mut progress.signature,
         &mut progress.names,
-        &mut namesakes,
+        namesakes,
     ) {
-        Ok(()) => {
-            progress.number += 1;
-            Ok(Stage::Types(namesakes))
-        }
-        Err(SortFault::Line(rule, place, name)) => {
-            Ok(Stage::Mistyped(SortFault::Line(rule, place, name)))
-        }
+        Ok(()) => Ok(None),
+        Err(SortFault::Line(rule, place, name)) => Ok(Some(SortFault::Line(rule, place, name))),
         Err(SortFault::Memory) => Err(Memory),
     }
 }
 
 // Takes an item that is no type line, behind type lines or formulas.
+#[tactic(auto, using(crate::proofs::Turning::formula_taken))]
 fn take_formula(
     alloc: Global,
     seen: &Seen,
     item: &Item,
     progress: &mut Progress,
 ) -> Result<Stage, Memory>
-    requires stands { stages.AreLines seen.now.items progress.old }
+    requires stands { stages.AreLines seen.now.items progress.old None }
     requires few { progress.old.number + 1 < 2 ^ 32 }
     requires no_type { is_type_item item.now ≡ false }
     requires no_include { turns.is_include item.now ≡ false }
     ensures stands { IfOk result (λ next. stages.StandsAt (seen.now.items ++ item.now ∷ []) progress.new next) }
     ensures keeps { progress.new.keeps ≡ progress.old.keeps }
+{
+    // The proof reads what was seen.
+    let _seen = seen;
+    match read_line(alloc, item, progress)? {
+        Some(fault) => Ok(Stage::Faulty(fault)),
+        None => Ok(Stage::Lines),
+    }
+}
+
+/// Reads the line of an item behind those that were read, if it has one, or tells its fault.
+pub fn read_line(
+    alloc: Global,
+    item: &Item,
+    progress: &mut Progress,
+) -> Result<Option<SortFault>, Memory>
+    requires { progress.old.number + 1 < 2 ^ 32 }
+    ensures read { IfOk result (λ fault. (typed : vocabulary) (items : list item_of)
+        → stages.AreRead typed items progress.old
+        → stages.IsRead typed (items ++ item.now ∷ []) progress.new fault) }
+    ensures names { progress.new.names ≡ progress.old.names }
+    ensures typed { progress.new.typed ≡ progress.old.typed }
+    ensures keeps { progress.new.keeps ≡ progress.old.keeps }
+    ensures more { Extends progress.old.signature progress.new.signature }
 {
     match take_line(
         alloc,
@@ -154,30 +265,25 @@ fn take_formula(
         &mut progress.conjectured,
     ) {
         Ok(found) => {
-            keep(progress, found)?;
+            keep(progress.keeps, &mut progress.lines, found)?;
             progress.number += 1;
-            Ok(Stage::Lines)
+            Ok(None)
         }
-        Err(SortFault::Line(rule, place, name)) => {
-            Ok(Stage::Faulty(SortFault::Line(rule, place, name)))
-        }
+        Err(SortFault::Line(rule, place, name)) => Ok(Some(SortFault::Line(rule, place, name))),
         Err(SortFault::Memory) => Err(Memory),
     }
 }
 
 // Keeps a line, where lines are kept.
-fn keep(progress: &mut Progress, found: Option<Line>) -> Result<(), Memory>
-    ensures ok { OnOk result (progress.new ≡ record progress.old {
-      lines = progress.old.lines ++ turns.kept progress.old.keeps (with_line found []);
-    }) }
-    ensures keeps { progress.new.keeps ≡ progress.old.keeps }
+fn keep(keeps: bool, lines: &mut List<Line>, found: Option<Line>) -> Result<(), Memory>
+    ensures { OnOk result (lines.new ≡ lines.old ++ turns.kept keeps (with_line found [])) }
 {
-    if !progress.keeps {
+    if !keeps {
         return Ok(());
     }
     match found {
         Some(line) => {
-            progress.lines.push(line)?;
+            lines.push(line)?;
             Ok(())
         }
         None => Ok(()),

@@ -6,6 +6,3 @@ use Rattle.sort_check.proofs.turns.turn.Goals as goal
 pub returns-in-Mistyped-clause-stands : goal.returns-in-Mistyped-clause-stands
 returns-in-Mistyped-clause-stands c =
     mistyped_stays c.args.seen.now.items c.args.item.now c.in-Mistyped.fault (rw c.in-Mistyped.is at c.requires) (first_of (search rules, grind (arith, common_steps)))
-
-pub returns-in-Faulty-clause-stands : goal.returns-in-Faulty-clause-stands
-returns-in-Faulty-clause-stands c = c.turn_faulty.ensures c.args.progress.now
