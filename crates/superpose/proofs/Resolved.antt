@@ -1,7 +1,7 @@
 -- Resolution at two literals.
 use Rattle.std.specs.Prelude.{ℕ, ◌+◌, ◌<◌, ◌≤◌, ◌^◌, ◌≡◌, Bool, false, List, ◌++◌, length, map, remove, get_or, Option, Some, None, slice_get, refl}
 use Rattle.std.proofs.Common.{ap, sym, subst, ◌∙◌, arith}
-use Rattle.std.proofs.lemmas.List.{length-reverse, length-append, length-map}
+use Rattle.std.proofs.lemmas.List.{length-reverse, length-append}
 use Rattle.std.proofs.lemmas.List.Elements.{All-append}
 use Rattle.std.proofs.lemmas.Option.{get_or_from_slice_get}
 use Rattle.fof_terms.specs.declared.term.Term.{Term, App}
@@ -128,10 +128,9 @@ lent_at lent xs i x same h is = there_at xs i x h (is ∙ ap (λ ys. get_or ys i
 pub lent_is : {X : Type 0} (lent xs : List X) (i : ℕ) (x y : X) → lent ≡ xs → x ≡ get_or lent i x → slice_get xs i ≡ Some y → x ≡ y
 lent_is lent xs i x y same is at = is ∙ ap (λ ys. get_or ys i x) same ∙ get_or_from_slice_get xs i y x at
 
-pub moved_at : (c d : Clause) (j : ℕ) (lent apart : List Lit) (by : ℕ) (m : Lit) → lent ≡ apart → apart ≡ map (lit_apart by) d.lits → by ≡ length c.sorts → j < length d.lits → m ≡ get_or lent j m → slice_get (apart_from c d.lits) j ≡ Some m
-moved_at c d j lent apart by m same is e h at =
-    let whole : lent ≡ apart_from c d.lits = same ∙ is ∙ ap (λ n. map (lit_apart n) d.lits) e in
-    lent_at lent (apart_from c d.lits) j m whole (let size = length-map d.lits (lit_apart (length c.sorts)) in omega (arith, h)) at
+-- the literal, kept apart
+pub moved_at : (c d : Clause) (j : ℕ) (l m : Lit) (by : ℕ) → slice_get d.lits j ≡ Some l → m ≡ lit_apart by l → by ≡ length c.sorts → slice_get (apart_from c d.lits) j ≡ Some m
+moved_at c d j l m by l_at is e = get_map (lit_apart (length c.sorts)) d.lits j l l_at ∙ ap Some (ap (λ n. lit_apart n l) (sym e) ∙ sym is)
 
 pub paired_as : (a b a' b' : AtomOf) (o : Option (List Pair)) → a ≡ a' → b ≡ b' → ArePairsOf a b o → ArePairsOf a' b' o
 paired_as a b a' b' o e f h = subst (λ x. ArePairsOf x b' o) e (subst (λ x. ArePairsOf a x o) f h)

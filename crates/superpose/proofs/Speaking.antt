@@ -1,10 +1,10 @@
 -- Conclusions have no symbol that their premises lack.
-use Rattle.std.specs.Prelude.{ℕ, ◌+◌, ◌<◌, ◌≡◌, ◌==◌, ◌||◌, Bool, true, false, List, [], ◌∷◌, ◌++◌, length, map, remove, take, drop, Some, slice_get, slice_set, get_or, refl, ◌⊎◌}
-use Rattle.std.specs.List.{All as Each, AllByRecursion, list_any}
+use Rattle.std.specs.Prelude.{ℕ, ◌+◌, ◌<◌, ◌≡◌, ◌==◌, Bool, true, false, List, [], ◌∷◌, length, map, remove, take, drop, Some, slice_get, slice_set, refl}
+use Rattle.std.specs.List.{AllByRecursion, list_any}
 use Rattle.std.proofs.Common.{ap, sym, subst, ◌∙◌, inl, inr, arith, zero, suc}
 use Rattle.std.proofs.lemmas.List.{get_or_past}
 use Rattle.std.proofs.lemmas.List.Elements.{All-append, All-take, All-drop, All-set, All-cons, All-nil, All-map, All-weaker, All-from_recursion}
-use Rattle.std.proofs.lemmas.Option.{slice_get_within, slice_get-get_or, get_or_from_slice_get}
+use Rattle.std.proofs.lemmas.Option.{slice_get_within, get_or_from_slice_get}
 use Rattle.fof_terms.specs.declared.term.Term.{Term, Var, App}
 use Rattle.fof_terms.specs.Lift.{lifted_term}
 use Rattle.fof_terms.specs.Occurs.{occurs_in_term}
@@ -25,7 +25,7 @@ use Rattle.clause_rules.specs.code.PlaceSearch.{go_on, below, set_on, put_below}
 use Rattle.clause_rules.proofs.PlaceLaws.{args_of-App, with_args-App, term_below, put_is_below, shape_of, found_on}
 use Rattle.clause_order.specs.Weights.{as_term}
 use Rattle.unify_terms.specs.Substitution.{image_at}
-use Rattle.superpose.specs.Absent.{stands_in_atom, AreWithout, IsInNeither, IsNotBelow, IsNotInDraft}
+use Rattle.superpose.specs.Absent.{stands_in_atom, AreWithout, IsNotInDraft}
 use Rattle.superpose.specs.Drafts.{Draft}
 use Rattle.superpose.specs.Inferences.{ResolvesAt, SuperposesAt, FactorsAt, ResolvesEquationAt, FactorsEquationsAt, IsDraftOfOne, IsDraftOfTwo}
 use Rattle.superpose.proofs.Wiped.{neither, both_false, none_has, none_mapped, each_lacks, image_lacks, met}

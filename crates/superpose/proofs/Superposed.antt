@@ -81,6 +81,15 @@ module _ (n : ℕ) where
     app = λ h ts all g args e. (ts, ap (λ x. App x ts) (same_head h g (map f ts) args (sym (lifted_term-App n 0 h ts) ∙ e)));
   })
 
+  -- the term at a place is moved with the literal
+  pub part_moved : (place : List ℕ) (k : Lit) (u : Term) → HasPart k place (Some u) → HasPart (lit_apart n k) place (Some (f u))
+  part_moved place k u p = (
+    p.0,
+    map f p.1,
+    ap f p.2 ∙ lifted_term-App n 0 p.0 p.1,
+    ap (term_at place) (moved_args k.atom) ∙ at_moved place (args_of_atom k.atom) ∙ ap (option_map f) p.3,
+  )
+
 module _ (v : Vocabulary) (c d : Clause) (i : ℕ) (flipped : Bool) (j : ℕ) (place : List ℕ) where
   abbrev Is : Draft → Type 0
   Is = SuperposesAt c d i flipped j place
@@ -98,10 +107,13 @@ module _ (v : Vocabulary) (c d : Clause) (i : ℕ) (flipped : Bool) (j : ℕ) (p
       ap (image s) (sym sides.0 ∙ sym p.one) ∙ made.unified ∙ ap (image s) (p.other ∙ sym stood.2) ∙ image_of_lifted s n stood.0 in
       never stood.0 stood.1 s (λ x. s (x + n)) equal
 
-  pub never_part : (target : Lit) → slice_get (apart_from c d.lits) j ≡ Some target → HasPart target place None → IsBestAt v (scope_of_both c d) Is None
+  pub never_part : (target : Lit) → slice_get d.lits j ≡ Some target → HasPart target place None → IsBestAt v (scope_of_both c d) Is None
   never_part target t_at never g e s p made =
-      let same : p.target ≡ target = one_at (apart_from c d.lits) j p.target target p.there t_at in
-      never p.g p.args (ap (lit_term_at place) (sym same) ∙ p.stands)
+      let n = length c.sorts in
+      let moved : p.target ≡ lit_apart n target = one_at (apart_from c d.lits) j p.target (lit_apart n target) p.there (get_map (lit_apart n) d.lits j target t_at) in
+      let stood = stood_at n place target (App p.g p.args) (ap (lit_term_at place) (sym moved) ∙ p.stands) in
+      let was = was_app n stood.0 p.g p.args stood.2 in
+      never p.g was.0 (stood.1 ∙ ap Some was.1)
 
   module _ (hc : IsClause v c) (hd : IsClause v d) (first : IsEligible c.lits i) (second : IsEligible d.lits j) (not_less : (l r : Term) → slice_get c.lits i ≡ Some (equation flipped l r) → IsGreater r l → ⊥) (k target : Lit) (l r u : Term)
       (k_at : slice_get c.lits i ≡ Some k) (k_is : k ≡ equation flipped l r) (there : slice_get (apart_from c d.lits) j ≡ Some target) (part : HasPart target place (Some u))

@@ -6,8 +6,8 @@ use crate::imaging::{images_of, images_of_left};
 use crate::made::Made;
 use crate::naming::{names_of, sorts_of};
 use crate::noting::note_left;
+use crate::reversing::reversed_sorts;
 use clause_form::{Clause, Lit};
-use clause_rules::reversed;
 use fof_terms::SortId;
 use std::alloc::Global;
 use tptp_base::{List, Memory};
@@ -49,7 +49,7 @@ pub fn conclude(
     let subst = Subst { images };
     let lits = images_of_left(alloc, &subst, lits, at, rest)?;
     let sorts = sorts_of(alloc, scope, kept.as_slice())?;
-    let sorts = reversed(alloc, sorts.as_slice())?;
+    let sorts = reversed_sorts(alloc, sorts.as_slice())?;
     Ok(Made {
         clause: Clause { sorts, lits },
         subst,

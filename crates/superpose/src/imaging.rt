@@ -92,9 +92,9 @@ fn image_of(term: &Term, alloc: Global, subst: &Subst) -> Result<Term, Memory>
     }
 }
 
-// The same term.
+/// The same term.
 #[cycle(copied)]
-fn copied(term: &Term, alloc: Global) -> Result<Term, Memory>
+pub fn copied(term: &Term, alloc: Global) -> Result<Term, Memory>
     ensures { IfOk result (λ copy. copy ≡ term.now) }
 {
     match term {

@@ -1,8 +1,11 @@
 //! The pairs of terms that two atoms, or two terms, ask to be made equal.
 ghost use Rattle.std.specs.Prelude.{◌≡◌, ◌∷◌, [], length, IfOk};
+ghost use Rattle.fof_terms.specs.Lift.{lifted_term};
 ghost use Rattle.clause_rules.specs.Ways.{zip_pairs};
 ghost use Rattle.superpose.specs.code.Pairs.{ArePairsOf};
 
+use crate::imaging::copied;
+use crate::moving::moved;
 use clause_form::{AtomOf, Lit};
 use fof_terms::Term;
 use std::alloc::Global;
@@ -66,6 +69,18 @@ fn pairs_of(alloc: Global, first: &[Term], second: &[Term]) -> Result<List<Pair>
         })?;
     }
     Ok(pairs)
+}
+
+/// The one pair of a term and another one, whose variables are moved past so many others.
+pub fn pair_apart(alloc: Global, first: &Term, second: &Term, by: u32) -> Result<List<Pair>, Memory>
+    ensures { IfOk result (λ pairs. pairs ≡ zip_pairs (first.now ∷ []) (lifted_term by 0 second.now ∷ [])) }
+{
+    let mut pairs = Vec::with_capacity(alloc, 1)?;
+    pairs.push(Pair {
+        left: copied(first, alloc)?,
+        right: moved(second, alloc, by)?,
+    })?;
+    Ok(List::from_vec(pairs))
 }
 
 /// The one pair of the two terms.

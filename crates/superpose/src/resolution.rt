@@ -10,12 +10,14 @@ ghost use Rattle.superpose.specs.code.Resolvable.{AreResolvable, NotResolvable};
 use crate::agreeing::may_all_meet;
 use crate::concluding::conclude;
 use crate::made::Made;
+use crate::moving::lit_moved;
 use crate::pairing::pairs_of_lits;
+use crate::reversing::push_reversed;
 use clause_form::{AtomOf, Clause, Lit};
-use clause_rules::{kept_apart, scope_of_clause};
+use clause_rules::kept_apart;
 use fof_terms::{Signature, SortId};
 use std::alloc::Global;
-use tptp_base::Memory;
+use tptp_base::{List, Memory};
 use unify_terms::{Scope, unify};
 
 /// The most general resolvent at the positive literal i of the first clause and the negative literal j of the second
@@ -38,17 +40,20 @@ pub fn resolve_at(
 {
     let lits = c.lits.as_slice();
     let first = &lits[i];
-    if !may_resolve(first, &d.lits.as_slice()[j]) {
+    let second = &d.lits.as_slice()[j];
+    if !may_resolve(first, second) {
         return Ok(None);
     }
-    let mut apart = kept_apart(alloc, sig, d, c.sorts.len() as u32)?;
-    let pairs = match pairs_of_lits(alloc, first, &apart.as_slice()[j])? {
+    let by = c.sorts.len() as u32;
+    let moved = lit_moved(alloc, second, by)?;
+    let pairs = match pairs_of_lits(alloc, first, &moved)? {
         Some(pairs) => pairs,
         None => return Ok(None),
     };
     let scope = scope_of_two(alloc, c, d)?;
     match unify(alloc, sig, &scope, pairs.as_slice())? {
         Some(subst) => {
+            let mut apart = kept_apart(alloc, sig, d, by)?;
             let _gone = apart.remove(j);
             let sorts = scope.sorts.as_slice();
             Ok(Some(conclude(alloc, sorts, &subst, lits, i, apart.as_slice())?))
@@ -80,7 +85,13 @@ fn may_resolve(first: &Lit, second: &Lit) -> bool
 pub fn scope_of_two(alloc: Global, c: &Clause, d: &Clause) -> Result<Scope, Memory>
     ensures { IfOk result (λ scope. (scope.sorts ≡ scope_of_both c.now d.now) × (scope.rigid ≡ 0)) }
 {
-    let mut sorts = scope_of_clause(alloc, c)?;
-    sorts.append(scope_of_clause(alloc, d)?)?;
-    Ok(Scope { sorts, rigid: 0 })
+    let first = c.sorts.as_slice();
+    let second = d.sorts.as_slice();
+    let mut sorts = Vec::with_capacity(alloc, first.len() + second.len())?;
+    push_reversed(first, &mut sorts)?;
+    push_reversed(second, &mut sorts)?;
+    Ok(Scope {
+        sorts: List::from_vec(sorts),
+        rigid: 0,
+    })
 }

@@ -11,7 +11,7 @@ ghost use Rattle.superpose.specs.code.Placed.{AreReplaced, HasPart, NoneStands};
 use crate::agreeing::may_meet;
 use crate::concluding::conclude;
 use crate::made::Made;
-use crate::pairing::pair_of;
+use crate::pairing::pair_apart;
 use crate::resolution::scope_of_two;
 use crate::sides::sides_of;
 use crate::used::Side;
@@ -49,18 +49,20 @@ pub fn superpose_at(
         Some(sides) => sides,
         None => return Ok(None),
     };
-    if !may_stand_at(sides.left, &d.lits.as_slice()[j], place) {
+    let target = &d.lits.as_slice()[j];
+    if !may_stand_at(sides.left, target, place) {
         return Ok(None);
     }
-    let mut apart = kept_apart(alloc, sig, d, c.sorts.len() as u32)?;
-    let part = match part_in(&apart.as_slice()[j], place) {
+    let part = match part_in(target, place) {
         Some(part) => part,
         None => return Ok(None),
     };
-    let pairs = pair_of(alloc, sides.left, part)?;
+    let by = c.sorts.len() as u32;
+    let pairs = pair_apart(alloc, sides.left, part, by)?;
     let scope = scope_of_two(alloc, c, d)?;
     match unify(alloc, sig, &scope, pairs.as_slice())? {
         Some(subst) => {
+            let mut apart = kept_apart(alloc, sig, d, by)?;
             replace(alloc, &mut apart, j, place, sides.right)?;
             let sorts = scope.sorts.as_slice();
             Ok(Some(conclude(alloc, sorts, &subst, lits, side.lit, apart.as_slice())?))
