@@ -1,6 +1,6 @@
 -- Members that are marked, by what was asked.
 use Rattle.std.specs.Prelude.{ℕ, List, ◌++◌, ◌≡◌, Some, slice_get, Bool, true, refl}
-use Rattle.std.proofs.Common.{sym, subst, ◌∙◌}
+use Rattle.std.proofs.Common.{subst, ◌∙◌}
 use Rattle.clause_index.specs.declared.entry.Entry.{Entry}
 use Rattle.saturation.specs.declared.offers.Offer.{Offer}
 use Rattle.saturation.specs.code.Marked.{AllFalse, AreAsked, IsMarked}

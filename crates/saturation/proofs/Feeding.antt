@@ -1,5 +1,5 @@
 -- Terms that are fed to the indexes, or for which these are asked, one by one.
-use Rattle.std.specs.Prelude.{ℕ, ◌+◌, ◌<◌, Bool, true, false, not, List, [], ◌∷◌, ◌++◌, ◌≡◌, map, length, take, Option, Some, None, option_to_list, slice_get, refl}
+use Rattle.std.specs.Prelude.{ℕ, ◌+◌, ◌<◌, Bool, true, false, List, [], ◌∷◌, ◌++◌, ◌≡◌, length, take, Option, Some, None, option_to_list, slice_get, refl}
 use Rattle.std.specs.List.{Contains, flat_map}
 use Rattle.std.proofs.Common.{ap, sym, subst, ◌∙◌, get_or, append_assoc, inl, inr}
 use Rattle.std.proofs.lemmas.List.{take_more, append-nil, map-append}

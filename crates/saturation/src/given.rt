@@ -2,20 +2,22 @@ ghost use Rattle.std.specs.Prelude.{◌≡◌, IfOk};
 ghost use Rattle.saturation.specs.code.Given.{AreGiven};
 
 use crate::member::{Member, Origin};
+use crate::waiting::Waiting;
 use clause_form::Clause;
 use std::alloc::Global;
 use tptp_base::{List, Memory};
 
 /// The inputs, each with its number as origin.
-pub fn given(alloc: Global, inputs: &[Clause]) -> Result<List<Member>, Memory>
+pub fn given(alloc: Global, inputs: &[Clause]) -> Result<List<Waiting>, Memory>
     ensures { IfOk result (AreGiven inputs.now) }
 {
     let mut members = List::new(alloc);
     for at in 0..inputs.len() {
-        members.push(Member {
+        let member = Member {
             clause: inputs[at].copy(alloc)?,
             origin: Origin::Input(number(at)?),
-        })?;
+        };
+        members.push(Waiting::new(alloc, &member)?)?;
     }
     Ok(members)
 }

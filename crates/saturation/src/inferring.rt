@@ -15,6 +15,7 @@ use crate::inferences::Inferences;
 use crate::known::Known;
 use crate::member::Member;
 use crate::pairing::{Premise, add_alone, add_pair};
+use crate::waiting::Waiting;
 use clause_form::Clause;
 use clause_index::Partners;
 use fof_terms::Signature;
@@ -33,7 +34,7 @@ pub fn inferences_with<R: Inferences, I: Partners>(
     used: &Used,
     literals: &I,
     terms: &I,
-) -> Result<List<Member>, Memory>
+) -> Result<List<Waiting>, Memory>
     requires clauses { Each (IsClause signature.now) (clauses_of list.now) }
     requires last_clause { IsClause signature.now last.now }
     requires known { AreKnown (clauses_of list.now) known.now }
@@ -79,7 +80,7 @@ fn add_marked<R: Inferences>(
     last: &Premise<'_>,
     into: &[bool],
     from: &[bool],
-    members: &mut List<Member>,
+    members: &mut List<Waiting>,
 ) -> Result<(), Memory>
     requires clauses { Each (IsClause signature.now) (clauses_of list.now) }
     requires known { AreKnown (clauses_of list.now) known.now }

@@ -14,6 +14,7 @@ use crate::inferences::Inferences;
 use crate::inferring::inferences_with;
 use crate::known::{Known, known_of};
 use crate::member::Member;
+use crate::waiting::Waiting;
 use clause_form::Clause;
 use clause_index::Partners;
 use fof_terms::Signature;
@@ -24,7 +25,7 @@ use tptp_base::{List, Memory};
 #[derive(Drop)]
 pub struct Arrival {
     pub facts: Known,
-    pub made: List<Member>,
+    pub made: List<Waiting>,
 }
 
 /// Makes the clause the last member of the list, enters its terms, and answers what it makes with the list.
@@ -37,7 +38,7 @@ pub fn join<R: Inferences, I: Partners>(
     known: &mut List<Known>,
     literals: &mut I,
     terms: &mut I,
-) -> Result<List<Member>, Memory>
+) -> Result<List<Waiting>, Memory>
     requires clauses { Each (IsClause signature.now) (clauses_of list.old) }
     requires next_clause { IsClause signature.now next.clause }
     requires known { AreKnown (clauses_of list.old) known.old }

@@ -6,6 +6,7 @@ ghost use Rattle.saturation.specs.code.Named.{AreNamed, FollowFromOne, FollowIf}
 
 use crate::inferences::Inferences;
 use crate::member::{Member, Origin};
+use crate::waiting::Waiting;
 use clause_form::Clause;
 use fof_terms::Signature;
 use std::alloc::Global;
@@ -26,7 +27,7 @@ pub fn add_alone<R: Inferences>(
     rules: &R,
     signature: &Signature,
     c: &Premise<'_>,
-    members: &mut List<Member>,
+    members: &mut List<Waiting>,
 ) -> Result<(), Memory>
     requires c { IsClause signature.now c.now.clause.now }
     requires used { AreUsed c.now.clause.now.lits c.now.used.now }
@@ -34,7 +35,7 @@ pub fn add_alone<R: Inferences>(
 {
     let mut made = List::new(alloc);
     rules.add_from_one(alloc, signature, c.clause, c.used, &mut made)?;
-    name_all(made, c.number, c.number, members)
+    name_all(alloc, made, c.number, c.number, members)
 }
 
 /// Adds the inferences from the two clauses, if it is wanted.
@@ -45,7 +46,7 @@ pub fn add_pair<R: Inferences>(
     wanted: bool,
     c: &Premise<'_>,
     d: &Premise<'_>,
-    members: &mut List<Member>,
+    members: &mut List<Waiting>,
 ) -> Result<(), Memory>
     requires c { IsClause signature.now c.now.clause.now }
     requires d { IsClause signature.now d.now.clause.now }
@@ -61,23 +62,25 @@ pub fn add_pair<R: Inferences>(
     rules.add_from_two(
         alloc, signature, c.clause, c.used, d.clause, d.used, &mut made,
     )?;
-    name_all(made, c.number, d.number, members)
+    name_all(alloc, made, c.number, d.number, members)
 }
 
 // Adds the clauses that were made from the two members of these numbers.
 fn name_all(
+    alloc: Global,
     mut made: List<Made>,
     first: u32,
     second: u32,
-    members: &mut List<Member>,
+    members: &mut List<Waiting>,
 ) -> Result<(), Memory>
     ensures { OnOk result (AreNamed made first second members.old members.new) }
 {
     while let Some(next) = made.pop() {
-        members.push(Member {
+        let member = Member {
             clause: next.clause,
             origin: Origin::Inferred(first, second, next.subst),
-        })?;
+        };
+        members.push(Waiting::new(alloc, &member)?)?;
     }
     Ok(())
 }

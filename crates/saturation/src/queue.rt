@@ -7,7 +7,6 @@ ghost use Rattle.saturation.specs.code.Search.{IsTaken, HasJoined};
 
 use crate::waiting::Waiting;
 use indexmap::IndexMap;
-use packed_clauses::PackedClause;
 use std::alloc::Global;
 use std::collections::BTreeMap;
 use std::marker::Model;
@@ -18,7 +17,7 @@ use tptp_base::Memory;
 #[derive(Drop)]
 pub struct Queue {
     waiting: BTreeMap<(u64, u64), Waiting>,
-    numbers: IndexMap<u64, u64>,
+    keys: IndexMap<u64, (u64, u64)>,
     next: u64,
 }
 
@@ -45,27 +44,27 @@ impl Queue {
     {
         Queue {
             waiting: BTreeMap::new(alloc),
-            numbers: IndexMap::new(alloc),
+            keys: IndexMap::new(alloc),
             next: 0,
         }
     }
 
-    /// Whether a member waits that has this clause, which has this weight and sum. One may be overlooked.
-    pub fn has(&self, weight: u64, sum: u64, clause: &PackedClause) -> bool
-        ensures { IsTrue result → (m : Waits) × Contains self.now m × (m.clause ≡ clause.now) }
+    /// Whether a member waits that has the clause of this one, which has this sum. One may be overlooked.
+    pub fn has(&self, sum: u64, member: &Waiting) -> bool
+        ensures { IsTrue result → (m : Waits) × Contains self.now m × (m.clause ≡ member.now.clause) }
     {
-        match self.numbers.get(&sum) {
-            Some(number) => self.has_at(weight, *number, clause),
+        match self.keys.get(&sum) {
+            Some(key) => self.has_at(*key, member),
             None => false,
         }
     }
 
-    // Whether the member of this weight and number waits, and has this clause.
-    fn has_at(&self, weight: u64, number: u64, clause: &PackedClause) -> bool
-        ensures { IsTrue result → (m : Waits) × Contains self.now m × (m.clause ≡ clause.now) }
+    // Whether the member of this weight and number waits, and has the clause of the other.
+    fn has_at(&self, key: (u64, u64), member: &Waiting) -> bool
+        ensures { IsTrue result → (m : Waits) × Contains self.now m × (m.clause ≡ member.now.clause) }
     {
-        match self.waiting.get(&(weight, number)) {
-            Some(waiting) => waiting.has_clause(clause),
+        match self.waiting.get(&key) {
+            Some(waiting) => waiting.has_clause_of(member),
             None => false,
         }
     }
@@ -79,7 +78,7 @@ impl Queue {
             return Err(Memory);
         }
         let key = (weight, self.next);
-        self.numbers.insert(sum, self.next)?;
+        self.keys.insert(sum, key)?;
         self.waiting.insert(key, member)?;
         self.next += 1;
         Ok(())

@@ -6,14 +6,13 @@ use crate::queue::Queue;
 use crate::waiting::Waiting;
 use clause_form::is_trivial;
 use clause_order::clause_weight_of;
-use packed_clauses::PackedClause;
 use std::alloc::Global;
 use tptp_base::{List, Memory};
 
 /// Sends each member where it belongs, up to one that is empty.
 pub fn sift(
     alloc: Global,
-    mut todo: List<Member>,
+    mut todo: List<Waiting>,
     bound: u64,
     queue: &mut Queue,
     heavy: &mut List<Waiting>,
@@ -21,10 +20,10 @@ pub fn sift(
     ensures { IfOk result (Sifts bound todo queue.old heavy.old queue.new heavy.new) }
 {
     while let Some(next) = todo.pop() {
-        if next.clause.lits.is_empty() {
-            return Ok(Some(next));
+        if next.is_empty() {
+            return Ok(Some(next.member(alloc)?));
         }
-        place(alloc, &next, bound, queue, heavy)?;
+        place(alloc, next, bound, queue, heavy)?;
     }
     Ok(None)
 }
@@ -32,26 +31,25 @@ pub fn sift(
 // Sends a member to the queue or to what is too heavy. Drops it where an equal clause waits, or where it is trivial.
 fn place(
     alloc: Global,
-    member: &Member,
+    member: Waiting,
     bound: u64,
     queue: &mut Queue,
     heavy: &mut List<Waiting>,
 ) -> Result<(), Memory>
-    ensures { OnOk result (Places bound member.now queue.old heavy.old queue.new heavy.new) }
+    ensures { OnOk result (Places bound member queue.old heavy.old queue.new heavy.new) }
 {
-    let weight = clause_weight_of(&member.clause);
-    let clause = PackedClause::new(alloc, &member.clause)?;
-    let sum = clause.sum();
-    if queue.has(weight, sum, &clause) {
+    let sum = member.sum();
+    if queue.has(sum, &member) {
         return Ok(());
     }
-    if is_trivial(&member.clause) {
+    let clause = member.clause(alloc)?;
+    if is_trivial(&clause) {
         return Ok(());
     }
-    let waiting = Waiting::new(alloc, clause, member)?;
+    let weight = clause_weight_of(&clause);
     if weight > bound {
-        Ok(heavy.push(waiting)?)
+        Ok(heavy.push(member)?)
     } else {
-        queue.push(weight, sum, waiting)
+        queue.push(weight, sum, member)
     }
 }

@@ -1,5 +1,5 @@
 //! Members in few bytes, while they wait.
-ghost use Rattle.std.specs.Prelude.{◌≡◌, IfOk, IsTrue};
+ghost use Rattle.std.specs.Prelude.{◌≡◌, ◌↔◌, IfOk, IsTrue, []};
 ghost use Rattle.saturation.specs.code.Packed.{origin_of};
 
 use crate::member::{Member, Origin};
@@ -24,9 +24,11 @@ pub enum Source {
 pub struct Waiting {
     clause: PackedClause,
     source: Source,
+    empty: bool,
 }
 
 impl Model for Waiting {
+    ghost use Rattle.std.specs.Prelude.{◌≡◌, ◌↔◌, IsTrue, []};
     ghost use Rattle.std.specs.Coded.{codes};
     ghost use Rattle.saturation.specs.declared.member.Member.{Member as Waits};
     ghost use Rattle.saturation.specs.contracts.member.Member as member;
@@ -37,16 +39,34 @@ impl Model for Waiting {
     ghost coded = { Prim.hlevel (codes, member.the_row.coded) };
 
     ghost view = { λ w. member_of w.clause w.source };
+
+    ghost invariant = { λ w. IsTrue w.empty ↔ (w.clause.lits ≡ []) };
 }
 
 impl Waiting {
-    /// The member, whose clause is this one, as one that waits.
-    pub fn new(alloc: Global, clause: PackedClause, member: &Member) -> Result<Waiting, Memory>
-        requires { clause ≡ member.now.clause }
+    /// The member, as one that waits.
+    pub fn new(alloc: Global, member: &Member) -> Result<Waiting, Memory>
         ensures { IfOk result (λ waiting. waiting ≡ member.now) }
     {
+        let clause = PackedClause::new(alloc, &member.clause)?;
         let source = source_from(alloc, &member.origin)?;
-        Ok(Waiting { clause, source })
+        Ok(Waiting {
+            clause,
+            source,
+            empty: member.clause.lits.is_empty(),
+        })
+    }
+
+    /// Whether its clause is empty.
+    pub fn is_empty(&self) -> bool
+        ensures { IsTrue result ↔ (self.now.clause.lits ≡ []) }
+    {
+        self.empty
+    }
+
+    /// A sum of its clause.
+    pub fn sum(&self) -> u64 {
+        self.clause.sum()
     }
 
     /// Its clause.
@@ -67,11 +87,11 @@ impl Waiting {
         })
     }
 
-    /// Whether it has this clause.
-    pub fn has_clause(&self, clause: &PackedClause) -> bool
-        ensures { IsTrue result → self.now.clause ≡ clause.now }
+    /// Whether it has the clause of the other.
+    pub fn has_clause_of(&self, other: &Waiting) -> bool
+        ensures { IsTrue result → self.now.clause ≡ other.now.clause }
     {
-        self.clause.is(clause)
+        self.clause.is(&other.clause)
     }
 }
 

@@ -1,4 +1,4 @@
-use Rattle.saturation.proofs.Feeding.{side_not_asked, asked_one, asked_nothing}
+use Rattle.saturation.proofs.Feeding.{side_not_asked}
 use Rattle.saturation.proofs.asking.ask_side.Goals as goal
 
 pub returns-then-not-positive : goal.returns-then-not-positive

@@ -1,4 +1,4 @@
-use Rattle.saturation.proofs.Feeding.{spot_not_asked, asked_one, asked_nothing}
+use Rattle.saturation.proofs.Feeding.{spot_not_asked}
 use Rattle.saturation.proofs.asking.ask_spot.Goals as goal
 
 pub returns-then-positive : goal.returns-then-positive

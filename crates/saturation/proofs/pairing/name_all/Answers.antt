@@ -1,3 +1,5 @@
+use Rattle.std.proofs.Common.{◌∙◌, ◌++◌, ◌∷◌, [], ap}
+use Rattle.saturation.specs.declared.member.Member.{Member}
 use Rattle.saturation.proofs.Naming.{naming_start, naming_more, naming_end}
 use Rattle.saturation.proofs.pairing.name_all.Goals as goal
 
@@ -6,7 +8,13 @@ loop-next-init c = naming_start c.args.made c.args.first c.args.second c.args.me
 
 pub loop-next-preserved : goal.loop-next-preserved
 loop-next-preserved c =
-    naming_more c.args.made c.loop-next.made c.pop.new.self c.in-Some.next c.args.first c.args.second c.args.members.now c.loop-next.members c.push.new.self c.loop-next.invariant c.in-Some.ensures c.in_ok-push.ensures.ok
+    naming_more c.args.made c.loop-next.made c.pop.new.self c.in-Some.next c.args.first c.args.second c.args.members.now c.loop-next.members c.push.new.self c.loop-next.invariant c.in-Some.ensures
+    (c.in_ok-push.ensures.ok ∙ ap (λ (m : Member). c.loop-next.members ++ m ∷ []) c.in_ok-new.ensures)
+
+pub loop-next-preserved-in_ok-push : goal.loop-next-preserved-in_ok-push
+loop-next-preserved-in_ok-push c =
+    naming_more c.args.made c.loop-next.made c.pop.new.self c.in-Some.next c.args.first c.args.second c.args.members.now c.loop-next.members c.push.new.self c.loop-next.invariant c.in-Some.ensures
+    (c.in_ok-push.ensures.ok ∙ ap (λ (m : Member). c.loop-next.members ++ m ∷ []) c.in_ok-new.ensures)
 
 pub returns : goal.returns
 returns c = naming_end c.args.made c.loop-next.made c.args.first c.args.second c.args.members.now c.loop-next.members c.loop-next.invariant c.in_default.ensures.0

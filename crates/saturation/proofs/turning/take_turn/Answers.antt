@@ -1,4 +1,4 @@
-use Rattle.std.proofs.lemmas.Result.{IfOk-weaker, on_ok_weaker}
+use Rattle.std.proofs.lemmas.Result.{IfOk-weaker}
 use Rattle.saturation.proofs.turning.take_turn.Goals as goal
 
 pub returns-clause-turn : goal.returns-clause-turn
