@@ -7,9 +7,9 @@ ghost use Rattle.proof_check.specs.code.Reaching.{Reaches, Shows, ShowsUnder, Sh
 use crate::context::{Context, Hypotheses, Reach, hypothesis};
 use crate::finding::Shown;
 use crate::nodes::{
-    all_e, all_i, and_e, and_i, ex_e, ex_i, iff_i, iff_l, iff_r, imp_e, imp_i, inhabit, not_e,
-    not_i, or_e, or_i, raa, subst,
+    and_e, and_i, iff_i, iff_l, iff_r, imp_e, imp_i, not_e, not_i, or_e, or_i, raa,
 };
+use crate::quantifier_nodes::{all_e, all_i, ex_e, ex_i, inhabit, subst};
 use crate::quantifiers::{has_room, reflexive};
 use crate::rules::line;
 use crate::theory::Theory;

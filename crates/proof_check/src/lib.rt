@@ -10,6 +10,7 @@ mod finding;
 mod joint;
 mod marks;
 mod nodes;
+mod quantifier_nodes;
 mod quantifiers;
 mod rules;
 mod theory;

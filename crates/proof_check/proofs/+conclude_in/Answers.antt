@@ -85,19 +85,19 @@ deduction::under-returns t c =
     let fits : Sorted c.args.reach.now.theory.now.vocabulary (scope_sorts c.args.reach.now.scope.now) c.args.assumed.now = rw c.signature.ensures at (c.if-not-well_sorted_in.ensures.0 refl) in
     ok_map c.conclude_in.result (λ r k. under_yes c.args.reach.now.theory.now (scope_sorts c.args.reach.now.scope.now) (hypotheses c.args.reach.now.hyps.now) c.args.assumed.now c.args.part.now r fits k) (rw hypotheses-Under at c.conclude_in.ensures)
 
-pub nodes::all_e-specialized-requires : goal.nodes::all_e-specialized-requires
-nodes::all_e-specialized-requires t c = shown_fits c.args.reach.now.theory.now (scope_sorts c.args.reach.now.scope.now) (hypotheses c.args.reach.now.hyps.now) _ _ c.in_ok-shown-in_default.ensures
+pub quantifier_nodes::all_e-specialized-requires : goal.quantifier_nodes::all_e-specialized-requires
+quantifier_nodes::all_e-specialized-requires t c = shown_fits c.args.reach.now.theory.now (scope_sorts c.args.reach.now.scope.now) (hypotheses c.args.reach.now.hyps.now) _ _ c.in_ok-shown-in_default.ensures
 
 pub nodes::imp_i-returns : goal.nodes::imp_i-returns
 nodes::imp_i-returns t c = ok_map c.implied.result (λ r k. k c.args.reach.now.theory.now (scope_sorts c.args.reach.now.scope.now) (hypotheses c.args.reach.now.hyps.now) c.args.part.now c.in_ok-shown.ensures) c.implied.ensures
 
-pub nodes::ex_e-returns-in-None : goal.nodes::ex_e-returns-in-None
-nodes::ex_e-returns-in-None t c =
+pub quantifier_nodes::ex_e-returns-in-None : goal.quantifier_nodes::ex_e-returns-in-None
+quantifier_nodes::ex_e-returns-in-None t c =
     let told : Concludes c.args.reach.now.theory.now (scope_sorts c.args.reach.now.scope.now) (hypotheses c.args.reach.now.hyps.now) c.in-ExE.part c.in_ok-shown.shown = rw c.get.ensures at c.in_ok-shown.ensures in
     rw c.in-ExE.is (ex_e_none c.args.reach.now.theory.now (scope_sorts c.args.reach.now.scope.now) (hypotheses c.args.reach.now.hyps.now) c.in-ExE.goal c.in-ExE.part c.in-ExE.rest c.in_ok-shown.shown told c.in-None.ensures.none)
 
-pub nodes::ex_e-returns : goal.nodes::ex_e-returns
-nodes::ex_e-returns t c =
+pub quantifier_nodes::ex_e-returns : goal.quantifier_nodes::ex_e-returns
+quantifier_nodes::ex_e-returns t c =
     let told : Concludes c.args.reach.now.theory.now (scope_sorts c.args.reach.now.scope.now) (hypotheses c.args.reach.now.hyps.now) c.in-ExE.part c.in_ok-shown.shown = rw c.get.ensures at c.in_ok-shown.ensures in
     let rest : ConcludesUnder c.args.reach.now.theory.now (c.in-Some.sort ∷ scope_sorts c.args.reach.now.scope.now) (all_over (hypotheses c.args.reach.now.hyps.now)) c.in-Some.body.now c.in-ExE.rest c.in_ok-found-in-Some.found = rw c.get-in-Some.ensures at c.in_ok-found-in-Some.ensures in
     rw c.in-ExE.is (ok_map c.same_over.result (λ r k. ex_e_some c.args.reach.now.theory.now (scope_sorts c.args.reach.now.scope.now) (hypotheses c.args.reach.now.hyps.now) c.in-ExE.goal c.in-ExE.part c.in-ExE.rest c.in_ok-shown.shown c.in_ok-found-in-Some.found r c.in-Some.sort c.in-Some.body.now told c.in-Some.ensures.some rest k) (rw c.get-in-Some-2.ensures at c.same_over.ensures))
@@ -111,8 +111,8 @@ nodes::iff_i-returns t c =
     = rw (c.get-5.ensures, c.get-6.ensures) at (c.equivalent.ensures c.args.reach.now.theory.now (scope_sorts c.args.reach.now.scope.now) (hypotheses c.args.reach.now.hyps.now) c.in-IffI.there c.in-IffI.back) in
     rw c.in-IffI.is (rule forth back)
 
-pub nodes::inhabit-returns : goal.nodes::inhabit-returns
-nodes::inhabit-returns t c = ok_map c.same_over.result (λ r k. inhabit_shown c.args.reach.now.theory.now (scope_sorts c.args.reach.now.scope.now) (hypotheses c.args.reach.now.hyps.now) c.args.sort c.args.goal.now c.args.part.now c.in_ok-shown.shown r c.in_ok-shown.ensures k) c.same_over.ensures
+pub quantifier_nodes::inhabit-returns : goal.quantifier_nodes::inhabit-returns
+quantifier_nodes::inhabit-returns t c = ok_map c.same_over.result (λ r k. inhabit_shown c.args.reach.now.theory.now (scope_sorts c.args.reach.now.scope.now) (hypotheses c.args.reach.now.hyps.now) c.args.sort c.args.goal.now c.args.part.now c.in_ok-shown.shown r c.in_ok-shown.ensures k) c.same_over.ensures
 
 pub nodes::or_e-returns-in-None : goal.nodes::or_e-returns-in-None
 nodes::or_e-returns-in-None t c =
@@ -130,8 +130,8 @@ nodes::raa-returns t c =
     let told : ConcludesUnder c.args.reach.now.theory.now (scope_sorts c.args.reach.now.scope.now) (hypotheses c.args.reach.now.hyps.now) (Not c.args.goal.now) c.args.part.now c.in_ok-shown.shown = rw (c.get.ensures, c.in_ok-denied.ensures) at c.in_ok-shown.ensures in
     ok_map c.kept.result (λ r k. raa_shown c.args.reach.now.theory.now (scope_sorts c.args.reach.now.scope.now) (hypotheses c.args.reach.now.hyps.now) c.args.goal.now c.args.part.now c.in_ok-shown.shown c.is_falsehood.result r told c.is_falsehood.ensures k) c.kept.ensures
 
-pub nodes::subst-substituted-requires-clause-sorted : goal.nodes::subst-substituted-requires-clause-sorted
-nodes::subst-substituted-requires-clause-sorted t c = shown_fits c.args.reach.now.theory.now (scope_sorts c.args.reach.now.scope.now) (hypotheses c.args.reach.now.hyps.now) _ _ c.in_ok-sides.ensures
+pub quantifier_nodes::subst-substituted-requires-clause-sorted : goal.quantifier_nodes::subst-substituted-requires-clause-sorted
+quantifier_nodes::subst-substituted-requires-clause-sorted t c = shown_fits c.args.reach.now.theory.now (scope_sorts c.args.reach.now.scope.now) (hypotheses c.args.reach.now.hyps.now) _ _ c.in_ok-sides.ensures
 
 pub nodes::and_i-loop-part-init : goal.nodes::and_i-loop-part-init
 nodes::and_i-loop-part-init t c = subst (AllFound c.args.reach.now.theory.now (scope_sorts c.args.reach.now.scope.now) (hypotheses c.args.reach.now.hyps.now) []) (sym c.new-forms.ensures) (found_none c.args.reach.now.theory.now (scope_sorts c.args.reach.now.scope.now) (hypotheses c.args.reach.now.hyps.now))
@@ -161,5 +161,5 @@ pub nodes::and_i-returns : goal.nodes::and_i-returns
 nodes::and_i-returns t c = ok_map c.conjoined.result (λ r e. and_i_some c.args.reach.now.theory.now (scope_sorts c.args.reach.now.scope.now) (hypotheses c.args.reach.now.hyps.now) c.args.parts.now (Some c.loop-part.forms) r c.loop-part.forms c.requires.scope_fits
     (found_all c.args.reach.now.theory.now (scope_sorts c.args.reach.now.scope.now) (hypotheses c.args.reach.now.hyps.now) c.args.parts.now c.loop-part.forms (subst (λ ps. AllFound c.args.reach.now.theory.now (scope_sorts c.args.reach.now.scope.now) (hypotheses c.args.reach.now.hyps.now) ps c.loop-part.forms) (take_all c.loop-part.part-index c.args.parts.now c.loop-part-test.false) c.loop-part.invariant)) refl e) c.conjoined.ensures
 
-pub nodes::chain_of-without_terms-requires : goal.nodes::chain_of-without_terms-requires
-nodes::chain_of-without_terms-requires t c = λ a e. (shown_fits c.args.reach.now.theory.now (scope_sorts c.args.reach.now.scope.now) (hypotheses c.args.reach.now.hyps.now) _ _ c.in_ok-shown-in_default.ensures a e).few_binders
+pub quantifier_nodes::chain_of-without_terms-requires : goal.quantifier_nodes::chain_of-without_terms-requires
+quantifier_nodes::chain_of-without_terms-requires t c = λ a e. (shown_fits c.args.reach.now.theory.now (scope_sorts c.args.reach.now.scope.now) (hypotheses c.args.reach.now.hyps.now) _ _ c.in_ok-shown-in_default.ensures a e).few_binders
