@@ -1,12 +1,12 @@
 -- What is written is read again.
-use Rattle.std.specs.Prelude.{ℕ, ◌+◌, ◌*◌, ◌-◌, ◌/◌, ◌%◌, ◌<◌, ◌≤◌, ◌≡◌, ◌⊎◌, Bool, true, false, List, [], ◌∷◌, ◌++◌, Option, Some, None, take, length, get_or, refl}
-use Rattle.std.specs.List.{AllByRecursion, fold, flat_map}
-use Rattle.std.proofs.Common.{ap, sym, subst, ◌∙◌, arith, zero, suc, inl, inr, append_assoc}
+use Rattle.std.specs.Prelude.{ℕ, ◌+◌, ◌*◌, ◌-◌, ◌/◌, ◌%◌, ◌<◌, ◌≤◌, ◌≡◌, ◌⊎◌, Bool, true, false, List, [], ◌∷◌, ◌++◌, Option, Some, take, length, get_or, refl}
+use Rattle.std.specs.List.{AllByRecursion, fold}
+use Rattle.std.proofs.Common.{ap, sym, ◌∙◌, arith, suc, inl, inr, append_assoc}
 use Rattle.std.proofs.lemmas.Bool.{cases_lt}
 use Rattle.std.proofs.lemmas.List.{append-nil, take_more}
 use Rattle.std.proofs.lemmas.List.Sums.{fold-append}
 use Rattle.std.proofs.lemmas.Nat.{div-add-mod'}
-use Rattle.fof_terms.specs.declared.term.Term.{Term, Var, App}
+use Rattle.fof_terms.specs.declared.term.Term.{Term, App}
 use Rattle.fof_terms.proofs.Induction.{term_induction}
 use Rattle.clause_form.specs.declared.clause.AtomOf.{AtomOf}
 use Rattle.clause_form.specs.declared.clause.AtomOf.TheVariants.{Pred, Eq, True, False}
@@ -19,7 +19,7 @@ use Rattle.packed_clauses.specs.declared.piece.Kind.TheVariants.{Sort, Variable,
 use Rattle.packed_clauses.specs.declared.reading.Reader.{Reader}
 use Rattle.packed_clauses.specs.Reading.{kind_at}
 use Rattle.packed_clauses.specs.code.Spelling.{code, digits, spelled_piece, spelled_term, spelled_terms, spelled_atom, spelled_sorts, spelled_lits, spelled_clause}
-use Rattle.packed_clauses.specs.Reading.{nothing, with_term, with_lit, ended, equation_of, built, between, digit_read, byte_read, taken, read_from, clause_read, terms_read}
+use Rattle.packed_clauses.specs.Reading.{nothing, with_term, ended, built, between, digit_read, taken, read_from, clause_read, terms_read}
 use Rattle.packed_clauses.proofs.Spelled.{spelled-Var, spelled-App, one_digit, are_two_digits, are_five_digits}
 
 -- a piece in the midst of its number
@@ -195,6 +195,11 @@ clause_again c =
     (then nothing (whole c.sorts []) (whole c.sorts c.lits) (spelled_sorts c.sorts) (spelled_lits c.lits) (sorts_read [] c.sorts) (lits_read c.sorts [] c.lits)) where
       of_reader : Reader → Clause
       of_reader r = record { sorts = r.builder.sorts; lits = r.builder.lits }
+
+-- the same as the code has it
+pub packed_again : (c : Clause) (none bytes slice kept : List ℕ) → none ≡ [] → bytes ≡ none ++ spelled_clause c → slice ≡ bytes → kept ≡ slice → clause_read kept ≡ c
+packed_again c none bytes slice kept empty written lent copied =
+    ap clause_read (copied ∙ lent ∙ written ∙ ap (λ (xs : List ℕ). xs ++ spelled_clause c) empty) ∙ clause_again c
 
 pub terms_are_again : (ts : List Term) → terms_read (spelled_terms ts) ≡ ts
 unfolding read_from

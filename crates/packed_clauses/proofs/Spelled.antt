@@ -1,7 +1,7 @@
 -- Lemmas on what numbers, terms and clauses are written as.
 use Rattle.std.specs.Prelude.{ℕ, ◌-◌, ◌<◌, ◌≤◌, List, [], ◌∷◌, ◌++◌, ◌≡◌, map, refl}
-use Rattle.std.specs.List.{concat, flat_map}
-use Rattle.std.proofs.Common.{ap, sym, ◌∙◌, append_assoc, arith, zero, suc}
+use Rattle.std.specs.List.{concat}
+use Rattle.std.proofs.Common.{ap, sym, ◌∙◌, append_assoc, arith, suc}
 use Rattle.fof_terms.specs.declared.term.Term.{Term, Var, App}
 use Rattle.fof_terms.proofs.Trees.{fold-Var, fold-App}
 use Rattle.packed_clauses.specs.declared.piece.Kind.TheVariants.{Variable, Open, Close}

@@ -2,6 +2,7 @@
 #![tactic(auto)]
 
 mod building;
+mod imaging;
 mod packing;
 mod piece;
 mod reading;

@@ -16,8 +16,8 @@ pub fn write_clause(clause: &Clause, bytes: &mut Text) -> Result<(), Memory>
     write_lits(clause.lits.as_slice(), bytes)
 }
 
-// Writes the sorts of variables.
-fn write_sorts(sorts: &[SortId], bytes: &mut Text) -> Result<(), Memory>
+/// Writes the sorts of variables.
+pub fn write_sorts(sorts: &[SortId], bytes: &mut Text) -> Result<(), Memory>
     ensures { OnOk result (bytes.new ≡ bytes.old ++ spelled_sorts sorts.now) }
 {
     for sort in sorts {
@@ -55,10 +55,10 @@ fn write_atom(positive: bool, atom: &AtomOf, bytes: &mut Text) -> Result<(), Mem
     }
 }
 
-// Writes the term.
+/// Writes the term.
 #[tactic(auto, using(crate::proofs::Spelled::spelled_equations))]
 #[cycle(write_term)]
-fn write_term(term: &Term, bytes: &mut Text) -> Result<(), Memory>
+pub fn write_term(term: &Term, bytes: &mut Text) -> Result<(), Memory>
     ensures { OnOk result (bytes.new ≡ bytes.old ++ spelled_term term.now) }
 {
     match term {
@@ -82,8 +82,8 @@ pub fn write_terms(terms: &[Term], bytes: &mut Text) -> Result<(), Memory>
     Ok(())
 }
 
-// Writes the piece: its kind, and its number.
-fn write_piece(kind: Kind, number: u32, bytes: &mut Text) -> Result<(), Memory>
+/// Writes the piece: its kind, and its number.
+pub fn write_piece(kind: Kind, number: u32, bytes: &mut Text) -> Result<(), Memory>
     ensures { OnOk result (bytes.new ≡ bytes.old ++ spelled_piece kind number) }
 {
     bytes.push(code_of(kind))?;

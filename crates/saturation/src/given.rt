@@ -1,7 +1,6 @@
 ghost use Rattle.std.specs.Prelude.{◌≡◌, IfOk};
 ghost use Rattle.saturation.specs.code.Given.{AreGiven};
 
-use crate::member::{Member, Origin};
 use crate::waiting::Waiting;
 use clause_form::Clause;
 use std::alloc::Global;
@@ -13,11 +12,7 @@ pub fn given(alloc: Global, inputs: &[Clause]) -> Result<List<Waiting>, Memory>
 {
     let mut members = List::new(alloc);
     for at in 0..inputs.len() {
-        let member = Member {
-            clause: inputs[at].copy(alloc)?,
-            origin: Origin::Input(number(at)?),
-        };
-        members.push(Waiting::new(alloc, &member)?)?;
+        members.push(Waiting::given(alloc, &inputs[at], number(at)?)?)?;
     }
     Ok(members)
 }

@@ -5,7 +5,6 @@ ghost use Rattle.superpose.specs.Used.{AreUsed};
 ghost use Rattle.saturation.specs.code.Named.{AreNamed, FollowFromOne, FollowIf};
 
 use crate::inferences::Inferences;
-use crate::member::{Member, Origin};
 use crate::waiting::Waiting;
 use clause_form::Clause;
 use fof_terms::Signature;
@@ -35,7 +34,7 @@ pub fn add_alone<R: Inferences>(
 {
     let mut made = List::new(alloc);
     rules.add_from_one(alloc, signature, c.clause, c.used, &mut made)?;
-    name_all(alloc, made, c.number, c.number, members)
+    name_all(made, c.number, c.number, members)
 }
 
 /// Adds the inferences from the two clauses, if it is wanted.
@@ -62,12 +61,11 @@ pub fn add_pair<R: Inferences>(
     rules.add_from_two(
         alloc, signature, c.clause, c.used, d.clause, d.used, &mut made,
     )?;
-    name_all(alloc, made, c.number, d.number, members)
+    name_all(made, c.number, d.number, members)
 }
 
 // Adds the clauses that were made from the two members of these numbers.
 fn name_all(
-    alloc: Global,
     mut made: List<Made>,
     first: u32,
     second: u32,
@@ -76,11 +74,7 @@ fn name_all(
     ensures { OnOk result (AreNamed made first second members.old members.new) }
 {
     while let Some(next) = made.pop() {
-        let member = Member {
-            clause: next.clause,
-            origin: Origin::Inferred(first, second, next.subst),
-        };
-        members.push(Waiting::new(alloc, &member)?)?;
+        members.push(Waiting::inferred(first, second, next))?;
     }
     Ok(())
 }

@@ -1,12 +1,15 @@
 //! Members in few bytes, while they wait.
 ghost use Rattle.std.specs.Prelude.{◌≡◌, ◌↔◌, IfOk, IsTrue, []};
+ghost use Rattle.saturation.specs.code.Named.{named};
 ghost use Rattle.saturation.specs.code.Packed.{origin_of};
+ghost use Rattle.saturation.specs.declared.member.Origin.TheVariants.{Input};
 
 use crate::member::{Member, Origin};
 use clause_form::Clause;
 use packed_clauses::{PackedClause, PackedTerms};
 use std::alloc::Global;
 use std::marker::Model;
+use superpose::Made;
 use tptp_base::Memory;
 use unify_terms::Subst;
 
@@ -24,11 +27,9 @@ pub enum Source {
 pub struct Waiting {
     clause: PackedClause,
     source: Source,
-    empty: bool,
 }
 
 impl Model for Waiting {
-    ghost use Rattle.std.specs.Prelude.{◌≡◌, ◌↔◌, IsTrue, []};
     ghost use Rattle.std.specs.Coded.{codes};
     ghost use Rattle.saturation.specs.declared.member.Member.{Member as Waits};
     ghost use Rattle.saturation.specs.contracts.member.Member as member;
@@ -39,29 +40,34 @@ impl Model for Waiting {
     ghost coded = { Prim.hlevel (codes, member.the_row.coded) };
 
     ghost view = { λ w. member_of w.clause w.source };
-
-    ghost invariant = { λ w. IsTrue w.empty ↔ (w.clause.lits ≡ []) };
 }
 
 impl Waiting {
-    /// The member, as one that waits.
-    pub fn new(alloc: Global, member: &Member) -> Result<Waiting, Memory>
-        ensures { IfOk result (λ waiting. waiting ≡ member.now) }
+    /// The input of this number.
+    pub fn given(alloc: Global, clause: &Clause, number: u32) -> Result<Waiting, Memory>
+        ensures { IfOk result (λ waiting. waiting ≡ record { clause = clause.now; origin = Input number }) }
     {
-        let clause = PackedClause::new(alloc, &member.clause)?;
-        let source = source_from(alloc, &member.origin)?;
         Ok(Waiting {
-            clause,
-            source,
-            empty: member.clause.lits.is_empty(),
+            clause: PackedClause::new(alloc, clause)?,
+            source: Source::Given(number),
         })
+    }
+
+    /// What was made from the members of these numbers.
+    pub fn inferred(first: u32, second: u32, made: Made) -> Waiting
+        ensures { result ≡ named first second made }
+    {
+        Waiting {
+            clause: made.clause,
+            source: Source::Made(first, second, made.subst),
+        }
     }
 
     /// Whether its clause is empty.
     pub fn is_empty(&self) -> bool
         ensures { IsTrue result ↔ (self.now.clause.lits ≡ []) }
     {
-        self.empty
+        self.clause.is_empty()
     }
 
     /// A sum of its clause.
@@ -92,20 +98,6 @@ impl Waiting {
         ensures { IsTrue result → self.now.clause ≡ other.now.clause }
     {
         self.clause.is(&other.clause)
-    }
-}
-
-// The origin of a member, as that of one that waits.
-fn source_from(alloc: Global, origin: &Origin) -> Result<Source, Memory>
-    ensures { IfOk result (λ source. origin_of source ≡ origin.now) }
-{
-    match origin {
-        Origin::Input(number) => Ok(Source::Given(*number)),
-        Origin::Inferred(first, second, subst) => Ok(Source::Made(
-            *first,
-            *second,
-            PackedTerms::new(alloc, subst.images.as_slice())?,
-        )),
     }
 }
 

@@ -32,15 +32,3 @@ moved_images s n [] = refl
 moved_images s n (t ∷ ts) =
     ap (λ x. x ∷ map (image s) (map (lifted_term n 0) ts)) (image_of_lifted s n t)
     ∙ ap (λ xs. image (λ x. s (x + n)) t ∷ xs) (moved_images s n ts)
-
--- the image of a variable that is bound, and of one that isn't
-pub bound_image : (images : List Term) (k : ℕ) (t u : Term) → t ≡ Var k → slice_get images k ≡ Some u → u ≡ image (image_at images) t
-bound_image images k t u is at = sym (ap (image (image_at images)) is ∙ image-Var (image_at images) k ∙ get_or_from_slice_get images k u (Var k) at)
-
-past_end : {X : Type 0} (xs : List X) (k : ℕ) (d : X) → slice_get xs k ≡ None → get_or xs k d ≡ d
-past_end [] k d e = refl
-past_end (x ∷ xs) zero d e = cc
-past_end (x ∷ xs) (suc k) d e = past_end xs k d e
-
-pub free_image : (images : List Term) (k : ℕ) (t : Term) → t ≡ Var k → slice_get images k ≡ None → Var k ≡ image (image_at images) t
-free_image images k t is none = sym (ap (image (image_at images)) is ∙ image-Var (image_at images) k ∙ past_end images k (Var k) none)

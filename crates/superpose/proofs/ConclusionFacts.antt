@@ -11,13 +11,14 @@ use Rattle.fof_terms.specs.Vocabulary.{Vocabulary}
 use Rattle.fof_terms.specs.Sorts.{sort_of_term}
 use Rattle.fof_terms.proofs.LiftingLaws.{below_or_above}
 use Rattle.fof_terms.proofs.SortsFacts.{sort_of_term-Var}
+use Rattle.fof_terms.proofs.Walks.{same_terms}
 use Rattle.clause_form.specs.declared.clause.Lit.{Lit}
 use Rattle.clause_form.specs.Images.{image, IsImages}
 use Rattle.clause_form.proofs.ImagesFacts.{AgreeOn, image-Var, image_image}
 use Rattle.clause_form.specs.Covers.{scope_of, AreSorted}
 use Rattle.clause_form.proofs.ClauseLaws.{lits_agree}
 use Rattle.clause_rules.specs.Steps.{instances}
-use Rattle.clause_rules.proofs.LitImages.{lits_twice}
+use Rattle.clause_rules.proofs.LitImages.{imaging, lits_twice}
 use Rattle.unify_terms.specs.Substitution.{image_at}
 use Rattle.superpose.specs.declared.made.Made.{Made}
 use Rattle.superpose.specs.Drafts.{SortsExist}
@@ -57,7 +58,7 @@ outside n s k h = rw (le-ltb k n h) refl
 
 module _ (scope : List ℕ) (images : List Term) (left : List Lit) (noted kept : List ℕ) (names : List Term) (m : Made) (size : length images ≡ length scope)
     (is_noted : IsNoted (length scope) [] noted (LitInstancesStay images left)) (are_named : AreNamed scope noted kept (length scope) names)
-    (subst_is : m.subst ≡ map (image (image_at names)) images) (lits_are : m.clause.lits ≡ instances (image_at m.subst) left) (sorts_are : m.clause.sorts ≡ reverse (sorts_at scope kept)) where
+    (subst_is : m.subst ≡ map (image (image_at names)) images) (lits_made : m.clause.lits ≡ instances (image_at names) (instances (image_at images) left)) (sorts_are : m.clause.sorts ≡ reverse (sorts_at scope kept)) where
   abbrev back : ℕ → Term
   back k = Var (get_or kept k 0)
 
@@ -109,6 +110,25 @@ module _ (scope : List ℕ) (images : List Term) (left : List Lit) (noted kept :
       lits_twice (image back) (image (image_at names)) (image round) (image_image back (image_at names)) (instances (image_at images) left)
       ∙ lits_agree v scope round (within_or_itself (length scope) round) agree (instances (image_at images) left) sorted ∙ is_noted.holds (within_or_itself (length scope) round) round_fixed
 
+  -- the images are those of the images
+  image_made : (k : ℕ) → image (image_at names) (image_at images k) ≡ image_at m.subst k
+  image_made k = elim (below_or_above k (length images)) [
+    | inl h ↦ sym (ap (λ xs. image_at xs k) subst_is ∙ mapped_at (image (image_at names)) images k (Var k) (Var k) h)
+    | inr h ↦
+        ap (image (image_at names)) (get_or_past images k (Var k) h) ∙ image-Var (image_at names) k
+        ∙ get_or_past names k (Var k) (let e = are_named.size in omega (arith, h, size, e))
+        ∙ sym (get_or_past m.subst k (Var k) (let e = ap length subst_is ∙ length-map images (image (image_at names)) in omega (arith, h, e)))
+  ]
+
+  made_at_once : (t : Term) → image (image_at names) (image (image_at images) t) ≡ image (image_at m.subst) t
+  made_at_once t =
+      image_image (image_at names) (image_at images) t
+      ∙ same_terms (image (λ k. image (image_at names) (image_at images k))) (image (image_at m.subst)) (imaging (λ k. image (image_at names) (image_at images k))) (imaging (image_at m.subst))
+      (λ k. image-Var (λ k. image (image_at names) (image_at images k)) k ∙ image_made k ∙ sym (image-Var (image_at m.subst) k)) t
+
+  lits_are : m.clause.lits ≡ instances (image_at m.subst) left
+  lits_are = lits_made ∙ lits_twice (image (image_at names)) (image (image_at images)) (image (image_at m.subst)) made_at_once left
+
   pub concluded : length kept ≤ 1000000000 → IsConclusion scope images left m
   concluded few = record {
     names = image_at names;
@@ -125,13 +145,17 @@ module _ (scope : List ℕ) (images : List Term) (left : List Lit) (noted kept :
   }
 
 -- the same as the code has it
-pub concluded_by : (scope : List ℕ) (images lent : List Term) (left : List Lit) (count total : ℕ) (first noted kept : List ℕ) (names : List Term) (m : Made) → length images ≡ length scope → count ≡ length scope → first ≡ [] → lent ≡ images
-    → IsNoted count first noted (LitInstancesStay lent left) → AreNamed scope noted kept (length scope) names → m.subst ≡ map (image (image_at names)) images → m.clause.lits ≡ instances (image_at m.subst) left
-    → m.clause.sorts ≡ reverse (sorts_at scope kept) → total ≡ length kept → total ≤ 1000000000 → IsConclusion scope images left m
-concluded_by scope images lent left count total first noted kept names m size count_is first_is lent_is is_noted named subst_is lits_are sorts_are total_is few =
+pub concluded_by : (scope : List ℕ) (images lent given_names : List Term) (left : List Lit) (count total : ℕ) (first noted kept : List ℕ) (names : List Term) (m : Made) → length images ≡ length scope → count ≡ length scope → first ≡ [] → lent ≡ images
+    → given_names ≡ names → IsNoted count first noted (LitInstancesStay lent left) → AreNamed scope noted kept (length scope) names → m.subst ≡ map (image (image_at given_names)) lent
+    → m.clause.lits ≡ instances (image_at given_names) (instances (image_at lent) left) → m.clause.sorts ≡ reverse (sorts_at scope kept) → total ≡ length kept → total ≤ 1000000000 → IsConclusion scope images left m
+concluded_by scope images lent given_names left count total first noted kept names m size count_is first_is lent_is names_are is_noted named subst_is lits_are sorts_are total_is few =
     let whole : IsNoted (length scope) [] noted (LitInstancesStay images left) =
     subst (λ n. IsNoted n [] noted (LitInstancesStay images left)) count_is (subst (λ xs. IsNoted count xs noted (LitInstancesStay images left)) first_is (subst (λ ts. IsNoted count first noted (LitInstancesStay ts left)) lent_is is_noted)) in
-    concluded scope images left noted kept names m size whole named subst_is lits_are sorts_are (subst (λ n. n ≤ 1000000000) total_is few)
+    let images_are : m.subst ≡ map (image (image_at names)) images =
+    subst_is ∙ ap (λ (ns : List Term). map (image (image_at ns)) lent) names_are ∙ ap (map (image (image_at names))) lent_is in
+    let made : m.clause.lits ≡ instances (image_at names) (instances (image_at images) left) =
+    lits_are ∙ ap (λ (ns : List Term). instances (image_at ns) (instances (image_at lent) left)) names_are ∙ ap (λ (ts : List Term). instances (image_at names) (instances (image_at ts) left)) lent_is in
+    concluded scope images left noted kept names m size whole named images_are made sorts_are (subst (λ n. n ≤ 1000000000) total_is few)
 
 -- what was noted from nothing on is within
 pub noted_within : (scope first noted : List ℕ) (count : ℕ) (P : (ℕ → Term) → Type 0) → count ≡ length scope → first ≡ [] → IsNoted count first noted P → Each (λ k. k < length scope) noted

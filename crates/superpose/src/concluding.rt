@@ -2,13 +2,13 @@
 ghost use Rattle.std.specs.Prelude.{◌≡◌, ◌≤◌, ◌<◌, ◌^◌, ◌++◌, remove, length, IfOk};
 ghost use Rattle.superpose.specs.code.Conclusions.{IsConclusion};
 
-use crate::imaging::{images_of, images_of_left};
 use crate::made::Made;
 use crate::naming::{names_of, sorts_of};
 use crate::noting::note_left;
 use crate::reversing::reversed_sorts;
-use clause_form::{Clause, Lit};
+use clause_form::Lit;
 use fof_terms::SortId;
+use packed_clauses::{PackedClause, PackedTerms};
 use std::alloc::Global;
 use tptp_base::{List, Memory};
 use unify_terms::Subst;
@@ -32,26 +32,27 @@ pub fn conclude(
     requires at { at < length lits.now }
     ensures { IfOk result (λ made. IsConclusion scope.now subst.now (remove lits.now at ++ rest.now) made) }
 {
+    let images = subst.images.as_slice();
     let mut kept = List::new(alloc);
-    note_left(
-        lits,
-        at,
-        rest,
-        subst.images.as_slice(),
-        scope.len(),
-        &mut kept,
-    )?;
+    note_left(lits, at, rest, images, scope.len(), &mut kept)?;
     let names = names_of(alloc, scope, &mut kept)?;
     if kept.len() > MAX_SORTS {
         return Err(Memory);
     }
-    let images = images_of(subst.images.as_slice(), alloc, &names)?;
-    let subst = Subst { images };
-    let lits = images_of_left(alloc, &subst, lits, at, rest)?;
     let sorts = sorts_of(alloc, scope, kept.as_slice())?;
     let sorts = reversed_sorts(alloc, sorts.as_slice())?;
+    let names = names.images.as_slice();
+    let clause = PackedClause::of_instances(
+        alloc,
+        sorts.as_slice(),
+        lits,
+        at,
+        rest,
+        images,
+        names,
+    )?;
     Ok(Made {
-        clause: Clause { sorts, lits },
-        subst,
+        clause,
+        subst: PackedTerms::of_images(alloc, images, names)?,
     })
 }

@@ -5,10 +5,10 @@
 mod admission;
 mod agreeing;
 mod concluding;
+mod copying;
 mod equation_factoring;
 mod equation_resolution;
 mod factoring;
-mod imaging;
 mod laws;
 mod made;
 mod moving;

@@ -1,17 +1,16 @@
 ghost use Rattle.std.specs.Prelude.{◌≡◌, ◌++◌, OnOk};
 ghost use Rattle.std.specs.Option.{option_to_list};
 
-use clause_form::Clause;
+use packed_clauses::{PackedClause, PackedTerms};
 use tptp_base::{List, Memory};
-use unify_terms::Subst;
 
 /// A clause that an inference made, and the images of the variables of its premises: those of the first premise's
 /// variables, that of variable 0 first, and then those of the second one's, if there are two. They are terms over the
-/// variables of the clause.
+/// variables of the clause. Both are packed, since a search makes many and looks at few again.
 #[derive(Drop)]
 pub struct Made {
-    pub clause: Clause,
-    pub subst: Subst,
+    pub clause: PackedClause,
+    pub subst: PackedTerms,
 }
 
 /// Adds what was found, if anything was.

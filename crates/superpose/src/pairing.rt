@@ -4,7 +4,7 @@ ghost use Rattle.fof_terms.specs.Lift.{lifted_term};
 ghost use Rattle.clause_rules.specs.Ways.{zip_pairs};
 ghost use Rattle.superpose.specs.code.Pairs.{ArePairsOf};
 
-use crate::imaging::copied;
+use crate::copying::copied;
 use crate::moving::moved;
 use clause_form::{AtomOf, Lit};
 use fof_terms::Term;

@@ -4,5 +4,5 @@ use Rattle.saturation.proofs.Givens.{given_more}
 use Rattle.saturation.proofs.given.given.Goals as goal
 
 pub loop-at-preserved : goal.loop-at-preserved
-loop-at-preserved c = given_more c.args.inputs.now c.loop-at.members c.push.new.self c.loop-at.at c.in_ok-copy.field-0 c.in_ok-number.field-0 c.index-inputs-at.result c.loop-at.invariant c.loop-at-test.true (c.in_ok-copy.ensures ∙ c.index-inputs-at.is) c.in_ok-number.ensures
-    (c.in_ok-push.ensures.ok ∙ ap (λ (m : Member). c.loop-at.members ++ m ∷ []) c.in_ok-new.ensures)
+loop-at-preserved c = given_more c.args.inputs.now c.loop-at.members c.push.new.self c.loop-at.at c.index-inputs-at.result c.in_ok-number.field-0 c.index-inputs-at.result c.loop-at.invariant c.loop-at-test.true c.index-inputs-at.is c.in_ok-number.ensures
+    (c.in_ok-push.ensures.ok ∙ ap (λ (m : Member). c.loop-at.members ++ m ∷ []) c.in_ok-given.ensures)

@@ -9,12 +9,7 @@ loop-next-init c = naming_start c.args.made c.args.first c.args.second c.args.me
 pub loop-next-preserved : goal.loop-next-preserved
 loop-next-preserved c =
     naming_more c.args.made c.loop-next.made c.pop.new.self c.in-Some.next c.args.first c.args.second c.args.members.now c.loop-next.members c.push.new.self c.loop-next.invariant c.in-Some.ensures
-    (c.in_ok-push.ensures.ok ∙ ap (λ (m : Member). c.loop-next.members ++ m ∷ []) c.in_ok-new.ensures)
-
-pub loop-next-preserved-in_ok-push : goal.loop-next-preserved-in_ok-push
-loop-next-preserved-in_ok-push c =
-    naming_more c.args.made c.loop-next.made c.pop.new.self c.in-Some.next c.args.first c.args.second c.args.members.now c.loop-next.members c.push.new.self c.loop-next.invariant c.in-Some.ensures
-    (c.in_ok-push.ensures.ok ∙ ap (λ (m : Member). c.loop-next.members ++ m ∷ []) c.in_ok-new.ensures)
+    (c.in_ok-push.ensures.ok ∙ ap (λ (m : Member). c.loop-next.members ++ m ∷ []) c.inferred.ensures)
 
 pub returns : goal.returns
 returns c = naming_end c.args.made c.loop-next.made c.args.first c.args.second c.args.members.now c.loop-next.members c.loop-next.invariant c.in_default.ensures.0

@@ -1,10 +1,14 @@
-use Rattle.std.proofs.Common.{ap, ◌∙◌, List, ℕ, ◌++◌}
-use Rattle.packed_clauses.specs.Reading.{clause_read}
-use Rattle.packed_clauses.specs.code.Spelling.{spelled_clause}
-use Rattle.packed_clauses.proofs.Read.{clause_again}
+use Rattle.std.proofs.Common.{subst, sym, ◌≡◌, []}
+use Rattle.std.specs.Prelude.{IsTrue, ◌↔◌}
+use Rattle.clause_form.specs.declared.clause.Clause.{Clause}
+use Rattle.packed_clauses.proofs.Read.{packed_again}
 use Rattle.packed_clauses.proofs.packing.PackedClause.new.Goals as goal
 
 pub returns : goal.returns
-returns c =
-    ap clause_read (c.in_ok-from_slice.ensures ∙ c.as_slice.ensures ∙ c.in_ok-write_clause.ensures ∙ ap (λ (xs : List ℕ). xs ++ spelled_clause c.args.clause.now) c.in_ok-bytes.ensures)
-    ∙ clause_again c.args.clause.now
+returns c = packed_again c.args.clause.now _ _ _ _ c.in_ok-bytes.ensures c.in_ok-write_clause.ensures c.as_slice.ensures c.in_ok-from_slice.ensures
+
+pub invariant_of-result : goal.invariant_of-result
+invariant_of-result c =
+    subst (λ (k : Clause). IsTrue c.is_empty.result ↔ (k.lits ≡ []))
+    (sym (packed_again c.args.clause.now _ _ _ _ c.in_ok-bytes.ensures c.in_ok-write_clause.ensures c.as_slice.ensures c.in_ok-from_slice.ensures))
+    c.is_empty.ensures
