@@ -17,7 +17,7 @@ use Rattle.rule_steps.specs.declared.sites.Reading.{Reading}
 use Rattle.rule_steps.specs.declared.sites.Site.{Site}
 use Rattle.rule_steps.specs.code.EqFactorSearch.{NoneFrom}
 use Rattle.clause_rules.specs.ParamodulationRule.{Paramodulates}
-use Rattle.rule_steps.specs.code.ParamodulationSearch.{FoundAtSite, HasClause, NeverAt}
+use Rattle.rule_steps.specs.code.ParamodulationSearch.{HasClause, NeverAt, NoneAtSite}
 use Rattle.clause_rules.specs.Places.{lit_put_at, lit_term_at}
 use Rattle.clause_rules.specs.RewriteRule.{AreLitsRewritten}
 use Rattle.rule_steps.specs.code.RewriteSearch.{NeverRewritten}
@@ -109,14 +109,14 @@ never_rewritten line into target holes rewritten never = λ v fit by flipped fur
     subst (IsCovered line.lits) found.2 (h.covers.covered m found.0 found.1))
 
 -- a site whose clause is known
-module _ (v : Vocabulary) (clauses : List (Option Clause)) (line : Clause) (site : Site) (readings : List Reading) where
-  pub closed_site : (into : Clause) → AllFit v clauses → slice_get clauses site.clause ≡ Some (Some into) → NeverAt line into site → FoundAtSite v clauses readings line site None
-  closed_site into fit at never = λ k reading e other from there here more s h.
+module _ (v : Vocabulary) (clauses : List (Option Clause)) (line : Clause) (site : Site) where
+  pub closed_site : (into : Clause) → AllFit v clauses → slice_get clauses site.clause ≡ Some (Some into) → NeverAt line into site → (reading : Reading) → NoneAtSite v clauses line site reading
+  closed_site into fit at never = λ reading other from there here more s h.
       let same : other ≡ into = let both : Some (Some other) ≡ Some (Some into) = sym there ∙ at in cc in
       never v (fit site.clause (Some into) at into refl) from reading.lit reading.flipped more s (subst (λ (x : Clause). Paramodulates v x from line site.lit site.at reading.lit reading.flipped more s) same h)
 
-  pub no_site : HasClause clauses site.clause None → FoundAtSite v clauses readings line site None
-  no_site none = λ k reading e other from there. absurd (none other there)
+  pub no_site : HasClause clauses site.clause None → (reading : Reading) → NoneAtSite v clauses line site reading
+  no_site none = λ reading other from there. absurd (none other there)
 
 pub few_of : (v : Vocabulary) (clauses : List (Option Clause)) (a : ℕ) (c : Clause) → AllFit v clauses → slice_get clauses a ≡ Some (Some c) → length c.sorts ≤ 1000000000
 few_of v clauses a c fit at = (fit a (Some c) at c refl).few

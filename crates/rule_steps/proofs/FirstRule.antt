@@ -12,6 +12,7 @@ use Rattle.clause_rules.specs.declared.just.Just.{Just}
 use Rattle.clause_rules.specs.declared.just.Just.TheVariants.{Tautology}
 use Rattle.clause_rules.specs.Answers.{ShapeRule, norm, cover, tautology, resolution, paramodulation, eqfactor, rewrite, Holds, IsAnswer, place_of, IsFirst}
 use Rattle.clause_rules.proofs.Firsts.{holds, untrue}
+use Rattle.rule_steps.specs.code.AmongClauses.{gives_clauses}
 use Rattle.rule_steps.specs.code.FirstFrom.{NoneBefore}
 
 abbrev rule_at : ℕ → ShapeRule
@@ -72,15 +73,24 @@ module _ (v : Vocabulary) (parents : List Parent) (line : Form) where
   last None no_ below = λ rule holds. extend rewrite None refl no_ below rule (few rule) holds
   last (Some just) shown below = first rewrite (Some just) just refl shown below
 
-  -- no other rule than `norm` gives a line that is no clause
+  -- no rule that gives clauses alone gives a line that is no clause
+  pub no_clause_by : (rule : ShapeRule) → gives_clauses rule ≡ true → clause_of line ≡ None → Holds v parents line rule → ⊥
+  no_clause_by norm alone is h = cc
+  no_clause_by cover alone is h = let f = h.6.line_clause in cc
+  no_clause_by tautology alone is h = let f = h.1 in cc
+  no_clause_by resolution alone is h = let f = h.9.line_clause in cc
+  no_clause_by paramodulation alone is h = let f = h.11.line_clause in cc
+  no_clause_by eqfactor alone is h = let f = h.9.line_clause in cc
+  no_clause_by rewrite alone is h = let f = h.11.line_clause in cc
+
   pub no_clause : clause_of line ≡ None → Below 1 → IsFirst v parents line None
   no_clause is below norm h = below norm (omega arith) h
-  no_clause is below cover h = let f = h.6.line_clause in cc
-  no_clause is below tautology h = let f = h.1 in cc
-  no_clause is below resolution h = let f = h.9.line_clause in cc
-  no_clause is below paramodulation h = let f = h.11.line_clause in cc
-  no_clause is below eqfactor h = let f = h.9.line_clause in cc
-  no_clause is below rewrite h = let f = h.11.line_clause in cc
+  no_clause is below cover h = no_clause_by cover refl is h
+  no_clause is below tautology h = no_clause_by tautology refl is h
+  no_clause is below resolution h = no_clause_by resolution refl is h
+  no_clause is below paramodulation h = no_clause_by paramodulation refl is h
+  no_clause is below eqfactor h = no_clause_by eqfactor refl is h
+  no_clause is below rewrite h = no_clause_by rewrite refl is h
 
   -- what `tautology` answers to a line that is this clause
   module _ (clause : Clause) (is : clause_of line ≡ Some clause) (trivial : Bool) (told : IsTrue trivial ↔ IsTrivial clause.lits) where

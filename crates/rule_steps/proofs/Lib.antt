@@ -13,6 +13,8 @@ pub mod Indexed
 pub mod LeftOver
 pub mod Named
 pub mod NormSteps
+pub mod NotReached
+pub mod Outlines
 pub mod ParamodulatedAt
 pub mod ParamodulationCode
 pub mod ParamodulationEnds
@@ -28,4 +30,5 @@ pub mod RewrittenAt
 pub mod RewrittenTerms
 pub mod SameTake
 pub mod Settling
-pub mod NotReached
+pub mod SiteLoops
+pub mod Sketches

@@ -1,10 +1,9 @@
 -- The search for a paramodulation, as code makes it.
 use Rattle.std.specs.Prelude.{ℕ, Bool, true, false, ◌≡◌, ◌↔◌, ◌<◌, ◌≤◌, IsTrue, List, ◌++◌, length, remove, reverse, Option, Some, None, Result, IfOk, slice_get, slice_set, refl}
-use Rattle.std.specs.Option.{option_eq}
+use Rattle.std.specs.Option.{MatchOption, option_eq}
 use Rattle.std.proofs.Common.{ap, sym, subst, ◌∙◌, arith, eqb, inl, inr}
 use Rattle.std.proofs.lemmas.Bool.Decides.{eqb_tells}
 use Rattle.std.proofs.lemmas.List.{reverse-reverse}
-use Rattle.std.proofs.lemmas.Option.{slice_get_within}
 use Rattle.fof_terms.specs.Vocabulary.{Vocabulary}
 use Rattle.fof_terms.specs.declared.term.Term.{Term}
 use Rattle.clause_form.specs.declared.clause.Lit.{Lit}
@@ -16,10 +15,10 @@ use Rattle.rule_steps.specs.declared.sites.Reading.{Reading}
 use Rattle.rule_steps.specs.declared.sites.Site.{Site}
 use Rattle.rule_steps.specs.declared.sites.Spot.{Spot}
 use Rattle.clause_rules.specs.ParamodulationRule.{Paramodulates}
-use Rattle.rule_steps.specs.code.ParamodulationSearch.{HasSpot, HasEquation, HasClause, ShowsAtSite, NoneAtSite, TriedAtSite, ShowsParamodulation, FoundAtSite, FoundAtSites}
+use Rattle.rule_steps.specs.code.ParamodulationSearch.{HasSpot, HasEquation, HasClause, ShowsAtSite, NoneAtSite, TriedAtSite, ShowsParamodulation}
 use Rattle.clause_rules.specs.Settled.{Settles}
 use Rattle.clause_rules.specs.Steps.{scope_of_both}
-use Rattle.clause_rules.proofs.Firsts.{one_at, ok_map}
+use Rattle.clause_rules.proofs.Firsts.{ok_map}
 
 -- the same of lists that were lent
 pub spot_as : (lits lent : List Lit) (place given : List ℕ) (i : ℕ) (o : Option Spot) → lent ≡ lits → given ≡ place → HasSpot lent i given o → HasSpot lits i place o
@@ -66,31 +65,15 @@ module _ (v : Vocabulary) (clauses : List (Option Clause)) (line : Clause) (site
   pub no_into : HasClause clauses site.clause None → NoneAtSite v clauses line site reading
   no_into none = λ into from e f more s h. none into e
 
-module _ (v : Vocabulary) (clauses : List (Option Clause)) (line : Clause) where
-  module _ (readings : List Reading) (site : Site) (k : ℕ) (reading : Reading) (at : slice_get readings k ≡ Some reading) where
-    pub none_with : (found : Option (List Term)) → found ≡ None → TriedAtSite v clauses line site reading found → (other : Reading) → slice_get readings k ≡ Some other → NoneAtSite v clauses line site other
-    none_with None e none other f = subst (NoneAtSite v clauses line site) (one_at readings k reading other at f) none
-    none_with (Some images) e shown other f = absurd (let g = e in cc)
+module _ (v : Vocabulary) (clauses : List (Option Clause)) (line : Clause) (site : Site) (reading : Reading) where
+  pub none_with : (found : Option (List Term)) → found ≡ None → TriedAtSite v clauses line site reading found → NoneAtSite v clauses line site reading
+  none_with None e none = none
+  none_with (Some images) e shown = absurd (let g = e in cc)
 
-  pub shown_with : {E : Type 0} (site : Site) (reading : Reading) (found : Option (List Term)) (images : List Term) (r : Result (Option Just) E) (readings : List Reading) → found ≡ Some images → TriedAtSite v clauses line site reading found
-      → IfOk r (λ just. just ≡ Some (Paramodulation site.clause reading.clause site.lit site.at reading.lit reading.flipped images)) → IfOk r (λ just. FoundAtSite v clauses readings line site just)
-  shown_with site reading None images r readings e shown h = absurd (let g = e in cc)
-  shown_with site reading (Some found) images r readings e shown h =
+  pub shown_with : {E : Type 0} (found : Option (List Term)) (images : List Term) (r : Result (Option Just) E) → found ≡ Some images → TriedAtSite v clauses line site reading found
+      → IfOk r (λ just. just ≡ Some (Paramodulation site.clause reading.clause site.lit site.at reading.lit reading.flipped images)) → IfOk r (λ just. MatchOption just (NoneAtSite v clauses line site reading) (ShowsParamodulation v clauses line))
+  shown_with None images r e shown h = absurd (let g = e in cc)
+  shown_with (Some found) images r e shown h =
       let same : found ≡ images = cc in
       let whole : ShowsParamodulation v clauses line (Paramodulation site.clause reading.clause site.lit site.at reading.lit reading.flipped images) = record { site = site; reading = reading; images = images; is = refl; shown = subst (ShowsAtSite v clauses line site reading) same shown } in
-      ok_map r (λ just is. subst (FoundAtSite v clauses readings line site) (sym is) whole) h
-
-  pub none_of_readings : (readings : List Reading) (site : Site) (n : ℕ) → length readings ≤ n → ((k : ℕ) → k < n → (reading : Reading) → slice_get readings k ≡ Some reading → NoneAtSite v clauses line site reading) → FoundAtSite v clauses readings line site None
-  none_of_readings readings site n h none k reading e = let lt = slice_get_within readings k reading e in none k (omega arith) reading e
-
-  module _ (sites : List Site) (readings : List Reading) (m : ℕ) (site : Site) (at : slice_get sites m ≡ Some site) where
-    pub none_at : (found : Option Just) → found ≡ None → FoundAtSite v clauses readings line site found → (other : Site) → slice_get sites m ≡ Some other → FoundAtSite v clauses readings line other None
-    none_at None e none other f = subst (λ x. FoundAtSite v clauses readings line x None) (one_at sites m site other at f) none
-    none_at (Some just) e shown other f = absurd (let g = e in cc)
-
-  pub shown_at : (sites : List Site) (readings : List Reading) (site : Site) (found : Option Just) (just : Just) → found ≡ Some just → FoundAtSite v clauses readings line site found → FoundAtSites v clauses sites readings line (Some just)
-  shown_at sites readings site None just e shown = absurd (let g = e in cc)
-  shown_at sites readings site (Some found) just e shown = let same : found ≡ just = cc in subst (ShowsParamodulation v clauses line) same shown
-
-  pub none_of_sites : (sites : List Site) (readings : List Reading) (n : ℕ) → length sites ≤ n → ((m : ℕ) → m < n → (site : Site) → slice_get sites m ≡ Some site → FoundAtSite v clauses readings line site None) → FoundAtSites v clauses sites readings line None
-  none_of_sites sites readings n h none m site e = let lt = slice_get_within sites m site e in none m (omega arith) site e
+      ok_map r (λ just is. subst (λ o. MatchOption o (NoneAtSite v clauses line site reading) (ShowsParamodulation v clauses line)) (sym is) whole) h

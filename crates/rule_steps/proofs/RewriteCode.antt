@@ -1,10 +1,10 @@
 -- The search for a rewriting, as code makes it.
 use Rattle.std.specs.Prelude.{ℕ, Bool, true, ◌≡◌, ◌<◌, ◌≤◌, ◌^◌, List, [], ◌++◌, length, map, Option, Some, None, Result, IfOk, slice_get, refl}
 use Rattle.std.specs.List.{All as Each}
+use Rattle.std.specs.Option.{MatchOption}
 use Rattle.std.proofs.Common.{ap, sym, subst, ◌∙◌, arith, append_assoc, length-append}
 use Rattle.std.proofs.lemmas.List.{length-reverse}
 use Rattle.std.proofs.lemmas.List.Elements.{All-weaker}
-use Rattle.std.proofs.lemmas.Option.{slice_get_within}
 use Rattle.fof_terms.specs.Vocabulary.{Vocabulary}
 use Rattle.fof_terms.specs.declared.form.Form.{Form}
 use Rattle.fof_terms.specs.declared.term.Term.{Term, Var}
@@ -35,7 +35,7 @@ use Rattle.rule_steps.specs.code.ParamodulationSearch.{HasEquation, sites_from, 
 use Rattle.clause_rules.specs.Places.{lit_term_at}
 use Rattle.clause_rules.specs.Reach.{atom_reach}
 use Rattle.clause_rules.specs.RewriteRule.{AreLitsRewritten, Rewrites}
-use Rattle.rule_steps.specs.code.RewriteSearch.{NoRewriting, IsRewriting, SettlesRewriting, NoRewritingAt, ShowsRewritingAt, TriedRewriting, ShowsRewriting, RewritesAtSite, RewritesAtSites}
+use Rattle.rule_steps.specs.code.RewriteSearch.{NoRewriting, IsRewriting, SettlesRewriting, NoRewritingAt, ShowsRewritingAt, TriedRewriting, ShowsRewriting, RewritesAtSites}
 use Rattle.substitution_search.specs.Screens.{NeverEqual}
 use Rattle.clause_rules.specs.Settled.{IsFit, Settles}
 use Rattle.substitution_search.specs.Settled.{IsSolution}
@@ -134,33 +134,25 @@ module _ (v : Vocabulary) (clauses : List (Option Clause)) (line : Clause) (site
     shown = subst (λ x. IsRewriting v into by line x reading.flipped found.by_subst found.subst) (sym shown.0) shown.1;
   }
 
-module _ (v : Vocabulary) (clauses : List (Option Clause)) (line : Clause) where
-  pub none_with : (readings : List Reading) (site : Site) (k : ℕ) (reading : Reading) → slice_get readings k ≡ Some reading → (found : Option Rewriting) → found ≡ None → TriedRewriting v clauses line site reading found → (other : Reading) → slice_get readings k ≡ Some other → NoRewritingAt v clauses line site other
-  none_with readings site k reading at None e none other f = subst (NoRewritingAt v clauses line site) (one_at readings k reading other at f) none
-  none_with readings site k reading at (Some found) e shown other f = absurd (let g = e in cc)
+module _ (v : Vocabulary) (clauses : List (Option Clause)) (line : Clause) (site : Site) (reading : Reading) where
+  pub none_with : (found : Option Rewriting) → found ≡ None → TriedRewriting v clauses line site reading found → NoRewritingAt v clauses line site reading
+  none_with None e none = none
+  none_with (Some found) e shown = absurd (let g = e in cc)
 
-  pub shown_some : {E : Type 0} (site : Site) (b : ℕ) (flipped : Bool) (rewriting : Rewriting) (r : Result (Option Just) E) (readings : List Reading) → ShowsRewritingAt v clauses line site.clause b flipped rewriting
-      → IfOk r (λ just. just ≡ Some (Rewrite site.clause b rewriting.target flipped rewriting.by_subst rewriting.subst)) → IfOk r (λ just. RewritesAtSite v clauses readings line site just)
-  shown_some site b flipped rewriting r readings shown h =
-      let whole : ShowsRewriting v clauses line (Rewrite site.clause b rewriting.target flipped rewriting.by_subst rewriting.subst) = record {
+  pub shown_some : {E : Type 0} (found : Option Rewriting) (rewriting : Rewriting) (r : Result (Option Just) E) → found ≡ Some rewriting → TriedRewriting v clauses line site reading found
+      → IfOk r (λ just. just ≡ Some (Rewrite site.clause reading.clause rewriting.target reading.flipped rewriting.by_subst rewriting.subst)) → IfOk r (λ just. MatchOption just (NoRewritingAt v clauses line site reading) (ShowsRewriting v clauses line))
+  shown_some None rewriting r e shown h = absurd (let g = e in cc)
+  shown_some (Some found) rewriting r e shown h =
+      let same : found ≡ rewriting = cc in
+      let whole : ShowsRewriting v clauses line (Rewrite site.clause reading.clause rewriting.target reading.flipped rewriting.by_subst rewriting.subst) = record {
         a = site.clause;
-        b = b;
-        flipped = flipped;
+        b = reading.clause;
+        flipped = reading.flipped;
         found = rewriting;
         is = refl;
-        shown = shown;
+        shown = subst (ShowsRewritingAt v clauses line site.clause reading.clause reading.flipped) same shown;
       } in
-      ok_map r (λ just is. subst (RewritesAtSite v clauses readings line site) (sym is) whole) h
-
-  pub none_of_readings : (readings : List Reading) (site : Site) (n : ℕ) → length readings ≤ n → ((k : ℕ) → k < n → (reading : Reading) → slice_get readings k ≡ Some reading → NoRewritingAt v clauses line site reading) → RewritesAtSite v clauses readings line site None
-  none_of_readings readings site n h none k reading e = let lt = slice_get_within readings k reading e in none k (omega arith) reading e
-
-  pub none_at : (sites : List Site) (readings : List Reading) (m : ℕ) (site : Site) → slice_get sites m ≡ Some site → (found : Option Just) → found ≡ None → RewritesAtSite v clauses readings line site found → (other : Site) → slice_get sites m ≡ Some other → RewritesAtSite v clauses readings line other None
-  none_at sites readings m site at None e none other f = subst (λ x. RewritesAtSite v clauses readings line x None) (one_at sites m site other at f) none
-  none_at sites readings m site at (Some just) e shown other f = absurd (let g = e in cc)
-
-  pub none_of_sites : (sites : List Site) (readings : List Reading) (n : ℕ) → length sites ≤ n → ((m : ℕ) → m < n → (site : Site) → slice_get sites m ≡ Some site → RewritesAtSite v clauses readings line site None) → RewritesAtSites v clauses sites readings line None
-  none_of_sites sites readings n h none m site e = let lt = slice_get_within sites m site e in none m (omega arith) site e
+      ok_map r (λ just is. subst (λ o. MatchOption o (NoRewritingAt v clauses line site reading) (ShowsRewriting v clauses line)) (sym is) whole) h
 
 -- the answer from what was found at the places
 pub rewrite_answer : (v : Vocabulary) (parents : List Parent) (form : Form) (line : Clause) (clauses : List (Option Clause)) (sites : List Site) (readings : List Reading) → clause_of form ≡ Some line → clauses ≡ clauses_of parents → sites ≡ sites_from 0 clauses → readings ≡ readings_from 0 clauses

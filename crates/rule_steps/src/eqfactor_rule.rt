@@ -3,19 +3,22 @@ ghost use Rattle.clause_form.specs.Covers.{scope_of};
 ghost use Rattle.clause_rules.specs.declared.just.Just.TheVariants.{EqFactor};
 ghost use Rattle.clause_rules.specs.Answers.{IsAnswer, eqfactor};
 ghost use Rattle.clause_rules.specs.EqFactorRule.{Factors};
-ghost use Rattle.rule_steps.specs.code.EqFactorSearch.{FoundFactor, FoundInParent, FoundInParents, NoneRead, NoneWith};
+ghost use Rattle.rule_steps.specs.code.EqFactorSearch.{FoundFactor, FoundInParent, NoneRead, NoneWith};
 ghost use Rattle.rule_steps.specs.code.EqFactorSearch.{NoneFrom, NoneIn};
 ghost use Rattle.clause_rules.specs.JointClauses.{IsJoinedOne};
 ghost use Rattle.clause_rules.specs.Settled.{IsFit, Settles};
+ghost use Rattle.rule_steps.specs.code.AmongClauses.{AnswersBy};
 ghost use Rattle.rule_steps.specs.code.SlotFits.{IsSlotFit, AllFit};
 ghost use Rattle.clause_rules.specs.Steps.{unequal, AreReady, IsReady};
 
+use crate::clause_rule::{ClauseRule, step_by};
+use crate::search::Search;
 use crate::sides::{Sides, sides_of};
-use clause_form::{AtomOf, Clause, Lit, Parent, as_clause, copy_lits};
+use clause_form::{AtomOf, Clause, Lit, Parent, copy_lits};
 use clause_rules::{Joint, Just, join_one};
 use fof_terms::{Form, Signature, Term};
 use std::alloc::Global;
-use substitution_search::{clauses_of_parents, may_others_be_covered, settle_beside};
+use substitution_search::{may_others_be_covered, settle_beside};
 use tptp_base::{List, Memory};
 use unify_terms::Subst;
 
@@ -27,6 +30,22 @@ pub struct Factor {
     pub second: usize,
     pub second_flipped: bool,
     pub subst: Subst,
+}
+
+/// The rule, for what all rules of its kind share.
+pub struct Factorings;
+
+impl ClauseRule for Factorings {
+    ghost use Rattle.std.specs.Prelude.{refl};
+    ghost use Rattle.clause_rules.specs.Answers.{eqfactor};
+
+    ghost rule = { eqfactor };
+
+    fn among(search: &Search<'_>) -> Result<Option<Just>, Memory> {
+        factor_among(search)
+    }
+
+    ghost clauses_alone = { refl };
 }
 
 /// A justification by the rule `eqfactor`: two equations of a parent get one side in common, and their other sides are
@@ -41,13 +60,7 @@ pub fn eqfactor_step(
     requires line { IsReady sig.now line.now }
     ensures { IfOk result (λ answer. IsAnswer sig.now parents.now line.now eqfactor answer) }
 {
-    match as_clause(alloc, line)? {
-        Some(line) => {
-            let clauses = clauses_of_parents(alloc, parents)?;
-            factor_among(alloc, sig, clauses.as_slice(), &line)
-        }
-        None => Ok(None),
-    }
+    step_by::<Factorings>(alloc, sig, parents, line)
 }
 
 // The literals with the denied equation of the right sides in place of literal i.
@@ -79,24 +92,22 @@ fn unequal_lit(alloc: Global, left: &Term, right: &Term) -> Result<Lit, Memory>
 
 // A substitution that shows the factoring at these literals, read so; None exactly where there is none.
 fn factor_at(
-    alloc: Global,
-    sig: &Signature,
+    search: &Search<'_>,
     clause: &Clause,
-    line: &Clause,
     joint: &Joint,
     i: usize,
     first_flipped: bool,
     j: usize,
     second_flipped: bool,
 ) -> Result<Option<Subst>, Memory>
-    requires clause { IsFit sig.now clause.now }
-    requires line { IsFit sig.now line.now }
-    requires joint { IsJoinedOne line.now clause.now joint.now }
+    requires clause { IsFit search.now.sig.now clause.now }
+    requires line { IsFit search.now.sig.now search.now.line.now }
+    requires joint { IsJoinedOne search.now.line.now clause.now joint.now }
     requires first { i < length joint.now.left }
     requires second { j < length joint.now.left }
     ensures { IfOk result (λ found.
-        Settles sig.now line.now (scope_of clause.now)
-        (Factors sig.now clause.now line.now i first_flipped j second_flipped) found) }
+        Settles search.now.sig.now search.now.line.now (scope_of clause.now)
+        (Factors search.now.sig.now clause.now search.now.line.now i first_flipped j second_flipped) found) }
 {
     if i == j {
         return Ok(None);
@@ -105,15 +116,15 @@ fn factor_at(
     match sides_of(&lits[i], first_flipped) {
         Some(first) => match sides_of(&lits[j], second_flipped) {
             Some(second) => {
-                let made = with_denied(alloc, lits, i, &first, &second)?;
+                let made = with_denied(search.alloc, lits, i, &first, &second)?;
                 settle_beside(
-                    alloc,
-                    sig,
+                    search.alloc,
+                    search.sig,
                     &joint.scope,
                     first.left,
                     second.left,
                     made.as_slice(),
-                    line.lits.as_slice(),
+                    search.line.lits.as_slice(),
                 )
             }
             None => Ok(None),
@@ -124,28 +135,27 @@ fn factor_at(
 
 // A factoring at these literals, the first of them read so.
 fn factor_read(
-    alloc: Global,
-    sig: &Signature,
+    search: &Search<'_>,
     clause: &Clause,
-    line: &Clause,
     joint: &Joint,
     i: usize,
     first_flipped: bool,
     j: usize,
 ) -> Result<Option<Factor>, Memory>
-    requires clause { IsFit sig.now clause.now }
-    requires line { IsFit sig.now line.now }
-    requires joint { IsJoinedOne line.now clause.now joint.now }
+    requires clause { IsFit search.now.sig.now clause.now }
+    requires line { IsFit search.now.sig.now search.now.line.now }
+    requires joint { IsJoinedOne search.now.line.now clause.now joint.now }
     requires first { i < length joint.now.left }
     requires second { j < length joint.now.left }
     ensures { IfOk result (λ found.
-        FoundFactor sig.now clause.now line.now (NoneRead sig.now clause.now line.now i first_flipped j) found) }
+        FoundFactor search.now.sig.now clause.now search.now.line.now
+        (NoneRead search.now.sig.now clause.now search.now.line.now i first_flipped j) found) }
 {
-    let straight = factor_at(alloc, sig, clause, line, joint, i, first_flipped, j, false)?;
+    let straight = factor_at(search, clause, joint, i, first_flipped, j, false)?;
     if let Some(subst) = straight {
         return Ok(Some(factored(i, first_flipped, j, false, subst)));
     }
-    let flipped = factor_at(alloc, sig, clause, line, joint, i, first_flipped, j, true)?;
+    let flipped = factor_at(search, clause, joint, i, first_flipped, j, true)?;
     if let Some(subst) = flipped {
         return Ok(Some(factored(i, first_flipped, j, true, subst)));
     }
@@ -174,27 +184,26 @@ fn factored(i: usize, first_flipped: bool, j: usize, second_flipped: bool, subst
 
 // A factoring at these literals.
 fn factor_with(
-    alloc: Global,
-    sig: &Signature,
+    search: &Search<'_>,
     clause: &Clause,
-    line: &Clause,
     joint: &Joint,
     i: usize,
     j: usize,
 ) -> Result<Option<Factor>, Memory>
-    requires clause { IsFit sig.now clause.now }
-    requires line { IsFit sig.now line.now }
-    requires joint { IsJoinedOne line.now clause.now joint.now }
+    requires clause { IsFit search.now.sig.now clause.now }
+    requires line { IsFit search.now.sig.now search.now.line.now }
+    requires joint { IsJoinedOne search.now.line.now clause.now joint.now }
     requires first { i < length joint.now.left }
     requires second { j < length joint.now.left }
     ensures { IfOk result (λ found.
-        FoundFactor sig.now clause.now line.now (NoneWith sig.now clause.now line.now i j) found) }
+        FoundFactor search.now.sig.now clause.now search.now.line.now
+        (NoneWith search.now.sig.now clause.now search.now.line.now i j) found) }
 {
-    let straight = factor_read(alloc, sig, clause, line, joint, i, false, j)?;
+    let straight = factor_read(search, clause, joint, i, false, j)?;
     if let Some(factor) = straight {
         return Ok(Some(factor));
     }
-    let flipped = factor_read(alloc, sig, clause, line, joint, i, true, j)?;
+    let flipped = factor_read(search, clause, joint, i, true, j)?;
     if let Some(factor) = flipped {
         return Ok(Some(factor));
     }
@@ -203,25 +212,24 @@ fn factor_with(
 
 // A factoring whose first equation is literal i. A cheap test of the other literals comes first.
 fn factor_from(
-    alloc: Global,
-    sig: &Signature,
+    search: &Search<'_>,
     clause: &Clause,
-    line: &Clause,
     joint: &Joint,
     i: usize,
 ) -> Result<Option<Factor>, Memory>
-    requires clause { IsFit sig.now clause.now }
-    requires line { IsFit sig.now line.now }
-    requires joint { IsJoinedOne line.now clause.now joint.now }
+    requires clause { IsFit search.now.sig.now clause.now }
+    requires line { IsFit search.now.sig.now search.now.line.now }
+    requires joint { IsJoinedOne search.now.line.now clause.now joint.now }
     requires first { i < length joint.now.left }
     ensures { IfOk result (λ found.
-        FoundFactor sig.now clause.now line.now (NoneFrom sig.now clause.now line.now i) found) }
+        FoundFactor search.now.sig.now clause.now search.now.line.now
+        (NoneFrom search.now.sig.now clause.now search.now.line.now i) found) }
 {
-    if !may_others_be_covered(line.lits.as_slice(), clause.lits.as_slice(), i) {
+    if !may_others_be_covered(search.line.lits.as_slice(), clause.lits.as_slice(), i) {
         return Ok(None);
     }
     for j in 0..joint.left.len() {
-        let found = factor_with(alloc, sig, clause, line, joint, i, j)?;
+        let found = factor_with(search, clause, joint, i, j)?;
         if let Some(factor) = found {
             return Ok(Some(factor));
         }
@@ -231,20 +239,19 @@ fn factor_from(
 
 // A factoring over this scope.
 fn factor_joint(
-    alloc: Global,
-    sig: &Signature,
+    search: &Search<'_>,
     clause: &Clause,
-    line: &Clause,
     joint: &Joint,
 ) -> Result<Option<Factor>, Memory>
-    requires clause { IsFit sig.now clause.now }
-    requires line { IsFit sig.now line.now }
-    requires joint { IsJoinedOne line.now clause.now joint.now }
+    requires clause { IsFit search.now.sig.now clause.now }
+    requires line { IsFit search.now.sig.now search.now.line.now }
+    requires joint { IsJoinedOne search.now.line.now clause.now joint.now }
     ensures { IfOk result (λ found.
-        FoundFactor sig.now clause.now line.now (NoneIn sig.now clause.now line.now) found) }
+        FoundFactor search.now.sig.now clause.now search.now.line.now
+        (NoneIn search.now.sig.now clause.now search.now.line.now) found) }
 {
     for i in 0..joint.left.len() {
-        let found = factor_from(alloc, sig, clause, line, joint, i)?;
+        let found = factor_from(search, clause, joint, i)?;
         if let Some(factor) = found {
             return Ok(Some(factor));
         }
@@ -253,38 +260,28 @@ fn factor_joint(
 }
 
 // A factoring of the clause, if it is one.
-fn factor_slot(
-    alloc: Global,
-    sig: &Signature,
-    slot: &Option<Clause>,
-    line: &Clause,
-) -> Result<Option<Factor>, Memory>
-    requires slot { IsSlotFit sig.now slot.now }
-    requires line { IsFit sig.now line.now }
-    ensures { IfOk result (λ found. FoundInParent sig.now slot.now line.now found) }
+fn factor_slot(search: &Search<'_>, slot: &Option<Clause>) -> Result<Option<Factor>, Memory>
+    requires slot { IsSlotFit search.now.sig.now slot.now }
+    requires line { IsFit search.now.sig.now search.now.line.now }
+    ensures { IfOk result (λ found. FoundInParent search.now.sig.now slot.now search.now.line.now found) }
 {
     match slot {
         Some(clause) => {
-            let joint = join_one(alloc, sig, line, clause)?;
-            factor_joint(alloc, sig, clause, line, &joint)
+            let joint = join_one(search.alloc, search.sig, search.line, clause)?;
+            factor_joint(search, clause, &joint)
         }
         None => Ok(None),
     }
 }
 
 /// A factoring of one of the clauses.
-pub fn factor_among(
-    alloc: Global,
-    sig: &Signature,
-    clauses: &[Option<Clause>],
-    line: &Clause,
-) -> Result<Option<Just>, Memory>
-    requires clauses { AllFit sig.now clauses.now }
-    requires line { IsFit sig.now line.now }
-    ensures { IfOk result (λ found. FoundInParents sig.now clauses.now line.now found) }
+pub fn factor_among(search: &Search<'_>) -> Result<Option<Just>, Memory>
+    requires clauses { AllFit search.now.sig.now search.now.clauses.now }
+    requires line { IsFit search.now.sig.now search.now.line.now }
+    ensures { IfOk result (λ found. AnswersBy eqfactor search.now found) }
 {
-    for a in 0..clauses.len() {
-        let found = factor_slot(alloc, sig, &clauses[a], line)?;
+    for a in 0..search.clauses.len() {
+        let found = factor_slot(search, &search.clauses[a])?;
         if let Some(factor) = found {
             return Ok(Some(justified(a, factor)));
         }

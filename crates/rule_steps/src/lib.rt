@@ -3,15 +3,19 @@
 #![tactic(auto)]
 
 mod beside;
+mod clause_rule;
 mod cover_rule;
 mod eqfactor_rule;
 mod norm_rule;
+mod outline;
 mod paramodulating;
 mod paramodulation_rule;
 mod recognising;
 mod resolution_rule;
 mod rewrite_rule;
+mod search;
 mod sides;
+mod site_rule;
 mod sites;
 mod tautology_rule;
 

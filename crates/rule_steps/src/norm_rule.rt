@@ -6,6 +6,7 @@ ghost use Rattle.clause_rules.specs.Steps.{AreReady, IsReady};
 ghost use Rattle.flat_form.specs.Flat.{HasFlat};
 ghost use Rattle.rule_steps.specs.code.NormRule.{IsFirstAlike};
 
+use crate::outline::may_be_alike;
 use clause_form::{FormFault, Parent};
 use clause_rules::Just;
 use flat_form::flat;
@@ -44,8 +45,12 @@ pub fn first_norm(
     ensures { IfOk result (λ found. MatchOption found (IsNormStep parents.now line.now
         → ⊥) (IsFirstNorm parents.now line.now)) }
 {
+    let is_open = may_be_alike(alloc, parents, line)?;
+    if !is_open {
+        return Ok(None);
+    }
     match small_flat(alloc, sig, line)? {
-        Some(made) => first_alike(alloc, sig, parents, made.get()),
+        Some(made) => first_alike(alloc, sig, parents, line, made.get()),
         None => Ok(None),
     }
 }
@@ -62,19 +67,21 @@ fn small_flat(alloc: Global, sig: &Signature, form: &Form) -> Result<Option<Boxe
     }
 }
 
-// The number of the first parent with this flat form.
+// The number of the first parent with the flat form that the line has.
 fn first_alike(
     alloc: Global,
     sig: &Signature,
     parents: &[Parent],
+    line: &Form,
     made: &Form,
 ) -> Result<Option<usize>, Memory>
     requires parents { AreReady sig.now parents.now }
+    requires line { HasFlat line.now made.now }
     ensures { IfOk result (λ found. MatchOption found ((a : ℕ) → FlatsAlike parents.now made.now a
         → ⊥) (IsFirstAlike parents.now made.now)) }
 {
     for at in 0..parents.len() {
-        let is_alike = is_flat_of(alloc, sig, made, &parents[at].form)?;
+        let is_alike = is_flat_of(alloc, sig, line, made, &parents[at].form)?;
         if is_alike {
             return Ok(Some(at));
         }
@@ -82,11 +89,21 @@ fn first_alike(
     Ok(None)
 }
 
-// Whether this is the flat form of the formula.
-fn is_flat_of(alloc: Global, sig: &Signature, made: &Form, form: &Form) -> Result<bool, Memory>
+// Whether the flat form that the line has is that of the formula. It is where the formula is the line.
+fn is_flat_of(
+    alloc: Global,
+    sig: &Signature,
+    line: &Form,
+    made: &Form,
+    form: &Form,
+) -> Result<bool, Memory>
+    requires line { HasFlat line.now made.now }
     requires form { IsReady sig.now form.now }
     ensures { IfOk result (λ answer. IsTrue answer ↔ HasFlat form.now made.now) }
 {
+    if equal(form, line) {
+        return Ok(true);
+    }
     match small_flat(alloc, sig, form)? {
         Some(other) => Ok(equal(other.get(), made)),
         None => Ok(false),

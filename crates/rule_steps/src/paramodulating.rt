@@ -7,6 +7,7 @@ ghost use Rattle.clause_rules.specs.Places.{lit_put_at};
 ghost use Rattle.clause_rules.specs.Settled.{IsFit, Settles};
 ghost use Rattle.clause_rules.specs.Steps.{equation, scope_of_both};
 
+use crate::search::Search;
 use crate::sides::Sides;
 use crate::sites::{Reading, Site, Spot, equation_in, spot_in};
 use clause_form::{Clause, Lit, copy_lits};
@@ -19,40 +20,44 @@ use unify_terms::{Scope, Subst};
 
 /// A substitution that shows the paramodulation at this place with this equation, over one list of variables.
 pub fn of_joint(
-    alloc: Global,
-    sig: &Signature,
+    search: &Search<'_>,
     into: &Clause,
     from: &Clause,
-    line: &Clause,
     site: &Site,
     reading: &Reading,
 ) -> Result<Option<Subst>, Memory>
-    requires into { IsFit sig.now into.now }
-    requires from { IsFit sig.now from.now }
-    requires line { IsFit sig.now line.now }
+    requires into { IsFit search.now.sig.now into.now }
+    requires from { IsFit search.now.sig.now from.now }
+    requires line { IsFit search.now.sig.now search.now.line.now }
     requires place { HasPlace into.now.lits site.now.lit site.now.at }
     ensures { IfOk result (λ found.
-        Settles sig.now line.now (scope_of_both into.now from.now)
-        (Paramodulates sig.now into.now from.now line.now site.now.lit site.now.at reading.now.lit
-        reading.now.flipped) found) }
+        Settles search.now.sig.now search.now.line.now (scope_of_both into.now from.now)
+        (Paramodulates search.now.sig.now into.now from.now search.now.line.now site.now.lit site.now.at
+        reading.now.lit reading.now.flipped) found) }
 {
-    let joint = join(alloc, sig, line, into, from)?;
+    let joint = join(search.alloc, search.sig, search.line, into, from)?;
     match spot_in(joint.left.as_slice(), site.lit, site.at.as_slice()) {
         Some(spot) => match equation_in(joint.right.as_slice(), reading.lit, reading.flipped) {
             Some(sides) => {
-                let is_one = is_one_sort(alloc, sig, &joint.scope, spot.term, sides.left)?;
+                let is_one = is_one_sort(
+                    search.alloc,
+                    search.sig,
+                    &joint.scope,
+                    spot.term,
+                    sides.left,
+                )?;
                 if !is_one {
                     return Ok(None);
                 }
-                let lits = paramodulated(alloc, &joint, site, reading, &spot, &sides)?;
+                let lits = paramodulated(search.alloc, &joint, site, reading, &spot, &sides)?;
                 settle_beside(
-                    alloc,
-                    sig,
+                    search.alloc,
+                    search.sig,
                     &joint.scope,
                     spot.term,
                     sides.left,
                     lits.as_slice(),
-                    line.lits.as_slice(),
+                    search.line.lits.as_slice(),
                 )
             }
             None => Ok(None),

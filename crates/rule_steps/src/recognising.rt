@@ -12,6 +12,7 @@ use crate::norm_rule::norm_step;
 use crate::paramodulation_rule::paramodulate_among;
 use crate::resolution_rule::resolve_among;
 use crate::rewrite_rule::rewrite_among;
+use crate::search::Search;
 use clause_form::{Clause, Parent, as_clause, is_trivial};
 use clause_rules::Just;
 use fof_terms::{Form, Signature};
@@ -75,33 +76,34 @@ fn by_clause(
         return Ok(Some(Just::Tautology));
     }
     let clauses = clauses_of_parents(alloc, parents)?;
-    among_clauses(alloc, sig, clauses.as_slice(), line)
+    let search = Search {
+        alloc,
+        sig,
+        clauses: clauses.as_slice(),
+        line,
+    };
+    among_clauses(&search)
 }
 
 // The same by the rules that go by the clauses of parents.
-fn among_clauses(
-    alloc: Global,
-    sig: &Signature,
-    clauses: &[Option<Clause>],
-    line: &Clause,
-) -> Result<Option<Just>, Memory>
-    requires clauses { AllFit sig.now clauses.now }
-    requires line { IsFit sig.now line.now }
+fn among_clauses(search: &Search<'_>) -> Result<Option<Just>, Memory>
+    requires clauses { AllFit search.now.sig.now search.now.clauses.now }
+    requires line { IsFit search.now.sig.now search.now.line.now }
     ensures { IfOk result (λ answer. (parents : ListOf Cited)
-        → clauses.now ≡ clauses_of parents
-        → IsFirstAfter sig.now parents line.now 3 answer) }
+        → search.now.clauses.now ≡ clauses_of parents
+        → IsFirstAfter search.now.sig.now parents search.now.line.now 3 answer) }
 {
-    let resolution = resolve_among(alloc, sig, clauses, line)?;
+    let resolution = resolve_among(search)?;
     if let Some(just) = resolution {
         return Ok(Some(just));
     }
-    let paramodulation = paramodulate_among(alloc, sig, clauses, line)?;
+    let paramodulation = paramodulate_among(search)?;
     if let Some(just) = paramodulation {
         return Ok(Some(just));
     }
-    let eqfactor = factor_among(alloc, sig, clauses, line)?;
+    let eqfactor = factor_among(search)?;
     if let Some(just) = eqfactor {
         return Ok(Some(just));
     }
-    rewrite_among(alloc, sig, clauses, line)
+    rewrite_among(search)
 }

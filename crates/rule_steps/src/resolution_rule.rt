@@ -3,19 +3,20 @@ ghost use Rattle.clause_rules.specs.declared.just.Just.TheVariants.{Resolution};
 ghost use Rattle.clause_rules.specs.Answers.{IsAnswer, resolution};
 ghost use Rattle.clause_rules.specs.ResolutionRule.{ResolvesTo};
 ghost use Rattle.rule_steps.specs.code.ResolutionSearch.{resolution_needs, AsksAt, NeverResolves, FoundAt, FoundInSlot};
-ghost use Rattle.rule_steps.specs.code.ResolutionSearch.{FoundPivot, FoundWith, FoundFrom, FoundAmong};
+ghost use Rattle.rule_steps.specs.code.ResolutionSearch.{FoundPivot, FoundWith, FoundFrom};
 ghost use Rattle.clause_rules.specs.Settled.{IsFit, Settles};
+ghost use Rattle.rule_steps.specs.code.AmongClauses.{AnswersBy};
 ghost use Rattle.rule_steps.specs.code.SlotFits.{IsSlotFit, AllFit};
 ghost use Rattle.clause_rules.specs.Steps.{scope_of_both, AreReady, IsReady};
 ghost use Rattle.clause_rules.specs.Ways.{goal_of_needs};
 
-use clause_form::{Clause, Lit, Parent, as_clause};
+use crate::clause_rule::{ClauseRule, step_by};
+use crate::search::Search;
+use clause_form::{Clause, Lit, Parent};
 use clause_rules::{Joint, Just, join, with_one};
 use fof_terms::{Form, Signature};
 use std::alloc::Global;
-use substitution_search::{
-    all_covered, alone, clauses_of_parents, may_be_pivot, may_clash, settle, ways_to,
-};
+use substitution_search::{all_covered, alone, may_be_pivot, may_clash, settle, ways_to};
 use tptp_base::{List, Memory};
 use unify_terms::{Goal, Subst};
 
@@ -24,6 +25,22 @@ use unify_terms::{Goal, Subst};
 pub struct Found {
     pub place: usize,
     pub subst: Subst,
+}
+
+/// The rule, for what all rules of its kind share.
+pub struct Resolutions;
+
+impl ClauseRule for Resolutions {
+    ghost use Rattle.std.specs.Prelude.{refl};
+    ghost use Rattle.clause_rules.specs.Answers.{resolution};
+
+    ghost rule = { resolution };
+
+    fn among(search: &Search<'_>) -> Result<Option<Just>, Memory> {
+        resolve_among(search)
+    }
+
+    ghost clauses_alone = { refl };
 }
 
 /// A justification by the rule `resolution`: two literals of two parents become complementary, and what else the
@@ -38,28 +55,17 @@ pub fn resolution_step(
     requires line { IsReady sig.now line.now }
     ensures { IfOk result (λ answer. IsAnswer sig.now parents.now line.now resolution answer) }
 {
-    match as_clause(alloc, line)? {
-        Some(line) => {
-            let clauses = clauses_of_parents(alloc, parents)?;
-            resolve_among(alloc, sig, clauses.as_slice(), &line)
-        }
-        None => Ok(None),
-    }
+    step_by::<Resolutions>(alloc, sig, parents, line)
 }
 
 /// The same among the clauses that the parents are.
-pub fn resolve_among(
-    alloc: Global,
-    sig: &Signature,
-    clauses: &[Option<Clause>],
-    line: &Clause,
-) -> Result<Option<Just>, Memory>
-    requires clauses { AllFit sig.now clauses.now }
-    requires line { IsFit sig.now line.now }
-    ensures { IfOk result (λ found. FoundAmong sig.now clauses.now line.now found) }
+pub fn resolve_among(search: &Search<'_>) -> Result<Option<Just>, Memory>
+    requires clauses { AllFit search.now.sig.now search.now.clauses.now }
+    requires line { IsFit search.now.sig.now search.now.line.now }
+    ensures { IfOk result (λ found. AnswersBy resolution search.now found) }
 {
-    for a in 0..clauses.len() {
-        let found = resolve_from(alloc, sig, clauses, &clauses[a], line, a)?;
+    for a in 0..search.clauses.len() {
+        let found = resolve_from(search, &search.clauses[a], a)?;
         if let Some(just) = found {
             return Ok(Some(just));
         }
@@ -69,40 +75,32 @@ pub fn resolve_among(
 
 // The same with this left clause, if it is one.
 fn resolve_from(
-    alloc: Global,
-    sig: &Signature,
-    clauses: &[Option<Clause>],
+    search: &Search<'_>,
     left: &Option<Clause>,
-    line: &Clause,
     a: usize,
 ) -> Result<Option<Just>, Memory>
-    requires clauses { AllFit sig.now clauses.now }
-    requires left { IsSlotFit sig.now left.now }
-    requires line { IsFit sig.now line.now }
-    ensures { IfOk result (λ found. FoundFrom sig.now clauses.now left.now line.now a found) }
+    requires clauses { AllFit search.now.sig.now search.now.clauses.now }
+    requires left { IsSlotFit search.now.sig.now left.now }
+    requires line { IsFit search.now.sig.now search.now.line.now }
+    ensures { IfOk result (λ found.
+        FoundFrom search.now.sig.now search.now.clauses.now left.now search.now.line.now a found) }
 {
     match left {
-        Some(left) => resolve_with(alloc, sig, clauses, left, line, a),
+        Some(left) => resolve_with(search, left, a),
         None => Ok(None),
     }
 }
 
 // The same with this left clause, whose number is a.
-fn resolve_with(
-    alloc: Global,
-    sig: &Signature,
-    clauses: &[Option<Clause>],
-    left: &Clause,
-    line: &Clause,
-    a: usize,
-) -> Result<Option<Just>, Memory>
-    requires clauses { AllFit sig.now clauses.now }
-    requires left { IsFit sig.now left.now }
-    requires line { IsFit sig.now line.now }
-    ensures { IfOk result (λ found. FoundWith sig.now clauses.now left.now line.now a found) }
+fn resolve_with(search: &Search<'_>, left: &Clause, a: usize) -> Result<Option<Just>, Memory>
+    requires clauses { AllFit search.now.sig.now search.now.clauses.now }
+    requires left { IsFit search.now.sig.now left.now }
+    requires line { IsFit search.now.sig.now search.now.line.now }
+    ensures { IfOk result (λ found.
+        FoundWith search.now.sig.now search.now.clauses.now left.now search.now.line.now a found) }
 {
     for i in 0..left.lits.len() {
-        let found = resolve_pivot(alloc, sig, clauses, left, line, a, i)?;
+        let found = resolve_pivot(search, left, a, i)?;
         if let Some(just) = found {
             return Ok(Some(just));
         }
@@ -112,25 +110,23 @@ fn resolve_with(
 
 // The same at this literal of the left clause. Whether the others can be covered is tested once for all right clauses.
 fn resolve_pivot(
-    alloc: Global,
-    sig: &Signature,
-    clauses: &[Option<Clause>],
+    search: &Search<'_>,
     left: &Clause,
-    line: &Clause,
     a: usize,
     i: usize,
 ) -> Result<Option<Just>, Memory>
-    requires clauses { AllFit sig.now clauses.now }
-    requires left { IsFit sig.now left.now }
-    requires line { IsFit sig.now line.now }
+    requires clauses { AllFit search.now.sig.now search.now.clauses.now }
+    requires left { IsFit search.now.sig.now left.now }
+    requires line { IsFit search.now.sig.now search.now.line.now }
     requires left_lit { i < length left.now.lits }
-    ensures { IfOk result (λ found. FoundPivot sig.now clauses.now left.now line.now a i found) }
+    ensures { IfOk result (λ found.
+        FoundPivot search.now.sig.now search.now.clauses.now left.now search.now.line.now a i found) }
 {
-    if !may_be_pivot(line.lits.as_slice(), left.lits.as_slice(), i) {
+    if !may_be_pivot(search.line.lits.as_slice(), left.lits.as_slice(), i) {
         return Ok(None);
     }
-    for b in 0..clauses.len() {
-        let found = resolve_slot(alloc, sig, left, &clauses[b], line, i)?;
+    for b in 0..search.clauses.len() {
+        let found = resolve_slot(search, left, &search.clauses[b], i)?;
         if let Some(found) = found {
             return Ok(Some(justified(a, b, i, found)));
         }
@@ -140,21 +136,19 @@ fn resolve_pivot(
 
 // The same for a right clause, if it is one.
 fn resolve_slot(
-    alloc: Global,
-    sig: &Signature,
+    search: &Search<'_>,
     left: &Clause,
     right: &Option<Clause>,
-    line: &Clause,
     i: usize,
 ) -> Result<Option<Found>, Memory>
-    requires left { IsFit sig.now left.now }
-    requires right { IsSlotFit sig.now right.now }
-    requires line { IsFit sig.now line.now }
+    requires left { IsFit search.now.sig.now left.now }
+    requires right { IsSlotFit search.now.sig.now right.now }
+    requires line { IsFit search.now.sig.now search.now.line.now }
     requires left_lit { i < length left.now.lits }
-    ensures { IfOk result (λ found. FoundInSlot sig.now left.now right.now line.now i found) }
+    ensures { IfOk result (λ found. FoundInSlot search.now.sig.now left.now right.now search.now.line.now i found) }
 {
     match right {
-        Some(right) => resolve_lit(alloc, sig, left, right, line, i),
+        Some(right) => resolve_lit(search, left, right, i),
         None => Ok(None),
     }
 }
@@ -175,21 +169,19 @@ fn justified(a: usize, b: usize, i: usize, found: Found) -> Just
 
 // The same at this literal of the left clause.
 fn resolve_lit(
-    alloc: Global,
-    sig: &Signature,
+    search: &Search<'_>,
     left: &Clause,
     right: &Clause,
-    line: &Clause,
     i: usize,
 ) -> Result<Option<Found>, Memory>
-    requires left { IsFit sig.now left.now }
-    requires right { IsFit sig.now right.now }
-    requires line { IsFit sig.now line.now }
+    requires left { IsFit search.now.sig.now left.now }
+    requires right { IsFit search.now.sig.now right.now }
+    requires line { IsFit search.now.sig.now search.now.line.now }
     requires left_lit { i < length left.now.lits }
-    ensures { IfOk result (λ found. FoundAt sig.now left.now right.now line.now i found) }
+    ensures { IfOk result (λ found. FoundAt search.now.sig.now left.now right.now search.now.line.now i found) }
 {
     for j in 0..right.lits.len() {
-        let found = resolve_at(alloc, sig, left, right, line, i, j)?;
+        let found = resolve_at(search, left, right, i, j)?;
         if let Some(subst) = found {
             return Ok(Some(Found { place: j, subst }));
         }
@@ -220,30 +212,28 @@ fn resolution_goal(
 
 // A substitution that shows the resolution at these literals; None exactly where there is none.
 fn resolve_at(
-    alloc: Global,
-    sig: &Signature,
+    search: &Search<'_>,
     left: &Clause,
     right: &Clause,
-    line: &Clause,
     i: usize,
     j: usize,
 ) -> Result<Option<Subst>, Memory>
-    requires left { IsFit sig.now left.now }
-    requires right { IsFit sig.now right.now }
-    requires line { IsFit sig.now line.now }
+    requires left { IsFit search.now.sig.now left.now }
+    requires right { IsFit search.now.sig.now right.now }
+    requires line { IsFit search.now.sig.now search.now.line.now }
     requires left_lit { i < length left.now.lits }
     requires right_lit { j < length right.now.lits }
     ensures { IfOk result (λ found.
-        Settles sig.now line.now (scope_of_both left.now right.now)
-        (ResolvesTo sig.now left.now right.now line.now i j) found) }
+        Settles search.now.sig.now search.now.line.now (scope_of_both left.now right.now)
+        (ResolvesTo search.now.sig.now left.now right.now search.now.line.now i j) found) }
 {
-    let line_lits = line.lits.as_slice();
+    let line_lits = search.line.lits.as_slice();
     if !may_resolve(line_lits, left.lits.as_slice(), right.lits.as_slice(), i, j) {
         return Ok(None);
     }
-    let joint = join(alloc, sig, line, left, right)?;
-    let goal = goal_at(alloc, line, &joint, i, j)?;
-    settle(alloc, sig, &joint.scope, &goal)
+    let joint = join(search.alloc, search.sig, search.line, left, right)?;
+    let goal = goal_at(search.alloc, search.line, &joint, i, j)?;
+    settle(search.alloc, search.sig, &joint.scope, &goal)
 }
 
 // Whether the literals may become complementary, and all others of the right clause be covered or be its one. These

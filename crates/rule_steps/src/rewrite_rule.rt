@@ -1,23 +1,26 @@
 ghost use Rattle.std.specs.Prelude.{◌≡◌, ◌≤◌, ◌∷◌, [], false, length, Some, IfOk};
-ghost use Rattle.std.specs.Option.{option_map};
+ghost use Rattle.std.specs.Option.{MatchOption, option_map};
 ghost use Rattle.clause_form.specs.Covers.{AreSorted, CoversBy};
 ghost use Rattle.clause_rules.specs.declared.just.Just.TheVariants.{Rewrite};
 ghost use Rattle.clause_rules.specs.Answers.{IsAnswer, rewrite};
 ghost use Rattle.clause_rules.specs.RewriteRule.{StandsIn};
-ghost use Rattle.rule_steps.specs.code.ParamodulationSearch.{readings_from, sites_from};
-ghost use Rattle.rule_steps.specs.code.RewriteSearch.{NeverRewritten, RewritesAtSite, RewritesAtSites};
-ghost use Rattle.rule_steps.specs.code.RewriteSearch.{SettlesRewriting, TriedRewriting};
+ghost use Rattle.rule_steps.specs.code.RewriteSearch.{NeverRewritten, NoRewritingAt};
+ghost use Rattle.rule_steps.specs.code.RewriteSearch.{SettlesRewriting, ShowsRewriting, TriedRewriting};
+ghost use Rattle.rule_steps.specs.code.AmongClauses.{AnswersBy};
 ghost use Rattle.rule_steps.specs.code.SlotFits.{AllFit};
 ghost use Rattle.clause_rules.specs.Settled.{IsFit, Settles};
 ghost use Rattle.clause_rules.specs.Steps.{AreReady, IsReady, scope_of_both};
 
+use crate::clause_rule::{ClauseRule, step_by};
 use crate::paramodulation_rule::clause_in;
+use crate::search::Search;
+use crate::site_rule::{SiteRule, at_sites};
 use crate::sites::{Reading, Site, equation_in, readings_of, sites_of, spot_in};
-use clause_form::{Clause, Lit, Parent, as_clause};
+use clause_form::{Clause, Lit, Parent};
 use clause_rules::{Just, apart, join_one, replace_in_lits, scope_of_clause};
 use fof_terms::{Form, Signature, Term};
 use std::alloc::Global;
-use substitution_search::{clauses_of_parents, may_all_be_covered, may_meet, settle_covers};
+use substitution_search::{may_all_be_covered, may_meet, settle_covers};
 use tptp_base::{List, Memory};
 use unify_terms::{Pair, Scope, Subst, apply, unify};
 
@@ -27,6 +30,39 @@ pub struct Rewriting {
     pub target: Term,
     pub by_subst: Subst,
     pub subst: Subst,
+}
+
+/// The rule, for what all rules of its kind share.
+pub struct Rewritings;
+
+impl SiteRule for Rewritings {
+    ghost use Rattle.rule_steps.specs.code.RewriteSearch.{NoRewritingAt, ShowsRewriting};
+
+    ghost Never = { λ search site reading.
+        NoRewritingAt search.sig.now search.clauses.now search.line.now site reading };
+
+    ghost Shows = { λ search just. ShowsRewriting search.sig.now search.clauses.now search.line.now just };
+
+    fn may_change(_search: &Search<'_>, _site: &Site) -> Result<bool, Memory> {
+        Ok(true)
+    }
+
+    fn try_at(search: &Search<'_>, site: &Site, reading: &Reading) -> Result<Option<Just>, Memory> {
+        rewriting_at(search, site, reading)
+    }
+}
+
+impl ClauseRule for Rewritings {
+    ghost use Rattle.std.specs.Prelude.{refl};
+    ghost use Rattle.clause_rules.specs.Answers.{rewrite};
+
+    ghost rule = { rewrite };
+
+    fn among(search: &Search<'_>) -> Result<Option<Just>, Memory> {
+        rewrite_among(search)
+    }
+
+    ghost clauses_alone = { refl };
 }
 
 /// A justification by the rule `rewrite`: an instance of the left side of a parent that is one positive equation, as it
@@ -42,85 +78,37 @@ pub fn rewrite_step(
     requires line { IsReady sig.now line.now }
     ensures { IfOk result (λ answer. IsAnswer sig.now parents.now line.now rewrite answer) }
 {
-    match as_clause(alloc, line)? {
-        Some(line) => {
-            let clauses = clauses_of_parents(alloc, parents)?;
-            rewrite_among(alloc, sig, clauses.as_slice(), &line)
-        }
-        None => Ok(None),
-    }
+    step_by::<Rewritings>(alloc, sig, parents, line)
 }
 
 /// The same among the clauses that the parents are.
-pub fn rewrite_among(
-    alloc: Global,
-    sig: &Signature,
-    clauses: &[Option<Clause>],
-    line: &Clause,
-) -> Result<Option<Just>, Memory>
-    requires clauses { AllFit sig.now clauses.now }
-    requires line { IsFit sig.now line.now }
-    ensures { IfOk result (λ found.
-        RewritesAtSites sig.now clauses.now (sites_from 0 clauses.now) (readings_from 0 clauses.now) line.now found) }
+pub fn rewrite_among(search: &Search<'_>) -> Result<Option<Just>, Memory>
+    requires clauses { AllFit search.now.sig.now search.now.clauses.now }
+    requires line { IsFit search.now.sig.now search.now.line.now }
+    ensures { IfOk result (λ found. AnswersBy rewrite search.now found) }
 {
-    let readings = readings_of(alloc, clauses)?;
+    let readings = readings_of(search.alloc, search.clauses)?;
     if readings.is_empty() {
         return Ok(None);
     }
-    let sites = sites_of(alloc, clauses)?;
-    at_sites(
-        alloc,
-        sig,
-        clauses,
-        sites.as_slice(),
-        readings.as_slice(),
-        line,
-    )
+    let sites = sites_of(search.alloc, search.clauses)?;
+    at_sites::<Rewritings>(search, sites.as_slice(), readings.as_slice())
 }
 
-// A justification at one of the places.
-fn at_sites(
-    alloc: Global,
-    sig: &Signature,
-    clauses: &[Option<Clause>],
-    sites: &[Site],
-    readings: &[Reading],
-    line: &Clause,
-) -> Result<Option<Just>, Memory>
-    requires clauses { AllFit sig.now clauses.now }
-    requires line { IsFit sig.now line.now }
-    ensures { IfOk result (λ found. RewritesAtSites sig.now clauses.now sites.now readings.now line.now found) }
+// A justification at this place with this equation.
+fn rewriting_at(search: &Search<'_>, site: &Site, reading: &Reading) -> Result<Option<Just>, Memory>
+    requires clauses { AllFit search.now.sig.now search.now.clauses.now }
+    requires line { IsFit search.now.sig.now search.now.line.now }
+    ensures { IfOk result (λ found.
+        MatchOption found
+        (NoRewritingAt search.now.sig.now search.now.clauses.now search.now.line.now site.now reading.now)
+        (ShowsRewriting search.now.sig.now search.now.clauses.now search.now.line.now)) }
 {
-    for m in 0..sites.len() {
-        let found = at_site(alloc, sig, clauses, readings, line, &sites[m])?;
-        if let Some(just) = found {
-            return Ok(Some(just));
-        }
+    let found = with_reading(search, site, reading)?;
+    match found {
+        Some(rewriting) => justified(site, reading, rewriting),
+        None => Ok(None),
     }
-    Ok(None)
-}
-
-// A justification at this place.
-fn at_site(
-    alloc: Global,
-    sig: &Signature,
-    clauses: &[Option<Clause>],
-    readings: &[Reading],
-    line: &Clause,
-    site: &Site,
-) -> Result<Option<Just>, Memory>
-    requires clauses { AllFit sig.now clauses.now }
-    requires line { IsFit sig.now line.now }
-    ensures { IfOk result (λ found. RewritesAtSite sig.now clauses.now readings.now line.now site.now found) }
-{
-    for k in 0..readings.len() {
-        let reading = &readings[k];
-        let found = with_reading(alloc, sig, clauses, line, site, reading)?;
-        if let Some(rewriting) = found {
-            return justified(site, reading, rewriting);
-        }
-    }
-    Ok(None)
 }
 
 // The justification at this place with this equation.
@@ -146,21 +134,19 @@ fn justified(site: &Site, reading: &Reading, rewriting: Rewriting) -> Result<Opt
 
 // A rewriting at this place with this equation.
 fn with_reading(
-    alloc: Global,
-    sig: &Signature,
-    clauses: &[Option<Clause>],
-    line: &Clause,
+    search: &Search<'_>,
     site: &Site,
     reading: &Reading,
 ) -> Result<Option<Rewriting>, Memory>
-    requires clauses { AllFit sig.now clauses.now }
-    requires line { IsFit sig.now line.now }
-    ensures { IfOk result (λ found. TriedRewriting sig.now clauses.now line.now site.now reading.now found) }
+    requires clauses { AllFit search.now.sig.now search.now.clauses.now }
+    requires line { IsFit search.now.sig.now search.now.line.now }
+    ensures { IfOk result (λ found.
+        TriedRewriting search.now.sig.now search.now.clauses.now search.now.line.now site.now reading.now found) }
 {
-    match clause_in(clauses, site.clause) {
-        Some(into) => match clause_in(clauses, reading.clause) {
+    match clause_in(search.clauses, site.clause) {
+        Some(into) => match clause_in(search.clauses, reading.clause) {
             Some(by) => match spot_in(into.lits.as_slice(), site.lit, site.at.as_slice()) {
-                Some(spot) => of_term(alloc, sig, into, by, line, spot.term, reading.flipped),
+                Some(spot) => of_term(search, into, by, spot.term, reading.flipped),
                 None => Ok(None),
             },
             None => Ok(None),
@@ -172,19 +158,18 @@ fn with_reading(
 // A rewriting of this term with the equation that a clause is, read so: cheap tests of the two terms and of the
 // literals come first.
 fn of_term(
-    alloc: Global,
-    sig: &Signature,
+    search: &Search<'_>,
     into: &Clause,
     by: &Clause,
-    line: &Clause,
     target: &Term,
     flipped: bool,
 ) -> Result<Option<Rewriting>, Memory>
-    requires into { IsFit sig.now into.now }
-    requires by { IsFit sig.now by.now }
-    requires line { IsFit sig.now line.now }
+    requires into { IsFit search.now.sig.now into.now }
+    requires by { IsFit search.now.sig.now by.now }
+    requires line { IsFit search.now.sig.now search.now.line.now }
     requires stands { StandsIn target.now into.now.lits }
-    ensures { IfOk result (λ found. SettlesRewriting sig.now into.now by.now line.now target.now flipped found) }
+    ensures { IfOk result (λ found.
+        SettlesRewriting search.now.sig.now into.now by.now search.now.line.now target.now flipped found) }
 {
     if by.lits.len() != 1 {
         return Ok(None);
@@ -194,11 +179,11 @@ fn of_term(
             if !may_meet(sides.left, target, true) {
                 return Ok(None);
             }
-            let is_open = may_be_rewritten(alloc, into, line, target)?;
+            let is_open = may_be_rewritten(search.alloc, into, search.line, target)?;
             if !is_open {
                 return Ok(None);
             }
-            of_match(alloc, sig, into, by, line, target, flipped)
+            of_match(search, into, by, target, flipped)
         }
         None => Ok(None),
     }
@@ -221,31 +206,30 @@ fn may_be_rewritten(
 
 // The same over one list of variables with the equation's: the left side is matched with the term.
 fn of_match(
-    alloc: Global,
-    sig: &Signature,
+    search: &Search<'_>,
     into: &Clause,
     by: &Clause,
-    line: &Clause,
     target: &Term,
     flipped: bool,
 ) -> Result<Option<Rewriting>, Memory>
-    requires into { IsFit sig.now into.now }
-    requires by { IsFit sig.now by.now }
-    requires line { IsFit sig.now line.now }
+    requires into { IsFit search.now.sig.now into.now }
+    requires by { IsFit search.now.sig.now by.now }
+    requires line { IsFit search.now.sig.now search.now.line.now }
     requires stands { StandsIn target.now into.now.lits }
     requires single { length by.now.lits ≡ 1 }
-    ensures { IfOk result (λ found. SettlesRewriting sig.now into.now by.now line.now target.now flipped found) }
+    ensures { IfOk result (λ found.
+        SettlesRewriting search.now.sig.now into.now by.now search.now.line.now target.now flipped found) }
 {
-    let joint = join_one(alloc, sig, into, by)?;
+    let joint = join_one(search.alloc, search.sig, into, by)?;
     match equation_in(joint.left.as_slice(), 0, flipped) {
         Some(sides) => {
-            let pairs = one_match(alloc, sides.left, target)?;
-            match unify(alloc, sig, &joint.scope, pairs.as_slice())? {
+            let pairs = one_match(search.alloc, sides.left, target)?;
+            match unify(search.alloc, search.sig, &joint.scope, pairs.as_slice())? {
                 Some(by_subst) => {
-                    let new = apply(alloc, &by_subst, sides.right)?;
-                    let lits = replace_in_lits(alloc, into.lits.as_slice(), target, &new)?;
-                    let found = cover_lits(alloc, sig, into, by, lits.as_slice(), line)?;
-                    rewriting_of(alloc, target, by_subst, found)
+                    let new = apply(search.alloc, &by_subst, sides.right)?;
+                    let lits = replace_in_lits(search.alloc, into.lits.as_slice(), target, &new)?;
+                    let found = cover_lits(search, into, by, lits.as_slice())?;
+                    rewriting_of(search.alloc, target, by_subst, found)
                 }
                 None => Ok(None),
             }
@@ -290,26 +274,31 @@ fn rewriting_of(
 
 // A substitution that covers literals over the variables of two clauses by the line.
 fn cover_lits(
-    alloc: Global,
-    sig: &Signature,
+    search: &Search<'_>,
     into: &Clause,
     by: &Clause,
     lits: &[Lit],
-    line: &Clause,
 ) -> Result<Option<Subst>, Memory>
     requires into { length into.now.sorts ≤ 1000000000 }
     requires by { length by.now.sorts ≤ 1000000000 }
-    requires line { IsFit sig.now line.now }
-    requires lits { AreSorted sig.now (scope_of_both into.now by.now) lits.now }
+    requires line { IsFit search.now.sig.now search.now.line.now }
+    requires lits { AreSorted search.now.sig.now (scope_of_both into.now by.now) lits.now }
     ensures { IfOk result (λ found.
-        Settles sig.now line.now (scope_of_both into.now by.now)
-        (CoversBy sig.now (scope_of_both into.now by.now) lits.now line.now) found) }
+        Settles search.now.sig.now search.now.line.now (scope_of_both into.now by.now)
+        (CoversBy search.now.sig.now (scope_of_both into.now by.now) lits.now search.now.line.now) found) }
 {
+    let line = search.line;
     let rigid = line.sorts.len() as u32;
-    let mut sorts = scope_of_clause(alloc, line)?;
-    sorts.append(scope_of_clause(alloc, into)?)?;
-    sorts.append(scope_of_clause(alloc, by)?)?;
+    let mut sorts = scope_of_clause(search.alloc, line)?;
+    sorts.append(scope_of_clause(search.alloc, into)?)?;
+    sorts.append(scope_of_clause(search.alloc, by)?)?;
     let scope = Scope { sorts, rigid };
-    let moved = apart(alloc, lits, rigid)?;
-    settle_covers(alloc, sig, &scope, moved.as_slice(), line.lits.as_slice())
+    let moved = apart(search.alloc, lits, rigid)?;
+    settle_covers(
+        search.alloc,
+        search.sig,
+        &scope,
+        moved.as_slice(),
+        line.lits.as_slice(),
+    )
 }

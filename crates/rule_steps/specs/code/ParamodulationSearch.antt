@@ -16,6 +16,7 @@ use Rattle.clause_rules.specs.ParamodulationRule.{Paramodulates}
 use Rattle.clause_rules.specs.Places.{lit_term_at}
 use Rattle.clause_rules.specs.PlaceSearch.{places_of}
 use Rattle.clause_rules.specs.Settled.{IsFit}
+use Rattle.rule_steps.specs.code.SiteSearch.{FoundAmong, FoundWith}
 use Rattle.clause_rules.specs.Steps.{scope_of_both, equation, IsJoint, images_of_parents}
 
 -- no paramodulation changes the clause at this place
@@ -99,12 +100,10 @@ pub record ShowsParamodulation (v : Vocabulary) (clauses : List (Option Clause))
   pub shown : ShowsAtSite v clauses line site reading images
 
 abbrev pub FoundAtSite : Vocabulary → List (Option Clause) → List Reading → Clause → Site → Option Just → Type 0
-FoundAtSite v clauses readings line site None = (k : ℕ) (reading : Reading) → slice_get readings k ≡ Some reading → NoneAtSite v clauses line site reading
-FoundAtSite v clauses readings line site (Some just) = ShowsParamodulation v clauses line just
+FoundAtSite v clauses readings line = FoundWith (NoneAtSite v clauses line) (ShowsParamodulation v clauses line) readings
 
 abbrev pub FoundAtSites : Vocabulary → List (Option Clause) → List Site → List Reading → Clause → Option Just → Type 0
-FoundAtSites v clauses sites readings line None = (m : ℕ) (site : Site) → slice_get sites m ≡ Some site → FoundAtSite v clauses readings line site None
-FoundAtSites v clauses sites readings line (Some just) = ShowsParamodulation v clauses line just
+FoundAtSites v clauses sites readings line = FoundAmong (NoneAtSite v clauses line) (ShowsParamodulation v clauses line) sites readings
 
 -- at the places of literal i of clause a, at those of clause a, and at those of all clauses
 abbrev pub FoundAtLit : Vocabulary → List (Option Clause) → List Reading → Clause → ℕ → ℕ → Option Just → Type 0

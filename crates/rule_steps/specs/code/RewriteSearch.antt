@@ -14,6 +14,7 @@ use Rattle.clause_rules.specs.Justified.{IsMatch}
 use Rattle.clause_rules.specs.Places.{lit_term_at}
 use Rattle.clause_rules.specs.RewriteRule.{Rewrites}
 use Rattle.clause_rules.specs.Settled.{IsFit}
+use Rattle.rule_steps.specs.code.SiteSearch.{FoundAmong}
 use Rattle.clause_rules.specs.Steps.{scope_of_both, IsJoint, images_of_parents}
 
 -- no substitutions rewrite this term
@@ -58,10 +59,5 @@ pub record ShowsRewriting (v : Vocabulary) (clauses : List (Option Clause)) (lin
   pub is : just ≡ Rewrite a b found.target flipped found.by_subst found.subst
   pub shown : ShowsRewritingAt v clauses line a b flipped found
 
-abbrev pub RewritesAtSite : Vocabulary → List (Option Clause) → List Reading → Clause → Site → Option Just → Type 0
-RewritesAtSite v clauses readings line site None = (k : ℕ) (reading : Reading) → slice_get readings k ≡ Some reading → NoRewritingAt v clauses line site reading
-RewritesAtSite v clauses readings line site (Some just) = ShowsRewriting v clauses line just
-
 abbrev pub RewritesAtSites : Vocabulary → List (Option Clause) → List Site → List Reading → Clause → Option Just → Type 0
-RewritesAtSites v clauses sites readings line None = (m : ℕ) (site : Site) → slice_get sites m ≡ Some site → RewritesAtSite v clauses readings line site None
-RewritesAtSites v clauses sites readings line (Some just) = ShowsRewriting v clauses line just
+RewritesAtSites v clauses sites readings line = FoundAmong (NoRewritingAt v clauses line) (ShowsRewriting v clauses line) sites readings

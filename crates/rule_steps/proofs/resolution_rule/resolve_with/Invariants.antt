@@ -4,4 +4,4 @@ use Rattle.rule_steps.specs.code.ResolutionSearch.{ResolvesWith}
 use Rattle.rule_steps.proofs.resolution_rule.resolve_with.Given as goal
 
 abbrev pub invariant-loop-i : goal.invariant-loop-i
-invariant-loop-i l = (i : ℕ) → i < l.i → (b j : ℕ) (more : List ℕ) (s : ℕ → Term) → ResolvesWith l.sig l.clauses l.left l.line b i j more s → ⊥
+invariant-loop-i l = (i : ℕ) → i < l.i → (b j : ℕ) (more : List ℕ) (s : ℕ → Term) → ResolvesWith l.search.sig.now l.search.clauses.now l.left l.search.line.now b i j more s → ⊥

@@ -12,19 +12,19 @@ pub apart-requires : goal.apart-requires
 apart-requires c =
     let few = c.requires.line.few in
     let size = c.len-rigid.ensures in
-    reaches_over c.args.sig.now c.args.into.now c.args.by.now c.args.lits.now c.len-rigid.result c.requires.into c.requires.by (omega arith) c.requires.lits
+    reaches_over c.args.search.now.sig.now c.args.into.now c.args.by.now c.args.lits.now c.len-rigid.result c.requires.into c.requires.by (omega arith) c.requires.lits
 
 pub settle_covers-requires-clause-sorted : goal.settle_covers-requires-clause-sorted
 settle_covers-requires-clause-sorted c =
-    over_sorted c.args.sig.now c.args.line.now c.requires.line (scope_of_both c.args.into.now c.args.by.now) c.args.lits.now c.in_ok-moved.moved c.requires.lits (c.in_ok-moved.ensures ∙ ap (λ n. map (lit_apart n) c.args.lits.now) c.len-rigid.ensures)
+    over_sorted c.args.search.now.sig.now c.args.search.now.line.now c.requires.line (scope_of_both c.args.into.now c.args.by.now) c.args.lits.now c.in_ok-moved.moved c.requires.lits (c.in_ok-moved.ensures ∙ ap (λ n. map (lit_apart n) c.args.lits.now) c.len-rigid.ensures)
     (record { sorts = c.append-2.new.self; rigid = c.len-rigid.result })
-    (sorts_joined (scope_of c.args.line.now) (scope_of c.args.into.now) (scope_of c.args.by.now) c.in_ok-sorts.sorts c.in_ok-scope_of_clause.field-0 c.in_ok-scope_of_clause-2.field-0 c.append.new.self c.append-2.new.self c.in_ok-sorts.ensures c.in_ok-scope_of_clause.ensures c.in_ok-scope_of_clause-2.ensures c.in_ok-append.ensures c.in_ok-append-2.ensures)
-    c.len-rigid.ensures _ (covers_as c.args.line.now.lits c.in_ok-moved.moved c.as_slice-2.result.now c.as_slice.result.now c.as_slice-2.ensures c.as_slice.ensures)
+    (sorts_joined (scope_of c.args.search.now.line.now) (scope_of c.args.into.now) (scope_of c.args.by.now) c.in_ok-sorts.sorts c.in_ok-scope_of_clause.field-0 c.in_ok-scope_of_clause-2.field-0 c.append.new.self c.append-2.new.self c.in_ok-sorts.ensures c.in_ok-scope_of_clause.ensures c.in_ok-scope_of_clause-2.ensures c.in_ok-append.ensures c.in_ok-append-2.ensures)
+    c.len-rigid.ensures _ (covers_as c.args.search.now.line.now.lits c.in_ok-moved.moved c.as_slice-2.result.now c.as_slice.result.now c.as_slice-2.ensures c.as_slice.ensures)
 
 pub returns : goal.returns
 returns c =
     ok_map c.settle_covers.result
-    (over_settled c.args.sig.now c.args.line.now c.requires.line (scope_of_both c.args.into.now c.args.by.now) c.args.lits.now c.in_ok-moved.moved c.requires.lits (c.in_ok-moved.ensures ∙ ap (λ n. map (lit_apart n) c.args.lits.now) c.len-rigid.ensures)
+    (over_settled c.args.search.now.sig.now c.args.search.now.line.now c.requires.line (scope_of_both c.args.into.now c.args.by.now) c.args.lits.now c.in_ok-moved.moved c.requires.lits (c.in_ok-moved.ensures ∙ ap (λ n. map (lit_apart n) c.args.lits.now) c.len-rigid.ensures)
     (record { sorts = c.append-2.new.self; rigid = c.len-rigid.result })
-    (sorts_joined (scope_of c.args.line.now) (scope_of c.args.into.now) (scope_of c.args.by.now) c.in_ok-sorts.sorts c.in_ok-scope_of_clause.field-0 c.in_ok-scope_of_clause-2.field-0 c.append.new.self c.append-2.new.self c.in_ok-sorts.ensures c.in_ok-scope_of_clause.ensures c.in_ok-scope_of_clause-2.ensures c.in_ok-append.ensures c.in_ok-append-2.ensures)
-    c.len-rigid.ensures _ (covers_as c.args.line.now.lits c.in_ok-moved.moved c.as_slice-2.result.now c.as_slice.result.now c.as_slice-2.ensures c.as_slice.ensures)) c.settle_covers.ensures
+    (sorts_joined (scope_of c.args.search.now.line.now) (scope_of c.args.into.now) (scope_of c.args.by.now) c.in_ok-sorts.sorts c.in_ok-scope_of_clause.field-0 c.in_ok-scope_of_clause-2.field-0 c.append.new.self c.append-2.new.self c.in_ok-sorts.ensures c.in_ok-scope_of_clause.ensures c.in_ok-scope_of_clause-2.ensures c.in_ok-append.ensures c.in_ok-append-2.ensures)
+    c.len-rigid.ensures _ (covers_as c.args.search.now.line.now.lits c.in_ok-moved.moved c.as_slice-2.result.now c.as_slice.result.now c.as_slice-2.ensures c.as_slice.ensures)) c.settle_covers.ensures

@@ -19,4 +19,4 @@ pub returns-in-Some-spot_in : goal.returns-in-Some-spot_in
 returns-in-Some-spot_in c =
     let at = spot_as c.in-Some.into.now.lits c.as_slice.result.now c.args.site.now.at c.as_slice-in-Some-clause_in.result.now c.args.site.now.lit (Some c.in-Some-spot_in.spot) c.as_slice.ensures c.as_slice-in-Some-clause_in.ensures c.in-Some-spot_in.ensures in
     ok_map c.of_term.result
-    (tried c.args.sig.now c.args.clauses.now c.args.line.now c.args.site.now c.args.reading.now c.in-Some.into.now c.in-Some-clause_in.by.now c.in-Some.ensures c.in-Some-clause_in.ensures c.in-Some-spot_in.spot.lit.now c.in-Some-spot_in.spot.term.now at) c.of_term.ensures
+    (tried c.args.search.now.sig.now c.args.search.now.clauses.now c.args.search.now.line.now c.args.site.now c.args.reading.now c.in-Some.into.now c.in-Some-clause_in.by.now c.in-Some.ensures c.in-Some-clause_in.ensures c.in-Some-spot_in.spot.lit.now c.in-Some-spot_in.spot.term.now at) c.of_term.ensures

@@ -1,7 +1,0 @@
-use Rattle.std.proofs.Common.{ℕ, ◌<◌, ◌≡◌, Some, slice_get}
-use Rattle.rule_steps.specs.declared.sites.Reading.{Reading}
-use Rattle.rule_steps.specs.code.RewriteSearch.{NoRewritingAt}
-use Rattle.rule_steps.proofs.rewrite_rule.at_site.Given as goal
-
-abbrev pub invariant-loop-k : goal.invariant-loop-k
-invariant-loop-k l = (k : ℕ) → k < l.k → (reading : Reading) → slice_get l.readings k ≡ Some reading → NoRewritingAt l.sig l.clauses l.line l.site reading
