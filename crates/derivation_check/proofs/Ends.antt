@@ -12,20 +12,22 @@ use Rattle.kernel.specs.declared.entry.Entry.TheVariants.{Declare}
 use Rattle.proof_log.specs.Entries.{AreLogged, log_text}
 use Rattle.sort_check.specs.Bringing.{Brings}
 use Rattle.tstp_graph.specs.Order.{is_taken, first_left, TakesInTurn}
-use Rattle.szs_report.specs.declared.answer.Verdict.{Verdict}
-use Rattle.szs_report.specs.declared.answer.Verdict.TheVariants.{Failed, NoFalse, BadClaim, Verified}
+use Rattle.verifier.specs.declared.answer.Verdict.{Verdict}
+use Rattle.verifier.specs.declared.answer.Verdict.TheVariants.{Failed, NoFalse, BadClaim, Verified}
 use Rattle.derivation_text.specs.declared.derivation.Derivation.{Derivation}
-use Rattle.verifier.specs.Claim.{IsJustified, JustifiesSome, cites_marked, is_marked, some_marked_ref}
+use Rattle.verifier.specs.Marks.{cites_marked, is_marked, some_marked_ref}
+use Rattle.derivation_check.specs.Claim.{IsJustified, JustifiesSome}
 use Rattle.verifier.specs.Citing.{DoNotCite}
 use Rattle.verifier.specs.Closing.{Closes, HasFalseLine, IsVerified}
 use Rattle.verifier.specs.Declarations.{declarations}
 use Rattle.verifier.specs.Good.{HaveRoom}
 use Rattle.verifier.specs.Lines.{LinesStand}
 use Rattle.verifier.specs.Logged.{LogsSome}
-use Rattle.verifier.specs.Report.{AreAccepted, HasFalse, IsVerdict}
+use Rattle.verifier.specs.Report.{AreAccepted, HasFalse}
+use Rattle.derivation_check.specs.Endings.{IsVerdict}
 use Rattle.verifier.specs.Unsearched.{AreUnsearched}
 use Rattle.verifier.specs.declared.answer.LineAnswer.{LineAnswer}
-use Rattle.verifier.specs.declared.claim.Claim.{Claim}
+use Rattle.derivation_check.specs.declared.claiming.Claim.{Claim}
 use Rattle.verifier.specs.declared.fault.RunFault.{RunFault}
 use Rattle.verifier.specs.declared.run.Outcome.{Outcome}
 use Rattle.verifier.proofs.Logs.{range_both}

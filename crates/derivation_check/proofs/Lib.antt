@@ -1,7 +1,11 @@
 pub mod Declared
 pub mod Ends
+pub mod Lines
 pub mod Logged
 pub mod LogTexts
 pub mod OneCheck
-pub mod Reports
+pub mod OneReport
+pub mod OneVerdict
+pub mod Pieces
 pub mod Runs
+pub mod Written

@@ -3,14 +3,15 @@ use Rattle.std.proofs.Common.{◌≡◌, ℕ, ◌≤◌, Bool, List, length, map
 use Rattle.fof_terms.specs.Vocabulary.{Vocabulary}
 use Rattle.kernel.specs.Statements.{Statements}
 use Rattle.tstp_graph.specs.Order.{is_taken, first_left}
-use Rattle.verifier.specs.Claim.{cites_marked}
+use Rattle.verifier.specs.Marks.{cites_marked}
 use Rattle.verifier.specs.Report.{said_of}
 use Rattle.verifier.specs.Unsearched.{AreUnsearched}
-use Rattle.verifier.specs.declared.claim.Claim.{Claim}
+use Rattle.derivation_check.specs.declared.claiming.Claim.{Claim}
 use Rattle.verifier.proofs.OneReport.{one_said, one_marked}
-use Rattle.verifier.proofs.OneVerdict.{same_verdict, same_report}
+use Rattle.derivation_check.proofs.OneVerdict.{same_verdict}
 use Rattle.derivation_check.specs.Cases.{Asked, claimed, claim_by, lines_over, widened}
 use Rattle.derivation_check.specs.Checks.{Checks, is_verified}
+use Rattle.derivation_check.proofs.OneReport.{same_report}
 use Rattle.derivation_text.specs.declared.derivation.Derivation.{Derivation}
 
 module _ (asked : Asked) (t : Statements) (d : Derivation) (w : Vocabulary) (short : length asked.marks ≤ length t.formulas) (all : first_left (is_taken d.graph.order) 0 d.graph.nodes ≡ None) where

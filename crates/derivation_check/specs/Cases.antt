@@ -6,9 +6,9 @@ use Rattle.szs_report.specs.Region.{claim_of}
 use Rattle.tptp_base.specs.declared.place.Region.{Region}
 use Rattle.derivation_text.specs.declared.derivation.Derivation.{Derivation}
 use Rattle.verifier.specs.declared.answer.LineAnswer.{LineAnswer}
-use Rattle.verifier.specs.declared.claim.Claim.{Claim}
+use Rattle.derivation_check.specs.declared.claiming.Claim.{Claim}
 use Rattle.derivation_check.specs.declared.checking.Asked.{Asked as Held}
-use Rattle.verifier.specs.Claim as verifier
+use Rattle.verifier.specs.Marks as verifier
 use Rattle.verifier.specs.Lines as lines
 
 -- The problem as it was named, the prover's whole output, for each given formula whether it is a conjecture or a

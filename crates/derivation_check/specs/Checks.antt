@@ -8,14 +8,15 @@ use Rattle.kernel.specs.Statements.{Statements}
 use Rattle.kernel.specs.Entries.{Admits}
 use Rattle.kernel.specs.declared.entry.Entry.{Entry}
 use Rattle.proof_log.specs.Entries.{HaveNumbersInRange, log_text}
-use Rattle.szs_report.specs.declared.answer.Verdict.{Verdict}
-use Rattle.szs_report.specs.declared.answer.Verdict.TheVariants.{Failed, NoFalse, BadClaim, Verified}
+use Rattle.verifier.specs.declared.answer.Verdict.{Verdict}
+use Rattle.verifier.specs.declared.answer.Verdict.TheVariants.{Failed, NoFalse, BadClaim, Verified}
 use Rattle.derivation_text.specs.declared.derivation.Derivation.{Derivation}
 use Rattle.verifier.specs.Closing.{Closes}
 use Rattle.verifier.specs.Declarations.{declarations}
-use Rattle.verifier.specs.Report.{IsVerdict, report_text}
+use Rattle.derivation_check.specs.Endings.{IsVerdict}
 use Rattle.verifier.specs.Run.{IsRun, IsStopped}
 use Rattle.verifier.specs.declared.answer.LineAnswer.{LineAnswer}
+use Rattle.derivation_check.specs.Report.{report_text}
 use Rattle.derivation_check.specs.Cases.{Asked, claim_by, lines_over, widened}
 
 -- all is verified

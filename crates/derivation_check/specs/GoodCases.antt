@@ -4,9 +4,10 @@ use Rattle.fof_terms.specs.Vocabulary.{Vocabulary}
 use Rattle.kernel.specs.Statements.{Statements}
 use Rattle.tstp_graph.specs.declared.shape.Ref.{Ref}
 use Rattle.derivation_text.specs.declared.derivation.Derivation.{Derivation}
-use Rattle.verifier.specs.Claim.{IsJustified, some_marked_ref}
+use Rattle.verifier.specs.Marks.{some_marked_ref}
+use Rattle.derivation_check.specs.Claim.{IsJustified}
 use Rattle.verifier.specs.Good.{HaveRoom, IsGood}
-use Rattle.verifier.specs.declared.claim.Claim.{Claim}
+use Rattle.derivation_check.specs.declared.claiming.Claim.{Claim}
 use Rattle.derivation_check.specs.Cases.{Asked, claimed, lines_over}
 
 -- what is claimed, where the lines cite these given formulas and lines

@@ -1,6 +1,9 @@
 pub mod Cases
 pub mod Checks
+pub mod Claim
 pub mod Counts
+pub mod Endings
 pub mod GoodCases
 pub mod Logs
+pub mod Report
 pub mod code

@@ -9,22 +9,23 @@ ghost use Rattle.verifier.specs.Closing.{HasFalseLine};
 ghost use Rattle.verifier.specs.Faults.{HasCause, HasRunCause};
 ghost use Rattle.verifier.specs.Lines.{LinesStand};
 ghost use Rattle.verifier.specs.Logged.{LeadTo, LogsSome};
-ghost use Rattle.verifier.specs.Report.{AreAccepted, HasFalse, IsVerdict};
+ghost use Rattle.verifier.specs.Report.{AreAccepted, HasFalse};
+ghost use Rattle.derivation_check.specs.Endings.{IsVerdict};
 ghost use Rattle.derivation_check.specs.Cases.{asked_of, claim_by};
 ghost use Rattle.derivation_check.specs.Logs.{ChecksWithLog, StopsWithLog, TakesSomeOfLog};
 ghost use Rattle.derivation_check.specs.code.Logs.{Closed};
 
 use crate::claiming::claim_on;
 use crate::counting::{norm_count, resolution_count};
+use crate::ending::verdict;
 use crate::reporting::{is_verified, report_of};
 use crate::running::run_derivation;
 use derivation_text::Derivation;
 use fof_terms::Signature;
 use proof_check::Theory;
 use std::alloc::{AllocError, Global};
-use szs_report::Verdict;
 use tptp_base::{Sink, Text};
-use verifier::{LineAnswer, Outcome, RunFault, close_log, verdict};
+use verifier::{LineAnswer, Outcome, RunFault, Verdict, close_log};
 
 /// What is asked of a derivation.
 #[derive(Clone, Copy)]

@@ -1,6 +1,7 @@
 // Laws of checks.
 ghost use Rattle.std.specs.Prelude.{◌≡◌, ◌++◌, ◌<◌, ◌≤◌, ℕ, Bool, true, List, length, codes, None, Some};
 ghost use Rattle.fof_terms.specs.Vocabulary.{Vocabulary};
+ghost use Rattle.fof_terms.specs.declared.form.Form.{Form as Formula};
 ghost use Rattle.kernel.specs.Entries.{Refutes};
 ghost use Rattle.kernel.specs.Statements.{Statements};
 ghost use Rattle.kernel.specs.declared.entry.Entry.{Entry as LogEntry};
@@ -8,13 +9,17 @@ ghost use Rattle.proof_log.specs.Entries.{AreLogged, log_text};
 ghost use Rattle.sort_check.specs.Bringing.{Brings};
 ghost use Rattle.tstp_graph.specs.Order.{TakesInTurn, is_taken, first_left};
 ghost use Rattle.verifier.specs.Citing.{DoNotCite};
-ghost use Rattle.verifier.specs.Claim.{is_marked};
+ghost use Rattle.verifier.specs.Marks.{is_marked};
 ghost use Rattle.verifier.specs.Good.{HaveRoom};
 ghost use Rattle.verifier.specs.Unsearched.{AreUnsearched};
+ghost use Rattle.verifier.specs.declared.answer.LineAnswer.{LineAnswer as Answered};
+ghost use Rattle.verifier.specs.declared.answer.Verdict.{Verdict as Ending};
 ghost use Rattle.derivation_text.specs.declared.derivation.Derivation.{Derivation};
 ghost use Rattle.derivation_check.specs.Cases as spec;
 ghost use Rattle.derivation_check.specs.Checks.{Checks, Stops};
+ghost use Rattle.derivation_check.specs.Endings.{IsVerdict};
 ghost use Rattle.derivation_check.specs.GoodCases.{IsGoodCase};
+ghost use Rattle.derivation_check.specs.declared.claiming.Claim.{Claim as Claimed};
 
 /// Where a check verifies a derivation, its log is the text of entries that refute the given formulas.
 pub fn a_verified_derivation_refutes()
@@ -74,4 +79,12 @@ pub fn a_check_has_one_report()
         → length asked.marks ≤ length t.formulas → first_left (is_taken d.graph.order) 0 d.graph.nodes ≡ None
         → (c : Checks asked t d w verified report log) → Checks asked t d w other again more → AreUnsearched c.answers
         → (verified ≡ other) × (report ≡ again) }
+{}
+
+/// One verdict applies to a claim, the name of the problem, the formulas of the lines and the answers.
+pub fn one_verdict_applies()
+    ensures { (claim : Claimed) (problem : List ℕ) (forms : List Formula) (answers : List Answered)
+        (verdict other : Ending)
+        → IsVerdict claim problem forms answers verdict → IsVerdict claim problem forms answers other
+        → verdict ≡ other }
 {}

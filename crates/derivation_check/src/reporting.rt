@@ -1,13 +1,14 @@
 // The report on a derivation whose lines are run.
-ghost use Rattle.std.specs.Prelude.{◌≡◌, ◌++◌, length, IfOk, OnOk};
-ghost use Rattle.szs_report.specs.Report.{line_text, verdict_text};
-ghost use Rattle.verifier.specs.Report.{lines_text, report_text, said_of};
+ghost use Rattle.std.specs.Prelude.{◌≡◌, ◌≤◌, length, IfOk, OnOk, IsErrOf};
+ghost use Rattle.tptp_base.specs.Count.{Rose};
+ghost use Rattle.tptp_base.specs.Sink.{Takes};
 ghost use Rattle.derivation_check.specs.Checks as spec;
+ghost use Rattle.derivation_check.specs.Report.{lines_text, report_text};
 
+use crate::writing::{write_end, write_line};
 use std::alloc::Global;
-use szs_report::{Verdict, write_end, write_line};
-use tptp_base::{Memory, Name, SinkFault, SteadySink, Text};
-use verifier::{LineAnswer, answer_of};
+use tptp_base::{Memory, Name, Sink, SinkFault, SteadySink, Text};
+use verifier::{LineAnswer, Verdict};
 
 /// Whether all is verified.
 pub fn is_verified(verdict: &Verdict) -> bool
@@ -22,6 +23,7 @@ pub fn is_verified(verdict: &Verdict) -> bool
 }
 
 /// The whole report: what is said of the lines of these names, and the closing lines.
+#[tactic(auto, using(crate::proofs::Lines::copied))]
 pub fn report_of(
     alloc: Global,
     names: &[Name],
@@ -31,57 +33,45 @@ pub fn report_of(
     requires { length names.now ≡ length answers.now }
     ensures { IfOk result (λ report. report ≡ report_text names.now answers.now verdict.now) }
 {
-    let mut report = lines_report(alloc, names, answers)?;
-    put_end(alloc, verdict, &mut report)?;
-    Ok(Text::from_vec(report))
-}
-
-// What is said of the lines.
-fn lines_report(alloc: Global, names: &[Name], answers: &[LineAnswer]) -> Result<Vec<u8>, Memory>
-    requires { length names.now ≡ length answers.now }
-    ensures { IfOk result (λ report. report.items ≡ lines_text names.now answers.now) }
-{
-    let mut report = Vec::new(alloc);
-    for (place, name) in names.iter().enumerate() {
-        put_line(alloc, name, &answers[place], &mut report)?;
+    let mut report = SteadySink::new(alloc);
+    match write_report(alloc, names, answers, verdict, &mut report) {
+        Ok(()) => Ok(Text::from_slice(alloc, report.bytes())?),
+        Err(SinkFault::Failed) => unreachable!(),
+        Err(SinkFault::Memory) => Err(Memory),
     }
-    Ok(report)
 }
 
-// Appends what is said of a line.
-#[tactic(auto, using(crate::proofs::Reports::appended))]
-fn put_line(
+// Writes the whole report.
+fn write_report<K: Sink>(
     alloc: Global,
-    name: &Name,
-    answer: &LineAnswer,
-    report: &mut Vec<u8>,
-) -> Result<(), Memory>
-    ensures { OnOk result (report.new.items ≡ report.old.items ++ line_text name.now (said_of answer.now)) }
+    names: &[Name],
+    answers: &[LineAnswer],
+    verdict: &Verdict,
+    sink: &mut K,
+) -> Result<(), SinkFault>
+    requires { length names.now ≡ length answers.now }
+    ensures ok { OnOk result
+        (Takes (K.taken sink.old) (K.taken sink.new) (report_text names.now answers.now verdict.now)) }
+    ensures failed { IsErrOf result SinkFault.Failed → Rose (K.faults sink.old) (K.faults sink.new) }
+    ensures more_faults { K.faults sink.old ≤ K.faults sink.new }
 {
-    let said = answer_of(alloc, answer)?;
-    let mut line = SteadySink::new(alloc);
-    match write_line(alloc, name, &said, &mut line) {
-        Ok(()) => {
-            report.extend_from_slice(line.bytes())?;
-            Ok(())
-        }
-        Err(SinkFault::Failed) => unreachable!(),
-        Err(SinkFault::Memory) => Err(Memory),
-    }
+    write_lines(names, answers, sink)?;
+    write_end(alloc, verdict, sink)
 }
 
-// Appends the closing lines.
-#[tactic(auto, using(crate::proofs::Reports::appended))]
-fn put_end(alloc: Global, verdict: &Verdict, report: &mut Vec<u8>) -> Result<(), Memory>
-    ensures { OnOk result (report.new.items ≡ report.old.items ++ verdict_text verdict.now) }
+// Writes what is said of the lines.
+fn write_lines<K: Sink>(
+    names: &[Name],
+    answers: &[LineAnswer],
+    sink: &mut K,
+) -> Result<(), SinkFault>
+    requires { length names.now ≡ length answers.now }
+    ensures ok { OnOk result (Takes (K.taken sink.old) (K.taken sink.new) (lines_text names.now answers.now)) }
+    ensures failed { IsErrOf result SinkFault.Failed → Rose (K.faults sink.old) (K.faults sink.new) }
+    ensures more_faults { K.faults sink.old ≤ K.faults sink.new }
 {
-    let mut lines = SteadySink::new(alloc);
-    match write_end(alloc, verdict, &mut lines) {
-        Ok(()) => {
-            report.extend_from_slice(lines.bytes())?;
-            Ok(())
-        }
-        Err(SinkFault::Failed) => unreachable!(),
-        Err(SinkFault::Memory) => Err(Memory),
+    for (place, name) in names.iter().enumerate() {
+        write_line(name, &answers[place], sink)?;
     }
+    Ok(())
 }

@@ -5,6 +5,7 @@
 mod checks;
 mod lines;
 mod proving;
+mod reports;
 mod runs;
 mod steps;
 mod verdicts;
@@ -13,6 +14,7 @@ mod words;
 pub use checks::Checking;
 pub use lines::Running;
 pub use proving::Proving;
+pub use reports::Reporting;
 pub use runs::Commanding;
 pub use steps::Answering;
 pub use verdicts::Judging;

@@ -18,10 +18,9 @@ use crate::{Control, Probe};
 use fof_terms::{Form, Signature};
 use proof_check::Theory;
 use std::alloc::Global;
-use szs_report::Verdict;
 use tptp_base::Sink;
 use tstp_graph::Graph;
-use verifier::{Outcome, RunFault, close_log, declare, run_lines};
+use verifier::{Outcome, RunFault, Verdict, close_log, declare, run_lines};
 
 /// Runs lines and logs their entries.
 pub trait Running {

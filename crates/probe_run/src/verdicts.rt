@@ -1,16 +1,16 @@
 // How a derivation ends, and what its claim is worth.
 ghost use Rattle.std.specs.Prelude.{◌≡◌, ◌↔◌, IsTrue, IfOk};
-ghost use Rattle.verifier.specs.Claim as claims;
-ghost use Rattle.verifier.specs.Claim.{IsJustified};
-ghost use Rattle.verifier.specs.Report;
-ghost use Rattle.verifier.specs.Report.{IsVerdict};
+ghost use Rattle.verifier.specs.Marks;
+ghost use Rattle.derivation_check.specs.Claim as claims;
+ghost use Rattle.derivation_check.specs.Claim.{IsJustified};
+ghost use Rattle.derivation_check.specs.Endings.{IsVerdict};
 
 use crate::{Control, Probe};
+use derivation_check::{Claim, cites_marked, is_justified, status_of, verdict};
 use fof_terms::Form;
 use std::alloc::{AllocError, Global};
-use szs_report::{LineAnswer as Said, Verdict};
 use tptp_base::Text;
-use verifier::{Claim, LineAnswer, answer_of, cites_marked, is_justified, status_of, verdict};
+use verifier::{LineAnswer, Verdict};
 
 /// Judges derivations.
 pub trait Judging {
@@ -26,7 +26,7 @@ pub trait Judging {
 
     /// Whether some line cites a given formula that is marked.
     fn cites_marked(marks: &[bool], answers: &[LineAnswer]) -> bool
-        ensures { result ≡ claims.cites_marked marks.now answers.now };
+        ensures { result ≡ Marks.cites_marked marks.now answers.now };
 
     /// Whether a refutation justifies the claim.
     fn is_justified(claim: &Claim) -> bool
@@ -35,10 +35,6 @@ pub trait Judging {
     /// The status that is printed for a justified claim.
     fn status_of(alloc: Global, claim: &Claim) -> Result<Text, AllocError>
         ensures { IfOk result (λ word. word ≡ claims.status_word claim.now) };
-
-    /// What is printed of an answer.
-    fn answer_of(alloc: Global, answer: &LineAnswer) -> Result<Said, AllocError>
-        ensures { IfOk result (λ said. said ≡ Report.said_of answer.now) };
 }
 
 impl Judging for Probe {
@@ -62,10 +58,6 @@ impl Judging for Probe {
 
     fn status_of(alloc: Global, claim: &Claim) -> Result<Text, AllocError> {
         status_of(alloc, claim)
-    }
-
-    fn answer_of(alloc: Global, answer: &LineAnswer) -> Result<Said, AllocError> {
-        answer_of(alloc, answer)
     }
 }
 
@@ -100,13 +92,6 @@ impl Judging for Control {
         match &claim.word {
             Some(word) => Text::from_slice(alloc, word.as_slice()),
             None => status_of(alloc, claim),
-        }
-    }
-
-    fn answer_of(alloc: Global, answer: &LineAnswer) -> Result<Said, AllocError> {
-        match answer {
-            LineAnswer::Skipped => Ok(Said::Skipped),
-            LineAnswer::Accepted { .. } | LineAnswer::Unverified(_) => answer_of(alloc, answer),
         }
     }
 }

@@ -10,7 +10,7 @@ use Rattle.szs_report.specs.Region.{claim_in, claim_of, word_of}
 use Rattle.szs_report.specs.declared.line.LineKind.TheVariants.{Status}
 use Rattle.derivation_items.specs.Words.{Text, printable_text}
 use Rattle.tptp_commands.specs.Presented.{proof_text, szs_line}
-use Rattle.verifier.specs.Claim.{default_word}
+use Rattle.derivation_check.specs.Claim.{default_word}
 use Rattle.derivation_check.specs.Cases.{claimed, word_at}
 use Rattle.spelled_items.proofs.Whole.{all_printable}
 use Rattle.presented_texts.proofs.Feeds.{Free, free_of, joined, said}

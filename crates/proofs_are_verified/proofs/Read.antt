@@ -10,7 +10,7 @@ use Rattle.fof_terms.specs.Vocabulary.{Vocabulary}
 use Rattle.canon_print.specs.Canonical.{canonical_text}
 use Rattle.sort_check.specs.declared.line.GivenEntry.{GivenEntry}
 use Rattle.tstp_graph.specs.Graphs.{IsGraph}
-use Rattle.verifier.specs.Claim.{default_word}
+use Rattle.derivation_check.specs.Claim.{default_word}
 use Rattle.derivation_text.specs.Derivations.{IsDerivation, IsDerivationFault, denied_forms, places_of}
 use Rattle.derivation_text.specs.Derivations as read
 use Rattle.derivation_text.specs.Wants.{IsWant}

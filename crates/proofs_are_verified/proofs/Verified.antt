@@ -4,7 +4,7 @@ use Rattle.std.proofs.Common.{ap, sym, subst, ◌∙◌}
 use Rattle.fof_terms.specs.Vocabulary.{Vocabulary}
 use Rattle.kernel.specs.Statements.{Statements}
 use Rattle.sort_check.specs.declared.line.GivenEntry.{GivenEntry}
-use Rattle.verifier.specs.Claim.{default_word}
+use Rattle.derivation_check.specs.Claim.{default_word}
 use Rattle.derivation_check.specs.Cases.{Asked, claimed}
 use Rattle.derivation_check.specs.Checks.{Checks, Stops}
 use Rattle.derivation_check.specs.GoodCases.{IsGoodCase}

@@ -11,7 +11,7 @@ use Rattle.prove_out.specs.Unambiguous.{IsUnambiguous}
 use Rattle.printed_forms.specs.Words.{AreNamed, HasWords}
 use Rattle.printed_forms.specs.Written.{AreGivenListed}
 use Rattle.tptp_commands.specs.Presented.{proof_text}
-use Rattle.verifier.specs.Claim.{default_word}
+use Rattle.derivation_check.specs.Claim.{default_word}
 use Rattle.derivation_check.specs.Cases.{Asked}
 use Rattle.refutation_lines.specs.declared.derivation.Derivation.{Derivation}
 use Rattle.limited_items.specs.Limits.{AreWithin}
@@ -19,8 +19,8 @@ use Rattle.limited_items.specs.Premises.{HaveSmallPremises}
 use Rattle.limited_items.specs.Sources.{forms_given}
 use Rattle.problem_proofs.specs.Found.{IsFound, vocabulary_of}
 
--- The formulas that a problem gives, over its vocabulary: few, closed and well-sorted, with names that can be written and
--- no conjunction or disjunction of one member. The names of the vocabulary say what they mean, and have spellings.
+-- The formulas that a problem gives, over its vocabulary: few, closed and well-sorted, with names that can be written
+-- and no conjunction or disjunction of one member. The names of the vocabulary say what they mean, and have spellings.
 pub record IsPosed (v : Vocabulary) (given : List GivenEntry) : Type 0 where
   pub few : length given < 2 ^ 64
   pub ready : Each (λ (g : GivenEntry). IsReady v g.form) given
@@ -31,7 +31,8 @@ pub record IsPosed (v : Vocabulary) (given : List GivenEntry) : Type 0 where
 
 -- From them the derivation is found under the limit, as `prove` answers it. It is within the limits of derivations, and
 -- its text presents its items, as a derivation from the problem in the file.
-pub record IsPrintedProof (v : Vocabulary) (given : List GivenEntry) (limit : ℕ) (file : List ℕ) (conjecture : Bool) (d : Derivation) (text : List ℕ) : Type 0 where
+pub record IsPrintedProof (v : Vocabulary) (given : List GivenEntry) (limit : ℕ) (file : List ℕ) (conjecture : Bool)
+    (d : Derivation) (text : List ℕ) : Type 0 where
   pub posed : IsPosed v given
   pub small : limit < 2 ^ 32
   pub found : IsFound v given limit d
@@ -43,7 +44,8 @@ pub record IsPrintedProof (v : Vocabulary) (given : List GivenEntry) (limit : �
   pub short : length text ≤ FILE_SIZE
 
 -- The check is asked of this text, against these formulas; there is a mark for each at most.
-pub record Asks (given : List GivenEntry) (conjecture : Bool) (text : List ℕ) (asked : Asked) (t : Statements) : Type 0 where
+pub record Asks (given : List GivenEntry) (conjecture : Bool) (text : List ℕ) (asked : Asked)
+    (t : Statements) : Type 0 where
   pub output : asked.output ≡ text
   pub claim : asked.has_conjecture ≡ conjecture
   pub formulas : t.formulas ≡ forms_given given

@@ -14,7 +14,7 @@ use Rattle.sort_check.specs.declared.line.Line.{Line}
 use Rattle.sort_check.specs.declared.line.TextKind.TheVariants as kind
 use Rattle.read_problems.specs.Denoted.{first_vocabulary}
 use Rattle.read_problems.specs.Sources.{conjecture_marks, has_conjecture}
-use Rattle.verifier.specs.Claim.{default_word}
+use Rattle.derivation_check.specs.Claim.{default_word}
 use Rattle.derivation_check.specs.Cases.{Asked}
 use Rattle.problem_proofs.specs.Proved.{IsProved}
 use Rattle.problem_proofs.specs.declared.proved.Proved.TheVariants.{Proof}
@@ -23,7 +23,8 @@ use Rattle.tptp_commands.specs.Presented.{proof_text}
 -- The problem in the file, with all that it includes, denotes these lines over this vocabulary. What they give is few
 -- formulas, closed and well-sorted, from which a proof is found under the limit. The text presents it, and is no longer
 -- than a file may be.
-pub record IsProofOf (told : Option Files) (root : Option (List ℕ)) (file : List ℕ) (limit : ℕ) (lines : List Line) (v : Vocabulary) (text : List ℕ) : Type 0 where
+pub record IsProofOf (told : Option Files) (root : Option (List ℕ)) (file : List ℕ) (limit : ℕ) (lines : List Line)
+    (v : Vocabulary) (text : List ℕ) : Type 0 where
   pub whole : Problem
   pub resolves : Resolves told root file (Ok whole)
   pub denotes : denoted whole.items first_vocabulary kind.Problem ≡ Ok (lines, v)

@@ -16,7 +16,7 @@ ghost use Rattle.read_problems.specs.Sources.{given_names};
 ghost use Rattle.tptp_base.specs.Store.{Files};
 ghost use Rattle.tptp_base.specs.declared.item.Item.{Item};
 ghost use Rattle.tptp_commands.specs.Presented.{proof_text};
-ghost use Rattle.verifier.specs.Claim.{default_word};
+ghost use Rattle.derivation_check.specs.Claim.{default_word};
 ghost use Rattle.derivation_check.specs.Cases.{Asked, claimed};
 ghost use Rattle.derivation_check.specs.Checks.{Checks, Stops};
 ghost use Rattle.derivation_text.specs.Derivations.{IsDerivation, IsDerivationFault};

@@ -22,11 +22,14 @@ says_in file place name what = says 3 (said_at file place (in_line name what))
 
 -- what is said of the first fault of a graph
 abbrev pub SaysGraphFault : List ℕ → GraphFault → Ending → Type 0
-SaysGraphFault file (graph.UnknownParent place name parent) ending = ending ≡ says_in file place name (codes "unknown parent " ++ name_text parent)
-SaysGraphFault file (graph.DuplicateLine place name) ending = ending ≡ says_in file place name (codes "second line of this name")
+SaysGraphFault file (graph.UnknownParent place name parent) ending =
+    ending ≡ says_in file place name (codes "unknown parent " ++ name_text parent)
+SaysGraphFault file (graph.DuplicateLine place name) ending =
+    ending ≡ says_in file place name (codes "second line of this name")
 SaysGraphFault file (graph.Cycle place name) ending = ending ≡ says_in file place name (codes "in a cycle")
 SaysGraphFault file (graph.BadSource place name) ending = ending ≡ says_in file place name (codes "malformed source")
-SaysGraphFault file (graph.Include place) ending = ending ≡ says 3 (said_at file place (codes "include in a derivation"))
+SaysGraphFault file (graph.Include place) ending =
+    ending ≡ says 3 (said_at file place (codes "include in a derivation"))
 SaysGraphFault file (graph.Limit limit) ending = ending ≡ over_limit file limit
 SaysGraphFault file graph.Memory ending = ⊥
 
@@ -46,8 +49,12 @@ SaysDerivationFault file derived.Memory ending = ⊥
 -- The first fault of the text is said: that of its tokens, that of its items, that of its graph, or that against the
 -- rules of sorts.
 abbrev pub IsDerivationRefusal : List ℕ → List ℕ → List Name → Vocabulary → Ending → Type 0
-IsDerivationRefusal file text given v ending = (fault : DerivationFault) × IsDerivationFault text given v fault × SaysDerivationFault file fault ending
+IsDerivationRefusal file text given v ending =
+    (fault : DerivationFault) × IsDerivationFault text given v fault × SaysDerivationFault file fault ending
 
 -- The derivation that a text is goes on to the rest, or its first fault is said.
-abbrev pub AfterDerivation : List ℕ → List ℕ → List Name → Vocabulary → (Derivation → Vocabulary → Ending → Type 0) → Ending → Type 0
-AfterDerivation file text given v Rest ending = IsDerivationRefusal file text given v ending ⊎ ((d : Derivation) × (w : Vocabulary) × IsDerivation text given v d w × Rest d w ending)
+abbrev pub AfterDerivation : List ℕ → List ℕ → List Name → Vocabulary → (Derivation → Vocabulary → Ending → Type 0)
+    → Ending → Type 0
+AfterDerivation file text given v Rest ending =
+    IsDerivationRefusal file text given v ending
+    ⊎ ((d : Derivation) × (w : Vocabulary) × IsDerivation text given v d w × Rest d w ending)

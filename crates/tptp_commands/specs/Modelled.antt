@@ -49,7 +49,8 @@ pub record SpellsModel (text : List ℕ) (items : List Item) : Type 0 where
 -- The first fault of the text is said: that of its tokens, or else that of its items.
 abbrev pub IsModelRefusal : List ℕ → List ℕ → Ending → Type 0
 IsModelRefusal name text ending = ((fault : LexFault) × IsModelLexed text (Err fault) × SaysLexFault name fault ending)
-    ⊎ ((tokens : Tokens) × (fault : GrammarFault) × IsModelLexed text (Ok tokens) × IsParsed (worded tokens) (Err fault) × SaysGrammarFault name fault ending)
+    ⊎ ((tokens : Tokens) × (fault : GrammarFault) × IsModelLexed text (Ok tokens) × IsParsed (worded tokens) (Err fault)
+    × SaysGrammarFault name fault ending)
 
 -- ---- what is said of it
 
@@ -89,12 +90,15 @@ SaysFormulas m entries ending = ending ≡ verdict (length entries) (first_false
 
 -- what is said of items as a model of a signature with given formulas
 abbrev pub SaysItems : List ℕ → Vocabulary → List GivenEntry → List Item → Ending → Type 0
-SaysItems file v entries items ending = ((fault : ModelFault) × IsModelFault items v fault × SaysModelFault file fault ending)
+SaysItems file v entries items ending =
+    ((fault : ModelFault) × IsModelFault items v fault × SaysModelFault file fault ending)
     ⊎ ((m : Interpretation) × ModelOf items v m × SaysFormulas m entries ending)
 
 -- what is said of the text of a model
 abbrev pub SaysModel : List ℕ → Vocabulary → List GivenEntry → List ℕ → Ending → Type 0
-SaysModel file v entries text ending = IsModelRefusal file text ending ⊎ ((items : List Item) × SpellsModel text items × SaysItems file v entries items ending)
+SaysModel file v entries text ending =
+    IsModelRefusal file text ending
+    ⊎ ((items : List Item) × SpellsModel text items × SaysItems file v entries items ending)
 
 -- The model may have as many bytes as the problem leaves of those that a run reads.
 abbrev pub EndsModel : Files → Option (List ℕ) → List ℕ → List ℕ → Ending → Type 0

@@ -18,20 +18,27 @@ use Rattle.sort_check.specs.declared.line.TextKind.TheVariants as kind
 
 -- the first fault of the text of the file is said
 abbrev pub SaysFileFault : Option Files → List ℕ → Ending → Type 0
-SaysFileFault told file ending = (text : List ℕ) × HasFile told file (λ bytes. bytes ≡ text) × IsTextRefusal file text ending
+SaysFileFault told file ending =
+    (text : List ℕ) × HasFile told file (λ bytes. bytes ≡ text) × IsTextRefusal file text ending
 
 -- the first fault of the derivation in the file is said, from given formulas of these names
 abbrev pub SaysLinesFault : Option Files → List ℕ → List Name → Vocabulary → Ending → Type 0
-SaysLinesFault told file given v ending = (text : List ℕ) × HasFile told file (λ bytes. bytes ≡ text) × IsDerivationRefusal file text given v ending
+SaysLinesFault told file given v ending =
+    (text : List ℕ) × HasFile told file (λ bytes. bytes ≡ text) × IsDerivationRefusal file text given v ending
 
 -- the same, from what the problem gives
 abbrev pub SaysDerivedFault : Option Files → Option (List ℕ) → List ℕ → List ℕ → Ending → Type 0
-SaysDerivedFault told root problem file ending = (whole : Problem) × (lines : List Line) × (v : Vocabulary) × Resolves told root problem (Ok whole) × (denoted whole.items first_vocabulary kind.Problem ≡ Ok (lines, v)) × SaysLinesFault told file (given_names lines) v ending
+SaysDerivedFault told root problem file ending =
+    (whole : Problem) × (lines : List Line) × (v : Vocabulary) × Resolves told root problem (Ok whole)
+    × (denoted whole.items first_vocabulary kind.Problem ≡ Ok (lines, v))
+    × SaysLinesFault told file (given_names lines) v ending
 
 -- the first fault of the text of the model in the file is said
 abbrev pub SaysModelFileFault : Option Files → List ℕ → Ending → Type 0
-SaysModelFileFault told file ending = (text : List ℕ) × HasFile told file (λ bytes. bytes ≡ text) × IsModelRefusal file text ending
+SaysModelFileFault told file ending =
+    (text : List ℕ) × HasFile told file (λ bytes. bytes ≡ text) × IsModelRefusal file text ending
 
 -- the same, where the problem resolves
 abbrev pub SaysModelledFault : Option Files → Option (List ℕ) → List ℕ → List ℕ → Ending → Type 0
-SaysModelledFault told root problem file ending = (whole : Problem) × Resolves told root problem (Ok whole) × SaysModelFileFault told file ending
+SaysModelledFault told root problem file ending =
+    (whole : Problem) × Resolves told root problem (Ok whole) × SaysModelFileFault told file ending

@@ -18,4 +18,6 @@ abbrev pub counted : ℕ → Ending
 counted count = says 0 (text_line (codes "ok " ++ (decimal count ++ codes " formulas")))
 
 abbrev pub EndsParse : Files → Option (List ℕ) → List ℕ → Ending → Type 0
-EndsParse files root file = AfterResolved files root file (λ problem. AfterDenoted problem (λ lines v ending. ending ≡ counted (formula_count problem.items)))
+EndsParse files root file =
+    AfterResolved files root file (λ problem.
+    AfterDenoted problem (λ lines v ending. ending ≡ counted (formula_count problem.items)))

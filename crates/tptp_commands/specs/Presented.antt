@@ -1,5 +1,5 @@
--- What the command `prove` prints, as the SZS ontology presents a refutation (Sutcliffe, The SZS ontologies): the items of
--- a derivation between two lines, behind a line with the status.
+-- What the command `prove` prints, as the SZS ontology presents a refutation (Sutcliffe, The SZS ontologies): the items
+-- of a derivation between two lines, behind a line with the status.
 use Rattle.std.specs.Prelude.{ℕ, List, ◌++◌, codes}
 use Rattle.tptp_base.specs.declared.item.Item.{Item}
 use Rattle.tptp_base.specs.declared.limit.LimitName.{LimitName}
@@ -26,7 +26,8 @@ head file status = status_line file status ++ szs_line file (codes "% SZS output
 
 -- the text of a derivation between such lines
 abbrev pub between_lines : List ℕ → List ℕ → List ℕ → List ℕ
-between_lines file status derivation = head file status ++ (derivation ++ szs_line file (codes "% SZS output end CNFRefutation"))
+between_lines file status derivation =
+    head file status ++ (derivation ++ szs_line file (codes "% SZS output end CNFRefutation"))
 
 -- The items of a derivation from the problem in the file, whose status is that word. In the name of the file a question
 -- mark stands for each byte that no line can hold.

@@ -43,4 +43,5 @@ IsRefused files root problem ending = IsProblemRefusal (Some files) root problem
 
 -- the problem resolves in the second store as it does in the first
 abbrev pub GivesTheSame : Files → Files → Option (List ℕ) → List ℕ → Type 0
-GivesTheSame files after root problem = (whole : Problem) → Resolves (Some files) root problem (Ok whole) → Resolves (Some after) root problem (Ok whole)
+GivesTheSame files after root problem =
+    (whole : Problem) → Resolves (Some files) root problem (Ok whole) → Resolves (Some after) root problem (Ok whole)

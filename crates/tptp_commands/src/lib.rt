@@ -1,5 +1,5 @@
-//! The words of the command line, the commands `parse`, `format`, `check` and `model`, and what `verify` and `make` read
-//! and say beside a check of lines.
+//! The words of the command line, the commands `parse`, `format`, `check` and `model`, and what `verify` and `make`
+//! read and say beside a check of lines.
 #![tactic(auto)]
 
 mod checked;

@@ -13,8 +13,8 @@ use read_problems::{Answer, Halt, read_denotation};
 use std::alloc::{AllocError, Global};
 use tptp_base::Store;
 
-/// Reads the problem in a file with all that it includes, checks its sorts, and says how many formulas it has. The lines
-/// of the formulas are let go on the way.
+/// Reads the problem in a file with all that it includes, checks its sorts, and says how many formulas it has. The
+/// lines of the formulas are let go on the way.
 #[tactic(auto, using(crate::proofs::Parses::ends_refused, crate::proofs::Parses::ends_denoted, crate::proofs::Absences::counted_said))]
 pub fn parse<S: Store>(
     alloc: Global,

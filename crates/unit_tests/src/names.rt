@@ -1,8 +1,7 @@
-// Names and reasons, written.
+// Names, written.
 use crate::said::{failing_sink, is, shown, taken};
 use canon_print::write_name;
 use std::alloc::{AllocError, Global};
-use szs_report::{LineAnswer, write_line};
 use tptp_base::{Memory, MemorySink, Name, SteadySink, Text};
 
 #[test]
@@ -22,27 +21,18 @@ fn prefix_in(alloc: Global, sink: &mut MemorySink) -> Result<String, AllocError>
 }
 
 #[test]
-fn a_copied_name_and_a_reason_are_written(rt: HostRuntime) {
-    is(&rt, reason(rt.alloc()), "007 unverified dry\n");
+fn a_copied_name_is_written(rt: HostRuntime) {
+    is(&rt, copied(rt.alloc()), "007");
 }
 
-fn reason(alloc: Global) -> Option<String> {
+fn copied(alloc: Global) -> Option<String> {
     let name = copied_name(alloc).ok()?;
-    reason_of(alloc, &name)
+    let mut out = SteadySink::new(alloc);
+    write_name(&name, &mut out).ok()?;
+    shown(alloc, out.bytes()).ok()
 }
 
 fn copied_name(alloc: Global) -> Result<Name, Memory> {
     let name = Name::Integer(Text::from_slice(alloc, b"007")?);
     name.copy(alloc)
-}
-
-fn reason_of(alloc: Global, name: &Name) -> Option<String> {
-    let reason = LineAnswer::Unverified(Text::from_slice(alloc, b"dry").ok()?);
-    line_of(alloc, name, &reason)
-}
-
-fn line_of(alloc: Global, name: &Name, reason: &LineAnswer) -> Option<String> {
-    let mut out = SteadySink::new(alloc);
-    write_line(alloc, name, reason, &mut out).ok()?;
-    shown(alloc, out.bytes()).ok()
 }

@@ -13,7 +13,7 @@ use Rattle.elaborate.specs.declared.answer.Rule.TheVariants.{Search, Sat}
 use Rattle.elaborate.specs.declared.answer.StepAnswer.TheVariants as step
 use Rattle.tstp_graph.specs.declared.shape.Ref.{Ref}
 use Rattle.tstp_graph.specs.declared.shape.Ref.TheVariants as ref
-use Rattle.verifier.specs.Claim.{answer_cites_marked, cites_marked, some_marked_ref}
+use Rattle.verifier.specs.Marks.{answer_cites_marked, cites_marked, some_marked_ref}
 use Rattle.verifier.specs.Good.{cited_form, cited_forms, without_numbers, so_far, cited_by_leaf, FollowsAs, Follows, FollowInTurn, IsGood}
 use Rattle.verifier.specs.Lines.{Derivation, Line, IsLineAt, parent_of, parents_of, candidates_of}
 use Rattle.verifier.specs.Report.{AreAccepted, HasFalse}

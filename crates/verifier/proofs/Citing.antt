@@ -23,10 +23,10 @@ use Rattle.kernel.specs.declared.proof.Proof.{Proof, Line as Cited, Hyp, AndI', 
 use Rattle.derive_kit.specs.Derived.{HasCited, IsDerivedFrom, numbers_of}
 use Rattle.elaborate.specs.declared.answer.Rule.{Rule}
 use Rattle.elaborate.specs.declared.answer.StepAnswer.TheVariants as step
-use Rattle.szs_report.specs.declared.answer.Verdict.{Verdict}
-use Rattle.szs_report.specs.declared.answer.Verdict.TheVariants.{Failed, NoFalse, BadClaim, Verified}
+use Rattle.verifier.specs.declared.answer.Verdict.{Verdict}
+use Rattle.verifier.specs.declared.answer.Verdict.TheVariants.{Failed, NoFalse, BadClaim, Verified}
 use Rattle.verifier.specs.Citing.{Spares, SparesAll, DoesNotCite, DoNotCite}
-use Rattle.verifier.specs.Claim.{is_marked, some_marked, answer_cites_marked, cites_marked}
+use Rattle.verifier.specs.Marks.{is_marked, some_marked, answer_cites_marked, cites_marked}
 use Rattle.verifier.specs.Closing.{Closes, IsFalseLine}
 use Rattle.search_proofs.specs.Searched.{IsSearchedFrom}
 use Rattle.verifier.specs.Lines.{Derivation, Line, parents_of, sources_of}

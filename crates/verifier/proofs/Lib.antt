@@ -16,7 +16,6 @@ pub mod Logs
 pub mod Marking
 pub mod Numbers
 pub mod OneReport
-pub mod OneVerdict
 pub mod Refuting
 pub mod Renumbering
 pub mod Rooms

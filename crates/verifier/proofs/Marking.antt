@@ -15,7 +15,7 @@ use Rattle.elaborate.specs.declared.answer.Rule.{Rule}
 use Rattle.tstp_graph.specs.declared.shape.Ref.{Ref}
 use Rattle.tstp_graph.specs.declared.shape.Ref.TheVariants as ref
 use Rattle.tstp_graph.specs.Order.{is_taken, TakesInTurn, first_left}
-use Rattle.verifier.specs.Claim.{is_marked, some_marked, answer_cites_marked, cites_marked, is_marked_ref, some_marked_ref}
+use Rattle.verifier.specs.Marks.{is_marked, some_marked, answer_cites_marked, cites_marked, is_marked_ref, some_marked_ref}
 use Rattle.verifier.specs.Good.{without_numbers, so_far, cited_one, cited_by_leaf, FollowsAs, FollowInTurn, IsGood}
 use Rattle.verifier.specs.Lines.{Derivation, Line, given_from, parent_of, parents_of, candidates_of}
 use Rattle.verifier.specs.Run.{Progress, AreAnswered, IsAnswered, IsRun, begun}

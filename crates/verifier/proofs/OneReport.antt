@@ -18,7 +18,7 @@ use Rattle.elaborate.specs.declared.answer.StepAnswer.TheVariants as step
 use Rattle.tstp_graph.specs.declared.shape.Ref.{Ref}
 use Rattle.tstp_graph.specs.declared.shape.Ref.TheVariants as ref
 use Rattle.tstp_graph.specs.Order.{is_taken, first_left}
-use Rattle.verifier.specs.Claim.{answer_cites_marked, cites_marked}
+use Rattle.verifier.specs.Marks.{answer_cites_marked, cites_marked}
 use Rattle.verifier.specs.Lines.{Derivation, Line, with_number, accepted, parent_of, both, parents_of, candidates_of, sources_of}
 use Rattle.verifier.specs.Report.{said_of}
 use Rattle.verifier.specs.Run.{Progress, AnswersKind, AnswersPlace, AreAnswered, IsAnswered, IsRun, begun, with_answered}

@@ -13,8 +13,8 @@ use Rattle.kernel.specs.declared.proof.Proof.{Line as Cited}
 use Rattle.kernel.specs.declared.entry.Entry.{Entry}
 use Rattle.kernel.specs.declared.entry.Entry.TheVariants.{Lemma}
 use Rattle.tstp_graph.specs.Order.{is_taken, first_left}
-use Rattle.szs_report.specs.declared.answer.Verdict.{Verdict}
-use Rattle.szs_report.specs.declared.answer.Verdict.TheVariants.{Failed, NoFalse, BadClaim, Verified}
+use Rattle.verifier.specs.declared.answer.Verdict.{Verdict}
+use Rattle.verifier.specs.declared.answer.Verdict.TheVariants.{Failed, NoFalse, BadClaim, Verified}
 use Rattle.std.proofs.lemmas.List.{append-nil}
 use Rattle.tptp_base.specs.Sink.{Takes, TakesPrefix}
 use Rattle.proof_log.specs.Entries.{AreNumbersInRange, entry_text}

@@ -23,8 +23,8 @@ use Rattle.elaborate.specs.declared.answer.StepAnswer.TheVariants as step
 use Rattle.input_proofs.specs.Functions.{functions_of}
 use Rattle.search_proofs.specs.Searched.{IsSearchedFrom, searched_theory}
 use Rattle.step_search.proofs.Names.{functions_quotable}
-use Rattle.szs_report.specs.declared.answer.Verdict.{Verdict}
-use Rattle.szs_report.specs.declared.answer.Verdict.TheVariants.{Failed, NoFalse, BadClaim, Verified}
+use Rattle.verifier.specs.declared.answer.Verdict.{Verdict}
+use Rattle.verifier.specs.declared.answer.Verdict.TheVariants.{Failed, NoFalse, BadClaim, Verified}
 use Rattle.verifier.specs.Closing.{Closes}
 use Rattle.verifier.specs.Lines.{Derivation, Line, parents_of, sources_of}
 use Rattle.verifier.specs.Run.{Progress, AnswersKind, IsAnswered, AreAnswered, IsRun, begun}

@@ -1,11 +1,11 @@
 pub mod Citing
-pub mod Claim
 pub mod Closing
 pub mod Declarations
 pub mod Faults
 pub mod Good
 pub mod Lines
 pub mod Logged
+pub mod Marks
 pub mod Report
 pub mod Run
 pub mod Symbols

@@ -1,9 +1,9 @@
-// What is answered of the lines of a derivation.
+// What is answered of the lines of a derivation, and of the whole.
 ghost use Rattle.std.specs.Prelude.{◌≡◌};
 ghost use Rattle.verifier.specs.Report;
 
 use elaborate::{Reason, Rule};
-use tptp_base::List;
+use tptp_base::{List, Text};
 
 /// What is answered of a line.
 #[derive(Drop)]
@@ -37,4 +37,17 @@ impl LineAnswer {
             LineAnswer::Accepted { .. } | LineAnswer::Unverified(_) => false,
         }
     }
+}
+
+/// How a derivation ends.
+#[derive(Drop)]
+pub enum Verdict {
+    /// Some line is not accepted: how many are unverified, how many are skipped, and how many lines there are.
+    Failed(u64, u64, u64),
+    /// No line is falsehood.
+    NoFalse,
+    /// The claimed status does not fit the derivation.
+    BadClaim(Text),
+    /// All is verified: the status, the problem as it was named, and how many lines there are.
+    Verified(Text, Text, u64),
 }

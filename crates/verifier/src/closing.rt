@@ -9,14 +9,14 @@ ghost use Rattle.verifier.specs.Lines.{LinesStand};
 ghost use Rattle.verifier.specs.Logged.{LogsSome};
 ghost use Rattle.verifier.specs.code.Latest.{later as later_of};
 
-use crate::ending::is_false;
+use crate::answer::Verdict;
+use crate::falsehood::is_false;
 use crate::fault::RunFault;
 use crate::parents::number_at;
 use fof_terms::Form;
 use kernel::{Entry, Proof};
 use proof_log::write_entry;
 use std::alloc::Global;
-use szs_report::Verdict;
 use tptp_base::{Boxed, Sink};
 
 /// Writes the last entry of a log: where all is verified, a lemma that cites the line that is falsehood, of several the

@@ -1,7 +1,6 @@
 // Laws of runs.
 ghost use Rattle.std.specs.Prelude.{◌≡◌, ◌↔◌, ◌++◌, ◌<◌, ◌≤◌, ℕ, Bool, true, false, List, [], length, map, None};
 ghost use Rattle.std.specs.List.{All as Each};
-ghost use Rattle.fof_terms.specs.declared.form.Form.{Form as Formula};
 ghost use Rattle.clause_form.specs.declared.path.Parent.{Parent as Stated};
 ghost use Rattle.elaborate.specs.declared.answer.Rule.{Rule};
 ghost use Rattle.elaborate.specs.declared.answer.StepAnswer.TheVariants as step;
@@ -10,18 +9,17 @@ ghost use Rattle.kernel.specs.Statements.{Statements};
 ghost use Rattle.kernel.specs.declared.entry.Entry.{Entry as LogEntry};
 ghost use Rattle.tstp_graph.specs.declared.shape.Ref.{Ref as Cited};
 ghost use Rattle.tstp_graph.specs.Order.{TakesInTurn, is_taken, first_left};
-ghost use Rattle.szs_report.specs.declared.answer.Verdict.{Verdict as Ending};
+ghost use Rattle.verifier.specs.declared.answer.Verdict.{Verdict as Ending};
 ghost use Rattle.verifier.specs.Citing.{DoNotCite};
-ghost use Rattle.verifier.specs.Claim.{cites_marked, is_marked, some_marked_ref};
+ghost use Rattle.verifier.specs.Marks.{cites_marked, is_marked, some_marked_ref};
 ghost use Rattle.verifier.specs.Closing.{Closes, IsVerified};
 ghost use Rattle.verifier.specs.Good.{HaveRoom, IsGood};
 ghost use Rattle.verifier.specs.Lines.{Derivation, Line as Placed};
-ghost use Rattle.verifier.specs.Report.{HasFalse, AreAccepted, IsVerdict, said_of};
+ghost use Rattle.verifier.specs.Report.{HasFalse, AreAccepted, said_of};
 ghost use Rattle.verifier.specs.Run.{AnswersLine, IsRun, IsStopped};
 ghost use Rattle.verifier.specs.Symbols.{IsUnusedIn};
 ghost use Rattle.verifier.specs.Unsearched.{AreUnsearched};
 ghost use Rattle.verifier.specs.declared.answer.LineAnswer.{LineAnswer as Answered};
-ghost use Rattle.verifier.specs.declared.claim.Claim.{Claim as Claimed};
 
 /// Where entries lead from a theory to the one that a run begins from, all lines of the run are accepted, and one of
 /// them is falsehood, the entries, those of the run and the last one for its verdict refute the theory.
@@ -117,12 +115,4 @@ pub fn a_run_has_one_report()
         → start.formulas ≡ d.given → first_left (is_taken order) 0 d.nodes ≡ None → AreUnsearched answers
         → IsRun start d order answers entries end → IsRun start d order others more last → length marks ≤ length d.given
         → cites_marked marks answers ≡ cites_marked marks others }
-{}
-
-/// One verdict applies to a claim, the name of the problem, the formulas of the lines and the answers.
-pub fn one_verdict_applies()
-    ensures { (claim : Claimed) (problem : List ℕ) (forms : List Formula) (answers : List Answered)
-        (verdict other : Ending)
-        → IsVerdict claim problem forms answers verdict → IsVerdict claim problem forms answers other
-        → verdict ≡ other }
 {}

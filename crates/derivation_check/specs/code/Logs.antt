@@ -1,6 +1,6 @@
 -- What private contracts say, beside the definitions of specs/Logs.
 use Rattle.std.specs.Prelude.{◌≡◌, ℕ, List, ◌++◌}
-use Rattle.szs_report.specs.declared.answer.Verdict.{Verdict}
+use Rattle.verifier.specs.declared.answer.Verdict.{Verdict}
 use Rattle.std.specs.declared.option.Option.{Option}
 use Rattle.tptp_base.specs.Sink.{Takes}
 use Rattle.fof_terms.specs.Vocabulary.{Vocabulary}
@@ -12,7 +12,8 @@ use Rattle.derivation_text.specs.declared.derivation.Derivation.{Derivation}
 use Rattle.verifier.specs.declared.answer.LineAnswer.{LineAnswer}
 use Rattle.verifier.specs.Closing.{Closes}
 use Rattle.verifier.specs.Logged.{entries_text}
-use Rattle.verifier.specs.Report.{IsVerdict, report_text}
+use Rattle.derivation_check.specs.Endings.{IsVerdict}
+use Rattle.derivation_check.specs.Report.{report_text}
 use Rattle.derivation_check.specs.Cases.{Asked, claim_by, lines_over, widened}
 use Rattle.derivation_check.specs.Checks.{Runs, is_verified}
 use Rattle.derivation_check.specs.Counts.{Counts}

@@ -16,7 +16,8 @@ pub record NameRoot (words : List (List ℕ)) (root : Option (List ℕ)) (rest :
 -- The words begin as if they named a root, and name none.
 pub record NameNoRoot (words : List (List ℕ)) : Type 0 where
   pub begun : BeginOtherwise (codes "--root") words → ⊥
-  pub no_name : (folder : List ℕ) (rest : List (List ℕ)) → words ≡ codes "--root" ∷ folder ∷ rest → IsFileName folder → ⊥
+  pub no_name : (folder : List ℕ) (rest : List (List ℕ)) → words ≡ codes "--root" ∷ folder ∷ rest
+      → IsFileName folder → ⊥
 
 -- The words name this limit, or none, and go on so.
 pub record NameLimit (words : List (List ℕ)) (limit : Option ℕ) (rest : List (List ℕ)) : Type 0 where
