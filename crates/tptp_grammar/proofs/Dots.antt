@@ -15,7 +15,7 @@ use Rattle.tptp_grammar.specs.Items.{IsItem}
 use Rattle.tptp_grammar.specs.Solid.{Placed, solid}
 use Rattle.tptp_lexer.specs.Dots.{is_comment, is_dot, through_dot, behind_dot}
 use Rattle.tptp_grammar.specs.code.ReadItems.{item}
-use Rattle.tptp_grammar.proofs.ReadFile.{with_item, file}
+use Rattle.tptp_grammar.specs.code.ReadFile.{with_item, file}
 use Rattle.tptp_grammar.proofs.SolidItems.{DotTo, dot, earlier, no_dot, of_item}
 use Rattle.tptp_grammar.proofs.ExactItems.{good_item}
 use Rattle.tptp_grammar.proofs.ExactFile.{Ends, ends_here, ends_drop, ends_keep, comment_text, solid_kept, solid_dropped, item_read}

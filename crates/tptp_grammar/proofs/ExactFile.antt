@@ -19,7 +19,7 @@ use Rattle.tptp_grammar.specs.Solid.{Placed, solid}
 use Rattle.tptp_lexer.specs.Dots.{is_comment}
 use Rattle.tptp_grammar.specs.Files.{Through, last_token, dropped, token, IsFile, end_of_file, comment, input}
 use Rattle.tptp_grammar.specs.code.ReadItems.{item}
-use Rattle.tptp_grammar.proofs.ReadFile.{with_item, followed, file_from, file}
+use Rattle.tptp_grammar.specs.code.ReadFile.{with_item, followed, file_from, file}
 use Rattle.tptp_grammar.proofs.ExactItems.{good_item}
 
 -- ---- lists without their comments

@@ -16,7 +16,7 @@ use Rattle.tptp_grammar.specs.Solid.{Placed, is_remark, solid}
 use Rattle.tptp_lexer.specs.Dots.{is_comment}
 use Rattle.tptp_grammar.specs.Files.{IsFile, end_of_file, comment, input, SpellsWithin}
 use Rattle.tptp_grammar.specs.code.ReadItems.{item}
-use Rattle.tptp_grammar.proofs.ReadFile.{FileOutcome, with_item, file}
+use Rattle.tptp_grammar.specs.code.ReadFile.{FileOutcome, with_item, file}
 use Rattle.tptp_grammar.proofs.Solids.{BeginsSolid}
 use Rattle.tptp_grammar.proofs.SolidItems.{AreSolid, of_item, solid_to}
 use Rattle.tptp_grammar.proofs.ExactItems.{good_item}

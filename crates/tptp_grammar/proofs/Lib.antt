@@ -19,7 +19,6 @@ pub mod ExactItems
 pub mod SolidItems
 pub mod SpelledNames
 pub mod SpelledSizes
-pub mod ReadFile
 pub mod ExactFile
 pub mod AmongComments
 pub mod FirstFaults
@@ -28,6 +27,7 @@ pub mod Overs
 pub mod Dots
 pub mod Whole
 pub mod Taking
+pub mod ReadTested
 pub mod Stuck
 pub mod OneAnswer
 pub mod OneList

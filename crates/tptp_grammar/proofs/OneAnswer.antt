@@ -15,7 +15,7 @@ use Rattle.tptp_grammar.specs.Solid.{Placed, solid}
 use Rattle.tptp_grammar.specs.Files.{IsFile, SpellsWithin, IsPossible, IsPossibleWithin}
 use Rattle.tptp_grammar.specs.Faults.{max_nesting, is_outside, IsUnfinished}
 use Rattle.tptp_grammar.specs.code.Dots.{entry_behind}
-use Rattle.tptp_grammar.proofs.ReadFile.{FileOutcome, file}
+use Rattle.tptp_grammar.specs.code.ReadFile.{FileOutcome, file}
 use Rattle.tptp_grammar.specs.Answers as a
 use Rattle.tptp_grammar.specs.code.Answers as a_code
 use Rattle.tptp_grammar.specs.Laws.{IsOne, HasAnswer}

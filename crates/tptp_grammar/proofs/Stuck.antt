@@ -13,7 +13,7 @@ use Rattle.tptp_grammar.specs.Tokens.{Tokens}
 use Rattle.tptp_grammar.specs.Solid.{Placed, is_remark, solid}
 use Rattle.tptp_lexer.specs.Dots.{is_comment}
 use Rattle.tptp_grammar.specs.Files.{IsFile, SpellsWithin, IsPossible, IsPossibleWithin}
-use Rattle.tptp_grammar.proofs.ReadFile.{FileOutcome, file}
+use Rattle.tptp_grammar.specs.code.ReadFile.{FileOutcome, file}
 use Rattle.tptp_grammar.proofs.Solids.{BeginsSolid}
 use Rattle.tptp_grammar.proofs.ExactFile.{solid_kept, solid_file, found_file}
 use Rattle.tptp_grammar.proofs.FirstFaults.{FileFault, FileSays, file_says}

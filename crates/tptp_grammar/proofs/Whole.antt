@@ -19,7 +19,7 @@ use Rattle.tptp_grammar.specs.Faults.{max_nesting, is_outside, IsImpossible, IsU
 use Rattle.tptp_grammar.specs.code.Dots.{entry_behind}
 use Rattle.tptp_grammar.specs.code.Outcomes.{Fails}
 use Rattle.tptp_grammar.specs.code.ReadItems.{item}
-use Rattle.tptp_grammar.proofs.ReadFile.{FileOutcome, with_item, file}
+use Rattle.tptp_grammar.specs.code.ReadFile.{FileOutcome, with_item, file, items_of}
 use Rattle.tptp_grammar.specs.Answers as a
 use Rattle.tptp_grammar.specs.code.Answers as a_code
 use Rattle.tptp_grammar.proofs.Solids.{BeginsSolid}
@@ -62,7 +62,7 @@ starts_item : (style : Style) (t : Token) (place : Place) (rest : List Placed) (
 starts_item style (Comment text) place rest i new e h = cc
 starts_item style t place rest i new e h = h
 
-fails_item : (style : Style) (t : Token) (place : Place) (rest : List Placed) (s : Stop) (taken : ℕ) → is_comment t ≡ false → a_code.StartFails style t place rest s taken → a_code.Refuses style t place rest s taken
+pub fails_item : (style : Style) (t : Token) (place : Place) (rest : List Placed) (s : Stop) (taken : ℕ) → is_comment t ≡ false → a_code.StartFails style t place rest s taken → a_code.Refuses style t place rest s taken
 fails_item style (Comment text) place rest s taken e h = cc
 fails_item style t place rest s taken e h = h
 
@@ -153,10 +153,6 @@ abbrev pub cause_of : FileOutcome → Cause
 cause_of (Ok items) = Unexpected
 cause_of (Err f) = f.0
 
-abbrev pub items_of : FileOutcome → List Item
-items_of (Ok items) = items
-items_of (Err f) = []
-
 module _ (style : Style) (room : ℕ) (items : List Item) (raw : List Placed) (us : Tokens) (d : IsFile style items raw us) where
   spelled_not_unexpected : (rest : List Token) → file style room raw ≡ Err (Unexpected, rest) → ⊥
   spelled_not_unexpected rest e = elim (found_file style room d) [
@@ -244,7 +240,7 @@ module _ (style : Style) (raw : List Placed) (end : Place) where
       omega (arith, ap length f.left_is, ap (λ l. length (solid l)) f.text, solid_length f.front f.rest)
 
 module _ (style : Style) (all : List Placed) (end : Place) (found : List Item) (t : Token) (place : Place) (ts us : List Placed) (is : us ≡ (t, place) ∷ ts) (h : Kept style all found us) where
-  file_stops : is_comment t ≡ false → (s : Stop) (left : List Token) → Fails (item style max_nesting place (t ∷ through_dot ts)) s left → Stopped (file style max_nesting all) s (left ++ solid (behind_dot ts))
+  pub file_stops : is_comment t ≡ false → (s : Stop) (left : List Token) → Fails (item style max_nesting place (t ∷ through_dot ts)) s left → Stopped (file style max_nesting all) s (left ++ solid (behind_dot ts))
   file_stops e stop.Memory left k = tt
   file_stops e stop.Unexpected left k = whole style all found t place ts us is h ∙ ap (with_items found) (item_fails style max_nesting t place ts (Unexpected, left ++ solid (behind_dot ts)) e (fails_through style max_nesting t place ts Unexpected left k))
   file_stops e stop.TooDeep left k = whole style all found t place ts us is h ∙ ap (with_items found) (item_fails style max_nesting t place ts (TooDeep, left ++ solid (behind_dot ts)) e (fails_through style max_nesting t place ts TooDeep left k))

@@ -6,6 +6,7 @@ pub mod Outcomes
 pub mod ReadClauses
 pub mod ReadFormulas
 pub mod ReadGeneral
+pub mod ReadFile
 pub mod ReadItems
 pub mod ReadTerms
 pub mod ReadTypedClauses

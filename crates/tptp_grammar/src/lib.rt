@@ -15,6 +15,7 @@ mod sorts;
 mod stop;
 mod taker;
 mod terms;
+mod tested;
 mod typed_clauses;
 mod words;
 
@@ -22,3 +23,4 @@ pub use fault::GrammarFault;
 pub use law::{items_are_within_their_text, names_are_quotable, one_answer, one_list_of_items};
 pub use reading::{parse, parse_into};
 pub use taker::Taker;
+pub use tested::{ItemsLeft, items_left};

@@ -26,9 +26,9 @@ const MAX_NESTING: usize = 250;
 
 /// Why an item is not read, and behind how many of its tokens.
 #[derive(Clone, Copy, PartialEq, Eq)]
-struct Refusal {
-    stop: Stop,
-    taken: usize,
+pub struct Refusal {
+    pub stop: Stop,
+    pub taken: usize,
 }
 
 impl From<AllocError> for Refusal {
@@ -91,8 +91,8 @@ fn input<'a>(
     }
 }
 
-// A comment or an item, from its first token on.
-fn take_turn<'a>(
+/// A comment or an item, from its first token on.
+pub fn take_turn<'a>(
     alloc: Global,
     style: Style,
     first: Token<'a>,

@@ -1,12 +1,13 @@
 -- What all tokens of a text of the style are read as, as one reader answers it. The first number is the nesting that is
 -- left.
-use Rattle.std.proofs.Common.{ℕ, zero, suc, ◌-◌, if◌then◌else◌, List, [], ◌∷◌, length, Result, Ok, Err}
+use Rattle.std.specs.Prelude.{◌≡◌, ℕ, zero, suc, ◌-◌, if◌then◌else◌, List, [], ◌∷◌, length, Result, Ok, Err}
 use Rattle.first_fault.specs.code.Reading.{Cause, Outcome}
 use Rattle.tptp_lexer.specs.declared.style.Style.{Style}
 use Rattle.tptp_lexer.specs.declared.token.Token.{Token}
 use Rattle.tptp_lexer.specs.declared.token.Token.TheVariants.{Comment}
 use Rattle.tptp_base.specs.declared.place.Place.{Place}
 use Rattle.tptp_base.specs.declared.item.Item.{Item}
+use Rattle.tptp_grammar.specs.Faults.{max_nesting}
 use Rattle.tptp_grammar.specs.Solid.{Placed, is_remark, solid}
 use Rattle.tptp_grammar.specs.code.ReadItems.{item}
 use Rattle.tptp_base.specs.declared.item.Item.TheVariants as it
@@ -36,3 +37,16 @@ file_from style room zero (entry ∷ rest) = started style room entry.0 entry.1 
 
 unfoldable pub file : Style → ℕ → List Placed → FileOutcome
 file style room ts = file_from style room zero ts
+
+-- the items, and none where they are not read
+abbrev pub items_of : FileOutcome → List Item
+items_of (Ok items) = items
+items_of (Err f) = []
+
+-- the items that the tokens are read as
+unfoldable pub items_left : Style → List Placed → List Item
+items_left style ts = items_of (file style max_nesting ts)
+
+-- all of them are read
+abbrev pub AreRead : Style → List Placed → Type 0
+AreRead style ts = file style max_nesting ts ≡ Ok (items_left style ts)
