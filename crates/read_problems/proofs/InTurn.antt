@@ -65,12 +65,12 @@ module _ (told : Option Files) (root : Option (List ℕ)) where
     pub text_denoted : (keeps : Bool) (d : Denotation) → IsOfText text keeps d → IsDenotation told root file keeps d
     text_denoted keeps d is = record {
       whole = text_alone file text is.items;
-      lines = is.lines;
+      lines = is.is.lines;
       resolves = alone_resolves file text is.items has in_limit in_budget is.spells is.whole;
-      denotes = is.denotes;
-      kept_lines = is.kept_lines;
-      formulas = is.formulas;
-      read = is.read ∙ omega arith;
+      denotes = is.is.denotes;
+      kept_lines = is.is.kept_lines;
+      formulas = is.is.formulas;
+      read = is.is.read ∙ omega arith;
     }
 
     -- ---- the first fault of the text
@@ -104,11 +104,11 @@ module _ (told : Option Files) (root : Option (List ℕ)) where
 
       pub text_refused : IsRefusalOfText file text ending → IsProblemRefusal told root file ending
       text_refused (inl is) = let said = text_said is in inl (included.Text file said.0, said.1.0, said.1.1)
-      text_refused (inr is) = inr (text_alone file text is.items, sort_said is, (is.fault, is.denotes, is.says))
+      text_refused (inr is) = inr (text_alone file text is.items, sort_said is, is.says)
 
       pub text_absent : (R : Type 0) → IsRefusalOfText file text ending → R ⊎ SaysProblemFault told root file ending
       text_absent R (inl is) = let said = text_said is in inr (inl (included.Text file said.0, said.1.0, (λ written e. cc), said.1.1))
-      text_absent R (inr is) = inr (inr (text_alone file text is.items, sort_said is, (is.fault, is.denotes, is.says)))
+      text_absent R (inr is) = inr (inr (text_alone file text is.items, sort_said is, is.says))
 
   -- ---- a file that is not read
 
@@ -134,14 +134,3 @@ module _ (told : Option Files) (root : Option (List ℕ)) where
     pub unread_absent : (R : Type 0) → (ending.status ≡ 3 → R) → IsUnread told file TOTAL_SIZE ending → R ⊎ SaysProblemFault told root file ending
     unread_absent R rises (inl (gone, says)) = inl (rises (ap (λ (e : Ending). e.status) says))
     unread_absent R rises (inr (limit, has, says)) = inr (inl (included.Limit file limit, over_resolves limit has, (λ written e. cc), says))
-
--- ---- what is taken item by item
-
-each_alone : (items : List Item) → flat_map (λ (item : Item). item ∷ []) items ≡ items
-each_alone [] = refl
-each_alone (item ∷ items) = ap (λ (is : List Item). item ∷ is) (each_alone items)
-
--- the items that were read are those that were taken
-pub taken_parsed : (tokens : Tokens) (before after items : List Item) → IsParsed tokens (Ok items) → before ≡ [] → after ≡ before ++ flat_map (λ (item : Item). item ∷ []) items → IsParsed tokens (Ok after)
-taken_parsed tokens before after items spelled_so none is =
-    subst (λ (is : List Item). IsParsed tokens (Ok is)) (sym (is ∙ ap (λ (front : List Item). front ++ flat_map (λ (item : Item). item ∷ []) items) none ∙ each_alone items)) spelled_so

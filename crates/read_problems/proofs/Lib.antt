@@ -8,6 +8,7 @@ pub mod NoRefusal
 pub mod OneProblem
 pub mod Sourced
 pub mod Stages
-pub mod Copying
 pub mod InTurn
+pub mod Takers
+pub mod Told
 pub mod Answered

@@ -2,7 +2,7 @@
 //! first fault.
 #![tactic(auto)]
 
-mod copied;
+mod again;
 mod denotations;
 mod denoted;
 mod given;
@@ -14,6 +14,7 @@ mod sources;
 mod spelled;
 mod stop;
 mod taking;
+mod text_items;
 
 pub use denotations::{Denotation, read_denotation};
 pub use denoted::{Meaning, read_meaning, say_of_line};

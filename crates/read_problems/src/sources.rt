@@ -13,13 +13,12 @@ ghost use Rattle.read_problems.specs.Sources.{IsSource};
 ghost use Rattle.read_problems.specs.Stop.{HasCause, IfRefused, IfStopped};
 ghost use Rattle.read_problems.specs.declared.refusals.TheConstants.{TOTAL_SIZE};
 
-use crate::copied::copy_signature;
 use crate::given::reversed;
 use crate::posed::{Posed, read_posed};
 use crate::stop::Halt;
 use fof_terms::{Form, Signature};
 use proof_check::Theory;
-use sort_check::GivenEntry;
+use sort_check::{GivenEntry, copy_signature};
 use std::alloc::Global;
 use tptp_base::{List, Memory, Name, Role, Store};
 

@@ -18,16 +18,28 @@ pub struct Taken {
     pub ghost counted: { formulas ≡ count_by is_formula items.items },
 }
 
+impl Taken {
+    /// No items yet. Lines are kept or let go.
+    pub fn nothing(alloc: Global, keeps: bool) -> Result<Taken, Memory>
+        ensures { IfOk result (λ none. none.items ≡ record { items = []; keeps = keeps }) }
+    {
+        let items = InTurn::new(alloc, keeps)?;
+        Ok(Taken { items, formulas: 0 })
+    }
+}
+
 impl Taker for Taken {
-    ghost use Rattle.std.specs.Prelude.{[], ◌∷◌};
+    ghost use Rattle.std.specs.Prelude.{◌⊎◌, Bool, [], ◌∷◌, map};
+    ghost use Rattle.std.proofs.Common.{inl, inr};
     ghost use Rattle.tptp_base.specs.declared.item.Item.{Item};
 
-    ghost Part = { Item };
+    ghost Part = { Bool ⊎ Item };
 
-    ghost parts = { λ item. item ∷ [] };
+    ghost parts = { λ item. inr item ∷ [] };
 
-    ghost kept = { λ taken. taken.items.items };
+    ghost kept = { λ taken. inl taken.items.keeps ∷ map (λ (item : Item). inr item) taken.items.items };
 
+    #[tactic(auto, using(crate::proofs::Takers::turn_more))]
     fn take(&mut self, item: Item) -> Result<(), Memory> {
         let formulas = count_on(self.formulas, &item)?;
         self.items.take(&item)?;
@@ -52,7 +64,7 @@ fn count_on(count: usize, item: &Item) -> Result<usize, Memory>
     }
 }
 
-/// All items that the tokens spell, taken one behind the other. Nothing where it is not known what they denote.
+/// All items that the tokens spell, taken one behind the other. Nothing where an include is among them.
 ///
 /// # Errors
 ///
@@ -60,18 +72,16 @@ fn count_on(count: usize, item: &Item) -> Result<usize, Memory>
 pub fn take_all(
     alloc: Global,
     tokens: &Tokens<'_>,
-    items: InTurn,
+    none: Taken,
 ) -> Result<Option<Taken>, GrammarFault>
-    requires { items.items ≡ [] }
+    requires { none.items.items ≡ [] }
     ensures parsed { IfOk result (λ found. IfSome found (λ taken. IsParsed tokens.now (Ok taken.items.items))) }
-    ensures keeps { IfOk result (λ found. IfSome found (λ taken. taken.items.keeps ≡ items.keeps)) }
+    ensures keeps { IfOk result (λ found. IfSome found (λ taken. taken.items.keeps ≡ none.items.keeps)) }
     ensures fault { IfErr result (λ fault. IsParsed tokens.now (Err fault)) }
 {
-    let keeps = items.keeps();
-    let mut taken = Taken { items, formulas: 0 };
+    let mut taken = none;
     match parse_into(alloc, tokens, &mut taken) {
-        Ok(()) if taken.items.keeps() == keeps => Ok(Some(taken)),
-        Ok(()) => Ok(None),
+        Ok(()) => Ok(Some(taken)),
         Err(_) if taken.items.is_lost() => Ok(None),
         Err(fault) => Err(fault),
     }

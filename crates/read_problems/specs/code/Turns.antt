@@ -1,4 +1,4 @@
--- What is known of a text that was taken item by item.
+-- What is known of items that were taken one behind the other.
 use Rattle.std.specs.Prelude.{◌≡◌, ◌⊎◌, ℕ, Bool, List, [], ◌∷◌, length, count_by, Ok, Err}
 use Rattle.tptp_base.specs.declared.item.Item.{Item}
 use Rattle.sort_check.specs.declared.fault.SortFault.{SortFault}
@@ -12,25 +12,31 @@ use Rattle.read_problems.specs.Ending.{Ending}
 use Rattle.read_problems.specs.Spelled.{SpellsItems, IsTextRefusal}
 use Rattle.sort_check.specs.declared.line.TextKind.TheVariants as kind
 
--- The text has no include and denotes these lines, kept or not.
-pub record IsOfText (text : List ℕ) (keeps : Bool) (d : Denotation) : Type 0 where
-  pub items : List Item
+-- The items denote these lines, kept or not. So many of them are formulas, and so many bytes were read.
+pub record IsOfItems (items : List Item) (keeps : Bool) (size : ℕ) (d : Denotation) : Type 0 where
   pub lines : List Line
-  pub spells : SpellsItems text items
-  pub whole : HaveNoInclude items
   pub denotes : denoted items first_vocabulary kind.Problem ≡ Ok (lines, d.signature)
   pub kept_lines : d.lines ≡ kept keeps lines
   pub formulas : d.formulas ≡ count_by is_formula items
-  pub read : d.read ≡ length text
+  pub read : d.read ≡ size
+
+-- The first fault of the items against the rules of sorts is said.
+abbrev pub IsSortRefusal : List (List ℕ) → List Item → Ending → Type 0
+IsSortRefusal files items ending = (fault : SortFault) × (denoted items first_vocabulary kind.Problem ≡ Err fault) × SaysSortFault files fault ending
+
+-- The text has no include and denotes these lines, kept or not.
+pub record IsOfText (text : List ℕ) (keeps : Bool) (d : Denotation) : Type 0 where
+  pub items : List Item
+  pub spells : SpellsItems text items
+  pub whole : HaveNoInclude items
+  pub is : IsOfItems items keeps (length text) d
 
 -- The text has no include, and its first fault against the rules of sorts is said.
 pub record IsTextSortRefusal (file text : List ℕ) (ending : Ending) : Type 0 where
   pub items : List Item
   pub spells : SpellsItems text items
   pub whole : HaveNoInclude items
-  pub fault : SortFault
-  pub denotes : denoted items first_vocabulary kind.Problem ≡ Err fault
-  pub says : SaysSortFault (file ∷ []) fault ending
+  pub says : IsSortRefusal (file ∷ []) items ending
 
 -- The first fault of the text is said: that of its tokens or items, or else that against the rules of sorts.
 abbrev pub IsRefusalOfText : List ℕ → List ℕ → Ending → Type 0
