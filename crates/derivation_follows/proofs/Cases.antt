@@ -7,10 +7,10 @@ use Rattle.kernel.specs.Statements.{Statements}
 use Rattle.sort_check.specs.declared.line.GivenEntry.{GivenEntry}
 use Rattle.tstp_graph.specs.declared.shape.Graph.{Graph}
 use Rattle.tstp_graph.specs.declared.shape.Ref.{Ref}
-use Rattle.verifier.specs.Claim.{IsJustified, JustifiesSome, default_word}
+use Rattle.derivation_check.specs.Claim.{IsJustified, JustifiesSome, default_word}
 use Rattle.verifier.specs.Good.{HaveRoom, IsGood}
 use Rattle.verifier.specs.Lines.{Derivation as Lined}
-use Rattle.verifier.specs.declared.claim.Claim.{Claim}
+use Rattle.derivation_check.specs.declared.claiming.Claim.{Claim}
 use Rattle.derivation_text.specs.declared.derivation.Derivation.{Derivation as Checked}
 use Rattle.derivation_check.specs.Cases.{Asked, claimed, lines_over}
 use Rattle.derivation_check.specs.GoodCases.{IsGoodCase, claim_citing}

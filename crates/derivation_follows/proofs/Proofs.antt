@@ -6,7 +6,7 @@ use Rattle.sort_check.specs.declared.line.GivenEntry.{GivenEntry}
 use Rattle.tptp_base.specs.declared.item.Item.{Item}
 use Rattle.tstp_graph.specs.Graphs.{IsGraph}
 use Rattle.tstp_graph.proofs.OneGraph.{one_graph as same_graph}
-use Rattle.verifier.specs.Claim.{default_word}
+use Rattle.derivation_check.specs.Claim.{default_word}
 use Rattle.derivation_text.specs.declared.derivation.Derivation.{Derivation as Checked}
 use Rattle.derivation_check.specs.Cases.{Asked, claimed}
 use Rattle.derivation_check.specs.GoodCases.{IsGoodCase}

@@ -10,7 +10,8 @@ use Rattle.derivation_items.specs.declared.line.ProofLine.{ProofLine}
 use Rattle.derivation_order.specs.Cited.{forms_in}
 use Rattle.derivation_order.specs.Graphs.{names_of}
 
-pub record IsReadAs (given : List GivenEntry) (lines : List ProofLine) (items : List Item) (checked : Derivation) : Type 0 where
+pub record IsReadAs (given : List GivenEntry) (lines : List ProofLine) (items : List Item)
+    (checked : Derivation) : Type 0 where
   pub spelled : List Item
   pub same : AreSame items spelled
   pub graph : IsGraph spelled (names_of given) checked.graph

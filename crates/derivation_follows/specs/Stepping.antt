@@ -17,7 +17,8 @@ use Rattle.derivation_follows.specs.Applied.{OneApplies}
 abbrev pub StepsApply : Vocabulary → List GivenEntry → List ProofLine → Type 0
 StepsApply w given lines =
     (k : ℕ) (line : ProofLine) → StandsAt lines k line → is_given line.source ≡ false
-    → OneApplies rules (so_far w (forms_given given) (forms_in (take k lines))) (without_numbers (source_forms given (take k lines) line.source)) line.form
+    → OneApplies rules (so_far w (forms_given given) (forms_in (take k lines)))
+    (without_numbers (source_forms given (take k lines) line.source)) line.form
 
 abbrev pub is_inferred : LineSource → Bool
 is_inferred (Given name) = false
@@ -29,4 +30,5 @@ is_inferred (Inferred words) = true
 abbrev pub StepsOfKindApply : Bool → Vocabulary → List GivenEntry → List ProofLine → Type 0
 StepsOfKindApply kind w given lines =
     (k : ℕ) (line : ProofLine) → StandsAt lines k line → is_given line.source ≡ false → is_inferred line.source ≡ kind
-    → OneApplies rules (so_far w (forms_given given) (forms_in (take k lines))) (without_numbers (source_forms given (take k lines) line.source)) line.form
+    → OneApplies rules (so_far w (forms_given given) (forms_in (take k lines)))
+    (without_numbers (source_forms given (take k lines) line.source)) line.form

@@ -12,8 +12,8 @@ ghost use Rattle.derivation_check.specs.GoodCases.{IsGoodCase};
 ghost use Rattle.derivation_text.specs.declared.derivation.Derivation.{Derivation as Checked};
 ghost use Rattle.limited_items.specs.Room as limited;
 ghost use Rattle.limited_items.specs.Sources.{forms_given};
-ghost use Rattle.verifier.specs.Claim.{IsJustified, default_word};
-ghost use Rattle.verifier.specs.declared.claim.Claim.{Claim};
+ghost use Rattle.derivation_check.specs.Claim.{IsJustified, default_word};
+ghost use Rattle.derivation_check.specs.declared.claiming.Claim.{Claim};
 ghost use Rattle.derivation_order.specs.Graphs.{AreNames, IsGraphOf};
 ghost use Rattle.derivation_follows.specs.Cases.{IsReadAs};
 ghost use Rattle.derivation_items.specs.Words.{Text};
@@ -52,16 +52,17 @@ pub fn some_leaf_rule_is_first()
         → IsSure ((rule : Rule) × (i : ℕ) × LeafRule t candidates line rule i) }
 {}
 
-/// Where some rule gives each line, behind those before it in the order, and some line is falsehood, it cannot be refuted
-/// that the derivation is good in this order and its lines cite some formulas.
+/// Where some rule gives each line, behind those before it in the order, and some line is falsehood, it cannot be
+/// refuted that the derivation is good in this order and its lines cite some formulas.
 pub fn given_lines_are_good()
     ensures { (v : Vocabulary) (d : Lined) (order : List ℕ) → AreGivenInTurn v d [] order → HasFalse d.forms
         → IsSure ((cites : List Ref) × IsGood v d order cites) }
 {}
 
 /// Of a derivation that is found each line that copies a given formula follows from it by `norm`, and the last line is
-/// falsehood. So where some rule gives each of the others from the formulas that its source names, behind the lines before
-/// it, it cannot be refuted that the derivation is good in the order of its graph and its lines cite some formulas.
+/// falsehood. So where some rule gives each of the others from the formulas that its source names, behind the lines
+/// before it, it cannot be refuted that the derivation is good in the order of its graph and its lines cite some
+/// formulas.
 pub fn a_found_derivation_is_good()
     ensures { (v : Vocabulary) (given : List Entry) (limit : ℕ) (d : Found) → length given < 2 ^ 64 → limit < 2 ^ 32
         → IsFound v given limit d → (types : ℕ) (graph : Graph) → IsGraphOf given types d.lines graph
@@ -69,9 +70,9 @@ pub fn a_found_derivation_is_good()
         → IsSure ((cites : List Ref) × IsGood w (derivation_by given d.lines graph searched) graph.order cites) }
 {}
 
-/// Some rule gives each line of a derivation that is found and is inferred from other clauses, behind the lines before it,
-/// where the clauses of needed members are fit and each line that is inferred from one alone comes from a formula that has
-/// a normal form.
+/// Some rule gives each line of a derivation that is found and is inferred from other clauses, behind the lines before
+/// it, where the clauses of needed members are fit and each line that is inferred from one alone comes from a formula
+/// that has a normal form.
 pub fn inferred_lines_apply()
     ensures { (v : Vocabulary) (given : List Entry) (limit : ℕ) (d : Found) → length given < 2 ^ 64 → limit < 2 ^ 32
         → (f : IsFound v given limit d) → HaveSmallPremises d.lines → (w : Vocabulary)
@@ -79,7 +80,8 @@ pub fn inferred_lines_apply()
         → StepsOfKindApply true w given d.lines }
 {}
 
-/// Where some rule gives each step that is inferred from other clauses, and each that is not, some rule gives each step.
+/// Where some rule gives each step that is inferred from other clauses, and each that is not, some rule gives each
+/// step.
 pub fn steps_of_both_kinds_apply()
     ensures { (w : Vocabulary) (given : List Entry) (lines : List ProofLine) → StepsOfKindApply true w given lines
         → StepsOfKindApply false w given lines → StepsApply w given lines }
@@ -111,9 +113,9 @@ pub fn needed_members_are_fit()
         f.derivation.needed }
 {}
 
-/// So it is with the items of a derivation that is found, within the limits: where the printed text is read as these items,
-/// but for their places, with the formulas of the lines, and some rule gives each step over the vocabulary of the
-/// derivation, it cannot be refuted that the case is good.
+/// So it is with the items of a derivation that is found, within the limits: where the printed text is read as these
+/// items, but for their places, with the formulas of the lines, and some rule gives each step over the vocabulary of
+/// the derivation, it cannot be refuted that the case is good.
 pub fn a_printed_derivation_makes_a_good_case()
     ensures { (v : Vocabulary) (given : List Entry) (limit : ℕ) (d : Found) → length given < 2 ^ 64 → limit < 2 ^ 32
         → AreNames given → IsFound v given limit d → (file : Text) (items : List Item)

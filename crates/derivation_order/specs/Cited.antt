@@ -16,14 +16,17 @@ forms_in lines = map (λ (l : ProofLine). l.form) lines
 
 -- the lines with this graph, and with the limit of a search
 abbrev pub derivation_by : List GivenEntry → List ProofLine → Graph → ℕ → Derivation
-derivation_by given lines graph limit = record { given = forms_given given; nodes = graph.nodes; forms = forms_in lines; limit = limit }
+derivation_by given lines graph limit =
+    record { given = forms_given given; nodes = graph.nodes; forms = forms_in lines; limit = limit }
 
 -- The line of that number has a node. The formulas that the node refers to are there, and the line is to follow from
 -- those that its source names among the given formulas and the lines before it.
-pub record HasSources (given : List GivenEntry) (lines : List ProofLine) (graph : Graph) (k : ℕ) (line : ProofLine) : Type 0 where
+pub record HasSources (given : List GivenEntry) (lines : List ProofLine) (graph : Graph) (k : ℕ)
+    (line : ProofLine) : Type 0 where
   pub node : Node
   pub there : slice_get graph.nodes k ≡ Some node
   pub leaf : node.leaf ≡ is_given line.source
   pub forms : List Form
   pub cited : cited_forms (forms_given given) (forms_in lines) node.parents ≡ Some forms
-  pub sources : forms_of (sources_of node.leaf (forms_given given) node.cited (without_numbers forms)) ≡ source_forms given (take k lines) line.source
+  pub sources : forms_of (sources_of node.leaf (forms_given given) node.cited (without_numbers forms))
+      ≡ source_forms given (take k lines) line.source

@@ -1,6 +1,7 @@
 -- The graph of a derivation whose lines name lines before them: the nodes stand in the order of the lines, and so they
 -- are checked (the TSTP part of the TPTP language).
-use Rattle.std.specs.Prelude.{ℕ, ◌≡◌, ◌+◌, ⊤, true, false, Bool, List, [], ◌∷◌, Some, slice_get, length, map, if◌then◌else◌}
+use Rattle.std.specs.Prelude.{ℕ, ◌≡◌, ◌+◌, ⊤, true, false, Bool, List, [], ◌∷◌, Some, slice_get, length, map}
+use Rattle.std.specs.Prelude.{if◌then◌else◌}
 use Rattle.std.specs.List.{AllZip, range_with_len}
 use Rattle.tptp_base.specs.Numerals.{is_integer}
 use Rattle.tptp_base.specs.declared.name.Name.{Name}
@@ -53,7 +54,8 @@ is_given (ClauseOf word) = false
 is_given (Inferred words) = false
 
 -- a line that copies a given formula is a leaf, which names what it cites; each other line is a step
-pub record IsNodeOf (given : List GivenEntry) (lines : List ProofLine) (item : ℕ) (source : LineSource) (node : Node) : Type 0 where
+pub record IsNodeOf (given : List GivenEntry) (lines : List ProofLine) (item : ℕ) (source : LineSource)
+    (node : Node) : Type 0 where
   pub at : node.item ≡ item
   pub leaf : node.leaf ≡ is_given source
   pub cited : node.cited ≡ (if is_given source then is_some_ref node.parents else false)
@@ -63,7 +65,8 @@ pub record IsNodeOf (given : List GivenEntry) (lines : List ProofLine) (item : �
 abbrev pub AreNodesFrom : List GivenEntry → List ProofLine → ℕ → List ProofLine → List Node → Type 0
 AreNodesFrom given all item [] nodes = nodes ≡ []
 AreNodesFrom given all item (line ∷ lines) nodes =
-    (node : Node) × (more : List Node) × (nodes ≡ node ∷ more) × IsNodeOf given all item line.source node × AreNodesFrom given all (item + 1) lines more
+    (node : Node) × (more : List Node) × (nodes ≡ node ∷ more) × IsNodeOf given all item line.source node
+    × AreNodesFrom given all (item + 1) lines more
 
 -- the graph of the lines, before which so many type lines stand
 pub record IsGraphOf (given : List GivenEntry) (types : ℕ) (lines : List ProofLine) (graph : Graph) : Type 0 where

@@ -26,8 +26,8 @@ pub fn lines_are_linked()
         → IsFound v given limit d → AreLinked given d.lines }
 {}
 
-/// The items of lines that are linked, within the limits, have a graph: its nodes are those of the lines, in their order,
-/// and so they are checked. The names of the given formulas that are numbers are integers.
+/// The items of lines that are linked, within the limits, have a graph: its nodes are those of the lines, in their
+/// order, and so they are checked. The names of the given formulas that are numbers are integers.
 pub fn linked_lines_have_a_graph()
     ensures { (file : Text) (v : Vocabulary) (first : ℕ) (given : List Entry) (lines : List ProofLine)
         (items : List Item) → AreNames given → AreLinked given lines → AreWithin file v first given lines items

@@ -1,5 +1,5 @@
-//! How the lines of a derivation that `prove` finds stand: their names differ, each names lines before it, and its items
-//! have a graph.
+//! How the lines of a derivation that `prove` finds stand: their names differ, each names lines before it, and its
+//! items have a graph.
 #![tactic(auto)]
 
 mod laws;

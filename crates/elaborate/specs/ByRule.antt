@@ -12,7 +12,8 @@ use Rattle.split_defs.specs.SplitRule.{IsSplitStep}
 use Rattle.clause_form.specs.Paths.{forms_of}
 use Rattle.elaborate.specs.declared.answer.Rule.{Rule}
 use Rattle.elaborate.specs.declared.answer.Rule.TheVariants.{Norm, Cover, Tautology, Resolution, Paramodulation}
-use Rattle.elaborate.specs.declared.answer.Rule.TheVariants.{EqFactor, Rewrite, Split, Skolem, Definition, Choice, Search, Sat}
+use Rattle.elaborate.specs.declared.answer.Rule.TheVariants.{EqFactor, Rewrite, Split, Skolem, Definition, Choice}
+use Rattle.elaborate.specs.declared.answer.Rule.TheVariants.{Search, Sat}
 
 -- With the symbols of the theory, and its formulas as those in which a new symbol occurs nowhere, the rule gives the
 -- line from some of the parents. A search and a decision are no rules of this kind.
@@ -46,7 +47,8 @@ rules = shape_rules ++ symbol_rules
 -- the rule is the first of the list that gives the line
 abbrev pub IsFirst : List Rule → Statements → List Parent → Form → Rule → Type 0
 IsFirst [] t parents line rule = ⊥
-IsFirst (r ∷ rs) t parents line rule = ((rule ≡ r) × Applies t parents line r) ⊎ ((Applies t parents line r → ⊥) × IsFirst rs t parents line rule)
+IsFirst (r ∷ rs) t parents line rule =
+    ((rule ≡ r) × Applies t parents line r) ⊎ ((Applies t parents line r → ⊥) × IsFirst rs t parents line rule)
 
 -- no rule of the list gives the line
 abbrev pub IsNone : List Rule → Statements → List Parent → Form → Type 0
@@ -71,7 +73,8 @@ GivesAlone t candidates line rule i = (c : Parent) × (slice_get candidates i �
 
 -- and from no candidate before it
 abbrev pub GivesFirst : Statements → List Parent → Form → Rule → ℕ → Type 0
-GivesFirst t candidates line rule i = GivesAlone t candidates line rule i × ((j : ℕ) → j < i → GivesAlone t candidates line rule j → ⊥)
+GivesFirst t candidates line rule i =
+    GivesAlone t candidates line rule i × ((j : ℕ) → j < i → GivesAlone t candidates line rule j → ⊥)
 
 -- the rule gives the line from no candidate alone
 abbrev pub GivesNowhere : Statements → List Parent → Form → Rule → Type 0
@@ -80,7 +83,9 @@ GivesNowhere t candidates line rule = (j : ℕ) → GivesAlone t candidates line
 -- the rule is the first of the list that gives the line from some candidate alone, and this is the first such candidate
 abbrev pub IsFirstAlone : List Rule → Statements → List Parent → Form → Rule → ℕ → Type 0
 IsFirstAlone [] t candidates line rule i = ⊥
-IsFirstAlone (r ∷ rs) t candidates line rule i = ((rule ≡ r) × GivesFirst t candidates line r i) ⊎ (GivesNowhere t candidates line r × IsFirstAlone rs t candidates line rule i)
+IsFirstAlone (r ∷ rs) t candidates line rule i =
+    ((rule ≡ r) × GivesFirst t candidates line r i)
+    ⊎ (GivesNowhere t candidates line r × IsFirstAlone rs t candidates line rule i)
 
 -- no rule of the list gives the line from a candidate alone
 abbrev pub IsNoneAlone : List Rule → Statements → List Parent → Form → Type 0

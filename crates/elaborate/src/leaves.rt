@@ -23,8 +23,8 @@ use tptp_base::{List, Memory};
 
 /// The first rule for leaves by which the line follows from one of the candidates, with entries that derive it from the
 /// first such candidate, which the line cites. Where there is none, a line that names given formulas is answered as a
-/// step from all candidates that no rule gives, with at most `limit` clauses in a search, and any other is left with the
-/// reason `Leaf`.
+/// step from all candidates that no rule gives, with at most `limit` clauses in a search, and any other is left with
+/// the reason `Leaf`.
 ///
 /// A leaf is a line that is taken from the problem. Its candidates are the given formulas of the name that it cites,
 /// or all of them where it cites none. There must be room for the functions of a search.

@@ -52,8 +52,8 @@ pub fn by_search(
     }
 }
 
-// The answer to a line of a step that is not wide and that a search leaves open for this reason. A propositional step is
-// decided, and the reason stays only where the parents do not entail the line.
+// The answer to a line of a step that is not wide and that a search leaves open for this reason. A propositional step
+// is decided, and the reason stays only where the parents do not entail the line.
 fn decided(
     alloc: Global,
     theory: &Theory,

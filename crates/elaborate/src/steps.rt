@@ -24,10 +24,10 @@ use tptp_base::{List, Memory};
 
 /// The first rule by which the line follows from some of the parents or, where there is none, `Search` or `Sat`, with
 /// entries that derive the line: they are legal in turn after the theory, and the last adds the line. They need no
-/// formula of the theory but the parents, which the line cites. By `Search` it follows part by part from the parents, or
-/// with new functions in place of a parent's existential variables, or by a refutation of the clauses of all the parents
-/// and of its negation. Where it is found in none of these ways, a propositional step is decided: by `Sat` the line is
-/// derived by a decision of those clauses. Else the reason says how the search ended, and that the step is not
+/// formula of the theory but the parents, which the line cites. By `Search` it follows part by part from the parents,
+/// or with new functions in place of a parent's existential variables, or by a refutation of the clauses of all the
+/// parents and of its negation. Where it is found in none of these ways, a propositional step is decided: by `Sat` the
+/// line is derived by a decision of those clauses. Else the reason says how the search ended, and that the step is not
 /// propositional or that the parents do not entail the line.
 ///
 /// The search makes at most `limit` clauses. There must be room for its functions.

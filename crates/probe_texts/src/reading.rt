@@ -49,8 +49,9 @@ pub trait Reading {
         ensures only { (items : List Item) → SpellsWithin tokens.now.style faults.max_nesting items tokens.now.items →
             answers.IsRead items result }
         // What is spelled with tokens that are nested deeper is refused for that, unless memory runs out.
-        ensures deep { (items : List Item) (us over : NestedTokens) → IsFile tokens.now.style items tokens.now.items us →
-            FirstOver faults.max_nesting us over → answers.IsRefusedAsDeep result }
+        ensures deep { (items : List Item) (us over : NestedTokens) →
+            IsFile tokens.now.style items tokens.now.items us → FirstOver faults.max_nesting us over →
+            answers.IsRefusedAsDeep result }
         // The tokens spell at most one list of items.
         ensures one { (first second : List Item) → Spells tokens.now.style first tokens.now.items →
             Spells tokens.now.style second tokens.now.items → first ≡ second };

@@ -15,7 +15,8 @@ use tptp_base::{List, Memory};
 
 /// The answer of a call on the step to the last formula from the others:
 ///
-/// - `input`: the conjunction of its clauses, closed. Their new symbols are in turn those that are new in what is wanted
+/// - `input`: the conjunction of its clauses, closed. Their new symbols are in turn those that are new in what is
+/// wanted
 /// - `functions`: its new functions, with the numbers of their arguments' sorts and of that of the result
 /// - otherwise that it is not wide
 ///

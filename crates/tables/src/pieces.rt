@@ -4,8 +4,8 @@ use lexer_pieces::Lexer;
 use std::alloc::Global;
 use tptp_lexer::{LexFault, Style};
 
-/// The tokens of a text that is fed in pieces of so many bytes, or the fault. Where a piece is refused, it is told behind
-/// how many bytes.
+/// The tokens of a text that is fed in pieces of so many bytes, or the fault. Where a piece is refused, it is told
+/// behind how many bytes.
 pub fn fed(alloc: Global, text: &str, parts: &[&str]) -> Option<String> {
     let count: usize = parts.get(1)?.parse().ok()?;
     if count == 0 {

@@ -16,7 +16,7 @@ use Rattle.sort_check.specs.Texts.{denoted}
 use Rattle.derivation_check.specs.Cases.{Asked, claimed}
 use Rattle.derivation_check.specs.Checks.{Checks}
 use Rattle.derivation_text.specs.declared.derivation.Derivation.{Derivation}
-use Rattle.verifier.specs.Claim.{is_marked}
+use Rattle.verifier.specs.Marks.{is_marked}
 use Rattle.derivation_check.proofs.Ends.{spares}
 use Rattle.read_problems.specs.Given.{given_theory}
 use Rattle.tptp_run.specs.Contradictory.{RefutesAxioms}

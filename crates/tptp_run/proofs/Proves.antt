@@ -14,7 +14,7 @@ use Rattle.sort_check.specs.Given.{given_entries}
 use Rattle.sort_check.specs.Sorting.{AreGivenSorted, IsSentence}
 use Rattle.sort_check.specs.declared.line.GivenEntry.{GivenEntry}
 use Rattle.sort_check.specs.declared.line.Line.{Line}
-use Rattle.verifier.specs.Claim.{default_word}
+use Rattle.derivation_check.specs.Claim.{default_word}
 use Rattle.derivation_check.specs.Checks.{Checks}
 use Rattle.derivation_check.specs.declared.checking.Report.{Report}
 use Rattle.derivation_text.specs.Derivations.{IsDerivation}

@@ -11,7 +11,7 @@ use Rattle.fof_terms.specs.Vocabulary.{Vocabulary}
 use Rattle.kernel.specs.Statements.{Statements}
 use Rattle.sort_check.specs.Given.{given_entries}
 use Rattle.sort_check.specs.declared.line.Line.{Line}
-use Rattle.verifier.specs.Claim.{default_word}
+use Rattle.derivation_check.specs.Claim.{default_word}
 use Rattle.derivation_check.specs.Checks.{Checks}
 use Rattle.derivation_text.specs.Derivations.{IsDerivation}
 use Rattle.derivation_text.specs.declared.derivation.Derivation.{Derivation}

@@ -59,9 +59,9 @@ pub fn a_verified_log_checks()
         → ending ≡ refuted (length run.entries) }
 {}
 
-/// Of what `prove` prints with status 0, `verify` may say that all is verified: in a store that has that text in a file of
-/// any name, and in which the same problem resolves alike, `verify` of the problem and that file, with the same limit, may
-/// end with status 0. And there are legal entries that lead from what the problem gives to falsehood.
+/// Of what `prove` prints with status 0, `verify` may say that all is verified: in a store that has that text in a file
+/// of any name, and in which the same problem resolves alike, `verify` of the problem and that file, with the same
+/// limit, may end with status 0. And there are legal entries that lead from what the problem gives to falsehood.
 pub fn a_proof_is_verified()
     ensures verified { (files : StoreFiles) (words : List (List ℕ)) (request : Request) (problem : List ℕ)
         (ending : Ending)
@@ -108,8 +108,8 @@ pub fn format_has_one_ending()
 {}
 
 /// The command `verify` ends in one way, with one status and one text on out, but where it runs the lines: then two
-/// endings are of runs of one derivation over one theory. (Of such runs the one that goes by rules alone has one report,
-/// but for another line two runs may choose different functions, and two searches may keep different clauses.)
+/// endings are of runs of one derivation over one theory. (Of such runs the one that goes by rules alone has one
+/// report, but for another line two runs may choose different functions, and two searches may keep different clauses.)
 pub fn verify_has_one_ending()
     ensures { (files : StoreFiles) (root : Option (List ℕ)) (limit : ℕ) (problem derivation : List ℕ)
         (ending other : Ending) →

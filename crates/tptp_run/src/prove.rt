@@ -8,7 +8,7 @@ ghost use Rattle.sort_check.specs.Given.{given_entries};
 ghost use Rattle.sort_check.specs.Sorting.{AreDeclared, AreGivenSorted, IsSentence};
 ghost use Rattle.sort_check.specs.declared.line.Line.{Line as line};
 ghost use Rattle.problem_proofs.specs.declared.proved.Proved.TheVariants.{Proof};
-ghost use Rattle.verifier.specs.Claim.{default_word};
+ghost use Rattle.derivation_check.specs.Claim.{default_word};
 ghost use Rattle.read_problems.specs.Answer.{ending_of};
 ghost use Rattle.read_problems.specs.Ending.{IsAnswer};
 ghost use Rattle.read_problems.specs.OtherFaults.{SaysProblemFault};
@@ -33,8 +33,8 @@ use tptp_base::{Item, Memory, NullSink, Store, Text};
 use tptp_commands::{not_proved, over_size, proof_text, say_over};
 
 /// Reads a problem with all that it includes, searches among at most so many clauses for a proof of it, and prints the
-/// proof as a derivation. The text is checked before it is printed, as `verify` checks it, from what was read, and all of
-/// it is verified.
+/// proof as a derivation. The text is checked before it is printed, as `verify` checks it, from what was read, and all
+/// of it is verified.
 pub fn prove<S: Store>(
     alloc: Global,
     store: &mut S,
@@ -123,14 +123,15 @@ fn say_items(
     items: &[Item],
     limit: u32,
 ) -> Result<Answer, Halt>
-    requires proof { IsProofFrom problem.now limit source.old (text_of problem.now source.old.has_conjecture items.now) }
+    requires proof { IsProofFrom problem.now limit source.old
+        (text_of problem.now source.old.has_conjecture items.now) }
     requires budget { source.old.read ≤ TOTAL_SIZE }
     requires few { length source.old.names < 2 ^ 32 }
     requires same { source.old.theory.vocabulary ≡ source.old.signature }
     requires sentences { All (IsSentence source.old.signature) source.old.theory.formulas }
     requires declared { AreDeclared source.old.signature }
-    ensures said { IfAnswer result (λ answer. SaysProof problem.now limit source.old.read source.old.theory source.old.names
-        source.old.marks source.old.has_conjecture
+    ensures said { IfAnswer result (λ answer. SaysProof problem.now limit source.old.read source.old.theory
+        source.old.names source.old.marks source.old.has_conjecture
         (printed.proof_text problem.now (default_word source.old.has_conjecture) items.now) (ending_of answer)) }
     ensures status { IfAnswer result (λ answer. (answer.status ≡ 0) ⊎ (answer.status ≡ 7)) }
     ensures cause { IfStopped result (λ stop. HasCause stop ⊥ ⊥) }
@@ -166,8 +167,8 @@ fn say_text(
     requires same { source.old.theory.vocabulary ≡ source.old.signature }
     requires sentences { All (IsSentence source.old.signature) source.old.theory.formulas }
     requires declared { AreDeclared source.old.signature }
-    ensures said { IfAnswer result (λ answer. SaysProof problem.now limit source.old.read source.old.theory source.old.names
-        source.old.marks source.old.has_conjecture text (ending_of answer)) }
+    ensures said { IfAnswer result (λ answer. SaysProof problem.now limit source.old.read source.old.theory
+        source.old.names source.old.marks source.old.has_conjecture text (ending_of answer)) }
     ensures status { IfAnswer result (λ answer. (answer.status ≡ 0) ⊎ (answer.status ≡ 7)) }
     ensures cause { IfStopped result (λ stop. HasCause stop ⊥ ⊥) }
 {
@@ -192,8 +193,8 @@ fn say_checked(
     requires same { source.old.theory.vocabulary ≡ source.old.signature }
     requires sentences { All (IsSentence source.old.signature) source.old.theory.formulas }
     requires declared { AreDeclared source.old.signature }
-    ensures said { IfAnswer result (λ answer. SaysProof problem.now limit source.old.read source.old.theory source.old.names
-        source.old.marks source.old.has_conjecture text (ending_of answer)) }
+    ensures said { IfAnswer result (λ answer. SaysProof problem.now limit source.old.read source.old.theory
+        source.old.names source.old.marks source.old.has_conjecture text (ending_of answer)) }
     ensures status { IfAnswer result (λ answer. answer.status ≡ 0) }
     ensures cause { IfStopped result (λ stop. HasCause stop ⊥ ⊥) }
 {

@@ -29,8 +29,8 @@ pub(crate) enum NoReport {
     Memory,
 }
 
-/// The report of a check of a derivation from what the problem gives, which is made as `verify` makes it. Where the text
-/// is no derivation, or has a line for which there is no room, it gives up as it does without memory.
+/// The report of a check of a derivation from what the problem gives, which is made as `verify` makes it. Where the
+/// text is no derivation, or has a line for which there is no room, it gives up as it does without memory.
 pub(crate) fn report_on<L: Sink>(
     alloc: Global,
     log: &mut L,

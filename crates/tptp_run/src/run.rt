@@ -24,13 +24,20 @@ use tptp_base::{Sink, SinkFault, Store, Text, put_all};
 use tptp_commands::{Job, check, format, model, parse, read_words};
 
 /// What is printed where the words have no form of a command.
-pub const USAGE: &str =
-    "usage: tptp [--root D] [--limit N] COMMAND\n  parse FILE\n  format FILE\n  verify PROBLEM DERIVATION [LOG]\n  check PROBLEM LOG\n  make N\n  prove PROBLEM\n  model PROBLEM MODEL\n";
+pub const USAGE: &str = "usage: tptp [--root D] [--limit N] COMMAND\n  \
+    parse FILE\n  \
+    format FILE\n  \
+    verify PROBLEM DERIVATION [LOG]\n  \
+    check PROBLEM LOG\n  \
+    make N\n  \
+    prove PROBLEM\n  \
+    model PROBLEM MODEL\n";
 
 /// Runs the command that the words ask for, and answers its status: 0 where it succeeded, 1 where the derivation is not
 /// verified or no proof is found, 2 where the words ask for nothing, 3 where a file is missing or a text is faulty, 4
-/// where the store failed, 5 where a sink failed, 6 where memory is wanting, 7 where a limit is passed, or at a line for
-/// which the symbols leave no room. All that it reads comes from the store, and all that it writes goes to the two sinks.
+/// where the store failed, 5 where a sink failed, 6 where memory is wanting, 7 where a limit is passed, or at a line
+/// for which the symbols leave no room. All that it reads comes from the store, and all that it writes goes to the two
+/// sinks.
 pub fn run_tptp<S: Store, O: Sink, L: Sink>(
     alloc: Global,
     words: &[String],

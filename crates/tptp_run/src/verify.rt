@@ -29,8 +29,8 @@ use tptp_base::{FILE_SIZE, LimitName, Sink, Store};
 use tptp_commands::read_derived;
 use verifier::RunFault;
 
-/// Checks a derivation against a problem, with all that it includes, both read from the store, and writes the log. A search
-/// for a line keeps so many clauses at most.
+/// Checks a derivation against a problem, with all that it includes, both read from the store, and writes the log. A
+/// search for a line keeps so many clauses at most.
 pub fn verify<S: Store, L: Sink>(
     alloc: Global,
     store: &mut S,

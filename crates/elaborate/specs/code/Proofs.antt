@@ -36,10 +36,12 @@ rule_named (variant.Paramodulation a b i place j flipped images) = Paramodulatio
 rule_named (variant.EqFactor a i first_flipped j second_flipped images) = EqFactor
 rule_named (variant.Rewrite a b target flipped by_images images) = Rewrite
 
--- the first of the rules by names and new symbols that gives the line, with entries that derive it, or that there is none
+-- the first of the rules by names and new symbols that gives the line, with entries that derive it, or that there is
+-- none
 abbrev pub IsDerived : Statements → List Parent → Form → Option Derived → Type 0
 IsDerived t parents line None = IsNone symbol_rules t parents line
-IsDerived t parents line (Some derived) = IsFirst symbol_rules t parents line derived.rule × IsDerivedFrom t (numbers_of parents) derived.entries line
+IsDerived t parents line (Some derived) =
+    IsFirst symbol_rules t parents line derived.rule × IsDerivedFrom t (numbers_of parents) derived.entries line
 
 -- `cover` gives the line, and the proof shows it, or it does not give the line
 abbrev pub IsByCover : Vocabulary → List Parent → Form → Option Proof → Type 0
@@ -52,7 +54,8 @@ CoversAlone w candidates line i = (c : Parent) × (slice_get candidates i ≡ So
 
 -- and from no candidate before it
 abbrev pub CoversFirst : Vocabulary → List Parent → Form → ℕ → Type 0
-CoversFirst w candidates line i = CoversAlone w candidates line i × ((j : ℕ) → j < i → CoversAlone w candidates line j → ⊥)
+CoversFirst w candidates line i =
+    CoversAlone w candidates line i × ((j : ℕ) → j < i → CoversAlone w candidates line j → ⊥)
 
 -- it does from no candidate alone
 abbrev pub CoversNowhere : Vocabulary → List Parent → Form → Type 0
@@ -61,7 +64,8 @@ CoversNowhere w candidates line = (j : ℕ) → CoversAlone w candidates line j 
 -- `cover` gives the line from the candidate at this place alone, and the part shows it from that, or it does not
 abbrev pub IsCoverAlone : Vocabulary → List Parent → Form → ℕ → Option Proof → Type 0
 IsCoverAlone w candidates line i None = CoversAlone w candidates line i → ⊥
-IsCoverAlone w candidates line i (Some p) = (c : Parent) × (slice_get candidates i ≡ Some c) × Gives w (c ∷ []) line cover × ShowsLine w (c ∷ []) line p
+IsCoverAlone w candidates line i (Some p) =
+    (c : Parent) × (slice_get candidates i ≡ Some c) × Gives w (c ∷ []) line cover × ShowsLine w (c ∷ []) line p
 
 -- `cover` gives the line from the candidate of this number alone and from none before it, and the part shows it from
 -- that
@@ -86,13 +90,17 @@ IsByEntries t cites line holds (Some entries) = holds × IsDerivedFrom t cites e
 -- entries that derive the line part by part or with new functions, or it does not follow part by part
 abbrev pub IsFoundAtOnce : Statements → List Parent → Form → Option (List Entry) → Type 0
 IsFoundAtOnce t parents line None = ByParts t.vocabulary parents line → ⊥
-IsFoundAtOnce t parents line (Some entries) = (ByParts t.vocabulary parents line × IsDerivedFrom t (numbers_of parents) entries line) ⊎ IsClausifiedBy t parents line entries
+IsFoundAtOnce t parents line (Some entries) =
+    (ByParts t.vocabulary parents line × IsDerivedFrom t (numbers_of parents) entries line)
+    ⊎ IsClausifiedBy t parents line entries
 
 -- what is answered of a line that a search leaves open for this reason: it is decided, or stays open
 abbrev pub IsOpenAnswer : Statements → List Parent → Form → Reason → StepAnswer → Type 0
-IsOpenAnswer t parents line reason (Accepted rule cites entries) = (rule ≡ Sat) × (cites ≡ numbers_of parents) × IsEntailed t parents line entries
+IsOpenAnswer t parents line reason (Accepted rule cites entries) =
+    (rule ≡ Sat) × (cites ≡ numbers_of parents) × IsEntailed t parents line entries
 IsOpenAnswer t parents line reason (Unverified r) = (r ≡ reason) × IsNotEntailed parents line
 
 -- what is answered to a leaf that no rule gives
 abbrev pub IsLeftLeaf : Statements → List Parent → Bool → Form → ℕ → StepAnswer → Type 0
-IsLeftLeaf t candidates cited line limit answer = ((cited ≡ true) × IsSearchAnswer t candidates line limit answer) ⊎ ((cited ≡ false) × (answer ≡ Unverified Leaf))
+IsLeftLeaf t candidates cited line limit answer =
+    ((cited ≡ true) × IsSearchAnswer t candidates line limit answer) ⊎ ((cited ≡ false) × (answer ≡ Unverified Leaf))

@@ -5,7 +5,7 @@ use Rattle.tptp_base.specs.declared.name.Name.{Name}
 use Rattle.fof_terms.specs.Vocabulary.{Vocabulary}
 use Rattle.kernel.specs.Statements.{Statements}
 use Rattle.sort_check.specs.declared.line.GivenEntry.{GivenEntry}
-use Rattle.verifier.specs.Claim.{default_word}
+use Rattle.derivation_check.specs.Claim.{default_word}
 use Rattle.derivation_check.specs.Checks.{Stops}
 use Rattle.derivation_text.specs.Derivations.{IsDerivation, IsDerivationFault}
 use Rattle.derivation_text.specs.Wants.{IsWant}
